@@ -25,7 +25,7 @@ acts-append (Some act ∷ xs) ys = ap (λ (z : List Act). act ∷ z) (acts-appen
 acts-append (None ∷ xs) ys = acts-append xs ys
 
 pushes-append : {X : Type 0} (xs ys : List (Option X)) → pushes_in (xs ++ ys) ≡ pushes_in xs + pushes_in ys
-pushes-append [] ys = refl
+pushes-append [] ys = omega arith
 pushes-append (Some x ∷ xs) ys = pushes-append xs ys
 pushes-append (None ∷ xs) ys = let more = pushes-append xs ys in omega (arith, more)
 
