@@ -32,4 +32,5 @@ returns g c =
       words = c.args.words;
       story = record { began = tree.began; opening = c.args.lists.opening; history = c.new-history.ensures.entries i };
       spare = none i;
+      refusals = 0;
     }
