@@ -6,6 +6,7 @@
 //! | Room | Holds |
 //! |---|---|
 //! | `way`, `folder` | the one way down to a name: [`way::Way`], and [`folder::Folder`] |
+//! | `trail` | the folders of the last way, which stay open |
 //! | `mounts` | the devices that no way leads onto |
 //! | `sight` | what stands at a name, and which file it is |
 //! | `numbers` | the numbers by which files and paths are told apart |
@@ -24,4 +25,5 @@ pub mod folder;
 mod mounts;
 pub mod numbers;
 pub mod sight;
+mod trail;
 pub mod way;

@@ -185,7 +185,7 @@ impl<R: Waiter> FilesBelow<R> {
         if place.name.is_empty() {
             return Err(TreeError::NotFile);
         }
-        match self.way.sight(&place) {
+        match place.sight() {
             Ok(_) => return Err(TreeError::NotFile),
             Err(error) if error.kind() == ErrorKind::NotFound && place.is_direct() => {}
             Err(error) if error.kind() == ErrorKind::NotADirectory => {
@@ -255,7 +255,7 @@ impl<R: Waiter> FilesBelow<R> {
         if place.name.is_empty() {
             return Ok(None);
         }
-        let sight = match self.way.sight(place) {
+        let sight = match place.sight() {
             Ok(sight) => sight,
             // A place that isn't direct may be outside: then nothing is told of it.
             Err(error) if is_missing(&error) || !place.is_direct() => return Ok(None),
