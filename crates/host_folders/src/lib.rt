@@ -14,7 +14,7 @@
 //! | `error` | why a call gave nothing, and why no tree was opened |
 //!
 //! ```text
-//! let mut way = Way::open(system, alloc, "/srv/files")?;
+//! let mut way = Way::open(system, alloc, "/srv/files", 16)?;
 //! way.to(&path)?;                             // Some(place), in a folder below /srv/files
 //! ```
 #![tactic(auto)]

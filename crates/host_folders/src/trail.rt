@@ -9,9 +9,6 @@ use crate::sight::{Identity, Kind, sight_at};
 use std::alloc::{AllocError, Global};
 use std::sync::Arc;
 
-/// The most folders that are kept: so many descriptors stay open.
-const MOST: usize = 16;
-
 /// A folder of the way.
 #[derive(Drop)]
 struct Step {
@@ -26,14 +23,17 @@ struct Step {
 pub(crate) struct Trail {
     alloc: Global,
     steps: Vec<Step>,
+    /// How many there may be.
+    most: usize,
 }
 
 impl Trail {
-    /// No folder yet.
-    pub(crate) fn new(alloc: Global) -> Trail {
+    /// No folder yet, and room for so many.
+    pub(crate) fn new(alloc: Global, most: usize) -> Trail {
         Trail {
             alloc,
             steps: Vec::new(alloc),
+            most,
         }
     }
 
@@ -63,7 +63,7 @@ impl Trail {
         let folder = Arc::new(self.alloc, folder)?;
         if let Ok(sight) = shown
             && self.steps.len() == at
-            && at < MOST
+            && at < self.most
             && (at == 0 || !name.contains('/'))
         {
             let name = String::from_str(self.alloc, name)?;

@@ -67,8 +67,14 @@ enum Part {
 }
 
 impl Way {
-    /// The way from a root, which may be reached by links.
-    pub fn open(system: HostRuntime, alloc: Global, root: &str) -> Result<Way, OpenError> {
+    /// The way from a root, which may be reached by links, and of which so many folders are
+    /// kept open.
+    pub fn open(
+        system: HostRuntime,
+        alloc: Global,
+        root: &str,
+        kept: usize,
+    ) -> Result<Way, OpenError> {
         let mut path = String::from_str(alloc, root.trim_end_matches('/'))?;
         path.push('/')?;
         let mut way = Way {
@@ -76,7 +82,7 @@ impl Way {
             root: path,
             kernels_own: kernels_own(&system, alloc)?,
             link: String::with_capacity(alloc, MOST_BYTES)?,
-            trail: Trail::new(alloc),
+            trail: Trail::new(alloc, kept),
         };
         way.try_root()?;
         Ok(way)

@@ -21,6 +21,11 @@ use std::io;
 use std::io::ErrorKind;
 use std::os::fd::AsRawFd;
 
+/// One in so many of what is kept open is a folder of the last way, while these are few.
+const FILES_A_FOLDER: usize = 8;
+
+const MOST_FOLDERS: usize = 16;
+
 /// What the system shows of a file.
 #[derive(Clone, Copy, PartialEq, Eq)]
 pub struct Attributes {
@@ -53,7 +58,8 @@ pub struct FilesBelow<R: Waiter> {
 }
 
 impl<R: Waiter> FilesBelow<R> {
-    /// The files below a folder, of which so many are kept open.
+    /// The files below a folder, of which so many are kept open, with the folders of the last
+    /// way.
     pub fn open(
         rt: R,
         system: HostRuntime,
@@ -68,10 +74,12 @@ impl<R: Waiter> FilesBelow<R> {
             Ok(numbers) => numbers,
             Err(error) => return Err(OpenError::System(error)),
         };
+        let folders = (kept / FILES_A_FOLDER).min(MOST_FOLDERS);
+        let kept = kept.saturating_sub(folders);
         Ok(FilesBelow {
             system,
             alloc,
-            way: Way::open(system, alloc, root)?,
+            way: Way::open(system, alloc, root, folders)?,
             opener: Opener::new(rt, system, alloc)?,
             numbers,
             kept: KeptFiles::new(alloc, kept)?,
