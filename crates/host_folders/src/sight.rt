@@ -29,6 +29,14 @@ pub enum Kind {
     Other,
 }
 
+/// Who may do what with it (inode(7)).
+#[derive(Clone, Copy, PartialEq, Eq)]
+pub(crate) struct Access {
+    owner: u32,
+    group: u32,
+    mode: u16,
+}
+
 /// What the system shows of what stands somewhere.
 #[derive(Clone, Copy, PartialEq, Eq)]
 pub struct Sight {
@@ -40,6 +48,8 @@ pub struct Sight {
     pub size: u64,
     /// When it changed last, in seconds.
     pub moment: u64,
+    /// Who may do what with it.
+    pub(crate) access: Access,
 }
 
 impl Sight {
@@ -60,6 +70,11 @@ impl Sight {
             },
             size: shown.stx_size,
             moment: u64::try_from(shown.stx_mtime.tv_sec).unwrap_or(0),
+            access: Access {
+                owner: shown.stx_uid,
+                group: shown.stx_gid,
+                mode: shown.stx_mode,
+            },
         }
     }
 

@@ -5,7 +5,7 @@
 //! would give, and a look tells that.
 
 use crate::folder::Folder;
-use crate::sight::{Identity, Kind, sight_at};
+use crate::sight::{Access, Identity, Kind, sight_at};
 use std::alloc::{AllocError, Global};
 use std::sync::Arc;
 
@@ -15,6 +15,7 @@ struct Step {
     /// The one name by which it is found in the folder ahead of it.
     name: String,
     identity: Identity,
+    access: Access,
     folder: Arc<Folder>,
 }
 
@@ -70,6 +71,7 @@ impl Trail {
             self.steps.push(Step {
                 name,
                 identity: sight.identity,
+                access: sight.access,
                 folder: Arc::try_clone(&folder)?,
             })?;
         }
@@ -78,10 +80,14 @@ impl Trail {
 }
 
 impl Step {
-    /// Says whether it is what its name leads to in a folder now.
+    /// Says whether it is what its name leads to in a folder now, and may be opened as it was.
     fn stands_in(&self, above: i32) -> bool {
         match sight_at(above, self.name.as_str()) {
-            Ok(sight) => sight.kind == Kind::Folder && sight.identity == self.identity,
+            Ok(sight) => {
+                sight.kind == Kind::Folder
+                    && sight.identity == self.identity
+                    && sight.access == self.access
+            }
             Err(_) => false,
         }
     }
