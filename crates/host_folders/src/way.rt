@@ -10,7 +10,6 @@ use portal_base::list::List;
 use portal_base::names::HostPath;
 use std::alloc::{AllocError, Global};
 use std::fs::File;
-use std::io::ErrorKind;
 use std::os::fd::AsRawFd;
 use std::sync::Arc;
 use std::{fs, io};
