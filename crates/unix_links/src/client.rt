@@ -17,12 +17,13 @@ use std::sync::{Arc, Mutex, MutexGuard};
 /// How many bytes of answers are kept at most. An answer that is as long is never copied.
 const MOST_KEPT: usize = 65_536;
 
-/// A piece of as many bytes may be the first part of what a client sends at once, since the system
-/// hands on what is long in parts.
-const LONG_PIECE: usize = 16_384;
+/// The system hands on what a client sends at once in parts of so many bytes: 32 KiB in pages of
+/// their own, and what has room in one page beside its header. Behind a last part of this length
+/// more is under way.
+const PART: usize = 36_544;
 
-/// How often a read looks at most for what stands behind a long piece.
-const LOOKS_BEHIND: u32 = 24;
+/// How often a read looks at most for what stands behind such parts.
+const LOOKS_BEHIND: u32 = 64;
 
 /// How long the writes to a client that doesn't read may wait once the bell rings, in
 /// milliseconds.
@@ -161,8 +162,8 @@ impl<'a> ClientReader<'a> {
         Err(io::Error::from(ErrorKind::WouldBlock))
     }
 
-    /// Reads what stands right behind the first bytes of the buffer, of which so many came: how
-    /// many there are then. What is met instead is told by the next read.
+    /// Reads the parts behind the first bytes of the buffer, of which so many came: how many there
+    /// are then. What is met instead is told by the next read.
     fn read_behind(&mut self, buffer: &mut [u8], came: usize) -> usize
         ensures { result ≤ length buffer.new }
     {
@@ -171,7 +172,7 @@ impl<'a> ClientReader<'a> {
             let Some(room) = buffer.get_mut(held..) else {
                 break;
             };
-            if room.is_empty() {
+            if held % PART != 0 || room.is_empty() {
                 break;
             }
             match self.read_now(room) {
@@ -195,9 +196,9 @@ impl<'a> Read for ClientReader<'a> {
         }
         taken(&*self.answers)?.flush()?;
         match self.read_next(buffer) {
-            // Its parts are read together: an item that comes in parts has to be put together by a
-            // copy, which costs more than to look for them.
-            Ok(came) if came >= LONG_PIECE => Ok(self.read_behind(buffer, came)),
+            // An item that comes in parts has to be put together by a copy, which costs more than to
+            // look for them.
+            Ok(came) if came >= PART => Ok(self.read_behind(buffer, came)),
             answer => answer,
         }
     }
