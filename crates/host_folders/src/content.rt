@@ -73,7 +73,7 @@ pub fn write(file: &File, offset: u64, content: &[u8], now: u64) -> Result<(), T
 }
 
 /// The length of a file. A look at it would tell that too; but to a file whose moment was looked
-/// at the system gives a finer one at each change, and writes that to the disk.
+/// at the system gives a finer one at each change, and has to write that to the disk.
 fn length_of(file: &File) -> Result<u64, TreeError> {
     let mut file = file;
     match file.seek(SeekFrom::End(0)) {

@@ -6,7 +6,6 @@
 //! | Room | Holds |
 //! |---|---|
 //! | `way`, `folder` | the one way down to a name: [`way::Way`], and [`folder::Folder`] |
-//! | `trail` | the folders of the last way, which stay open |
 //! | `mounts` | the devices that no way leads onto |
 //! | `sight` | what stands at a name, and which file it is |
 //! | `numbers` | the numbers by which files and paths are told apart |
@@ -14,7 +13,7 @@
 //! | `error` | why a call gave nothing, and why no tree was opened |
 //!
 //! ```text
-//! let mut way = Way::open(system, alloc, "/srv/files", 16)?;
+//! let mut way = Way::open(system, alloc, "/srv/files")?;
 //! way.to(&path)?;                             // Some(place), in a folder below /srv/files
 //! ```
 #![tactic(auto)]
@@ -25,5 +24,4 @@ pub mod folder;
 mod mounts;
 pub mod numbers;
 pub mod sight;
-mod trail;
 pub mod way;

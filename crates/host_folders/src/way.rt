@@ -3,15 +3,15 @@
 use crate::error::{OpenError, TreeError, is_missing, is_refused};
 use crate::folder::Folder;
 use crate::mounts::kernels_own;
-use crate::sight::{Sight, seen, sight_at};
-use crate::trail::Trail;
+use crate::sight::{Kind, Sight, seen};
 use libc::PATH_MAX;
 use portal_base::list::List;
 use portal_base::names::HostPath;
 use std::alloc::{AllocError, Global};
 use std::fs::File;
+use std::io::ErrorKind;
 use std::os::fd::AsRawFd;
-use std::sync::Arc;
+use std::os::unix::fs::MetadataExt;
 use std::{fs, io};
 
 /// The most bytes of a link in `/proc` to what is open by a number, or to a name in it.
@@ -27,15 +27,13 @@ pub struct Way {
     kernels_own: List<u64>,
     /// A link in `/proc`. It has the room for each from the start.
     link: String,
-    /// The folders of the last way.
-    trail: Trail,
 }
 
 /// Where a way ended: in a folder that is open, at a name in it.
 #[derive(Drop)]
 pub struct Place<'a> {
     /// The folder. It is the one that the path means, below the root.
-    pub folder: Arc<Folder>,
+    pub folder: Folder,
     /// The rest of the path. It is one part, but where folders on the way can't be opened
     /// for reading: then it is they, and the last part behind them.
     pub name: &'a str,
@@ -46,34 +44,11 @@ impl<'a> Place<'a> {
     pub fn is_direct(&self) -> bool {
         !self.name.contains('/')
     }
-
-    /// What stands there; a link at its end isn't followed. Where it isn't direct, another may
-    /// have led elsewhere.
-    pub fn sight(&self) -> io::Result<Sight> {
-        sight_at(self.folder.number(), self.name)
-    }
-}
-
-/// Where a part of a way leads.
-#[derive(Drop)]
-enum Part {
-    /// To a folder, which is the next above.
-    Folder(Arc<Folder>),
-    /// To one that may be searched and not read: the next is opened by both names.
-    Closed,
-    /// Nowhere.
-    Nowhere,
 }
 
 impl Way {
-    /// The way from a root, which may be reached by links, and of which so many folders are
-    /// kept open.
-    pub fn open(
-        system: HostRuntime,
-        alloc: Global,
-        root: &str,
-        kept: usize,
-    ) -> Result<Way, OpenError> {
+    /// The way from a root, which may be reached by links.
+    pub fn open(system: HostRuntime, alloc: Global, root: &str) -> Result<Way, OpenError> {
         let mut path = String::from_str(alloc, root.trim_end_matches('/'))?;
         path.push('/')?;
         let mut way = Way {
@@ -81,7 +56,6 @@ impl Way {
             root: path,
             kernels_own: kernels_own(&system, alloc)?,
             link: String::with_capacity(alloc, MOST_BYTES)?,
-            trail: Trail::new(alloc, kept),
         };
         way.try_root()?;
         Ok(way)
@@ -106,21 +80,29 @@ impl Way {
     /// tree always has one.
     pub fn to<'a>(&mut self, path: &'a HostPath) -> Result<Option<Place<'a>>, TreeError> {
         let text = text_of(path)?;
-        let mut folder = self.root_folder()?;
+        let Ok(mut folder) = Folder::open(self.root.as_str()) else {
+            return Err(TreeError::System);
+        };
         let mut from = 1;
-        let mut depth = 1usize;
         for (end, _) in text.char_indices().filter(|(at, c)| *at > 0 && *c == '/') {
-            let (Some(name), Some(meant)) = (text.get(from..end), text.get(..end)) else {
+            let Some(name) = text.get(from..end) else {
                 return Err(TreeError::System);
             };
-            match self.part(depth, &folder, name, meant)? {
-                Part::Folder(below) => {
+            match folder.below(name) {
+                Ok(below) => {
+                    let Some(meant) = text.get(..end) else {
+                        return Err(TreeError::System);
+                    };
+                    if !self.is_step(&below, name, meant)? {
+                        return Ok(None);
+                    }
                     folder = below;
                     from = end.saturating_add(1);
-                    depth = depth.saturating_add(1);
                 }
-                Part::Closed => {}
-                Part::Nowhere => return Ok(None),
+                // It may be searched and not read: the next is opened by both names.
+                Err(error) if is_refused(&error) => {}
+                Err(error) if is_missing(&error) => return Ok(None),
+                Err(_) => return Err(TreeError::System),
             }
         }
         match text.get(from..) {
@@ -129,51 +111,40 @@ impl Way {
         }
     }
 
-    /// The root folder, as its path leads to it now.
-    fn root_folder(&mut self) -> Result<Arc<Folder>, TreeError> {
-        let root = self.root.as_str();
-        if let Some(folder) = self.trail.again(0, libc::AT_FDCWD, root) {
-            return Ok(folder);
-        }
-        match Folder::open(root) {
-            Ok(folder) => Ok(self.trail.keep(0, root, folder)?),
-            Err(_) => Err(TreeError::System),
-        }
-    }
-
-    /// Where a name in a folder leads, as the part of the way at this place, which leads to
-    /// this path.
-    fn part(
-        &mut self,
-        at: usize,
-        above: &Folder,
-        name: &str,
-        meant: &str,
-    ) -> Result<Part, TreeError> {
-        if let Some(folder) = self.trail.again(at, above.number(), name) {
-            return Ok(Part::Folder(folder));
-        }
-        let folder = match above.below(name) {
-            Ok(folder) => folder,
-            Err(error) if is_refused(&error) => return Ok(Part::Closed),
-            Err(error) if is_missing(&error) => return Ok(Part::Nowhere),
-            Err(_) => return Err(TreeError::System),
-        };
-        if !self.is_step(&folder, name, meant)? {
-            return Ok(Part::Nowhere);
-        }
-        Ok(Part::Folder(self.trail.keep(at, name, folder)?))
-    }
-
     /// Says whether a folder that was opened by a name is a step of the way, which leads to
     /// this path.
     fn is_step(&mut self, folder: &Folder, name: &str, meant: &str) -> Result<bool, TreeError> {
-        match sight_at(folder.number(), "") {
-            Ok(sight) if self.is_kernels_own(sight.identity.device) => return Ok(false),
+        self.link_to(folder.number(), "")?;
+        match fs::metadata(&self.system, self.link.as_str()) {
+            Ok(metadata) if self.is_kernels_own(metadata.dev()) => return Ok(false),
             Ok(_) => {}
             Err(_) => return Err(TreeError::System),
         }
         Ok(!name.contains('/') || self.is_at(folder.number(), meant)?)
+    }
+
+    /// What stands at a place; a link at its end isn't followed. Where the place isn't
+    /// direct, another may have led elsewhere.
+    pub fn sight(&mut self, place: &Place<'_>) -> io::Result<Sight> {
+        if self.link_to(place.folder.number(), place.name).is_err() {
+            return Err(io::Error::from(ErrorKind::OutOfMemory));
+        }
+        Ok(Sight::of(&fs::symlink_metadata(&self.system, self.link.as_str())?))
+    }
+
+    /// The regular file that stands in the root itself at a path, by one look: no folder is on
+    /// the way that a link may have taken the place of. Where it is none, only the way tells why.
+    pub fn file_in_root(&mut self, path: &HostPath) -> Option<Sight> {
+        let name = text_of(path).ok()?.strip_prefix('/')?;
+        if name.is_empty() || name.contains('/') {
+            return None;
+        }
+        self.link.clear();
+        self.link.push_str(self.root.as_str()).ok()?;
+        self.link.push_str(name).ok()?;
+        let sight = Sight::of(&fs::symlink_metadata(&self.system, self.link.as_str()).ok()?);
+        let is_file = sight.kind == Kind::File && !self.is_kernels_own(sight.identity.device);
+        is_file.then_some(sight)
     }
 
     /// Says whether a device is one of the kernel's own.

@@ -21,11 +21,6 @@ use std::io;
 use std::io::ErrorKind;
 use std::os::fd::AsRawFd;
 
-/// One in so many of what is kept open is a folder of the last way, while these are few.
-const FILES_A_FOLDER: usize = 8;
-
-const MOST_FOLDERS: usize = 16;
-
 /// What the system shows of a file.
 #[derive(Clone, Copy, PartialEq, Eq)]
 pub struct Attributes {
@@ -58,8 +53,7 @@ pub struct FilesBelow<R: Waiter> {
 }
 
 impl<R: Waiter> FilesBelow<R> {
-    /// The files below a folder, of which so many are kept open, with the folders of the last
-    /// way.
+    /// The files below a folder, of which so many are kept open.
     pub fn open(
         rt: R,
         system: HostRuntime,
@@ -74,12 +68,10 @@ impl<R: Waiter> FilesBelow<R> {
             Ok(numbers) => numbers,
             Err(error) => return Err(OpenError::System(error)),
         };
-        let folders = (kept / FILES_A_FOLDER).min(MOST_FOLDERS);
-        let kept = kept.saturating_sub(folders);
         Ok(FilesBelow {
             system,
             alloc,
-            way: Way::open(system, alloc, root, folders)?,
+            way: Way::open(system, alloc, root)?,
             opener: Opener::new(rt, system, alloc)?,
             numbers,
             kept: KeptFiles::new(alloc, kept)?,
@@ -90,16 +82,32 @@ impl<R: Waiter> FilesBelow<R> {
 
     /// What stands at a path.
     pub fn look(&mut self, path: &HostPath) -> Result<Look, TreeError> {
+        if let Some(sight) = self.kept_in_root(path) {
+            return Ok(self.look_of(&sight));
+        }
         let Some(place) = self.way.to(path)? else {
             return Ok(Look::Missing);
         };
         if place.name.is_empty() {
             return Ok(Look::Folder);
         }
-        let Some(sight) = self.shown(path, &place)? else {
-            return Ok(Look::Missing);
-        };
-        Ok(match sight.kind {
+        match self.shown(path, &place)? {
+            Some(sight) => Ok(self.look_of(&sight)),
+            None => Ok(Look::Missing),
+        }
+    }
+
+    /// The file in the root itself at a path, where it is kept open: a look shows it as the way
+    /// to it would.
+    fn kept_in_root(&mut self, path: &HostPath) -> Option<Sight> {
+        let sight = self.way.file_in_root(path)?;
+        let generation = self.numbers.generation(&sight.identity);
+        self.kept.looks_at(generation).then_some(sight)
+    }
+
+    /// What is told of what the system shows.
+    fn look_of(&self, sight: &Sight) -> Look {
+        match sight.kind {
             Kind::Folder => Look::Folder,
             Kind::Other => Look::Missing,
             Kind::File => Look::File {
@@ -107,7 +115,7 @@ impl<R: Waiter> FilesBelow<R> {
                 size: sight.size,
                 moment: sight.moment,
             },
-        })
+        }
     }
 
     /// What the system shows of a file.
@@ -193,7 +201,7 @@ impl<R: Waiter> FilesBelow<R> {
         if place.name.is_empty() {
             return Err(TreeError::NotFile);
         }
-        match place.sight() {
+        match self.way.sight(&place) {
             Ok(_) => return Err(TreeError::NotFile),
             Err(error) if error.kind() == ErrorKind::NotFound && place.is_direct() => {}
             Err(error) if error.kind() == ErrorKind::NotADirectory => {
@@ -263,7 +271,7 @@ impl<R: Waiter> FilesBelow<R> {
         if place.name.is_empty() {
             return Ok(None);
         }
-        let sight = match place.sight() {
+        let sight = match self.way.sight(place) {
             Ok(sight) => sight,
             // A place that isn't direct may be outside: then nothing is told of it.
             Err(error) if is_missing(&error) || !place.is_direct() => return Ok(None),
