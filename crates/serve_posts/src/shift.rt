@@ -101,8 +101,17 @@ fn any_left(ends: &[WorkEnd]) -> bool
     ends.iter().any(|end| is_left(*end))
 }
 
-/// Begins a new history behind so many turns, where that isn't refused, and tells the gate.
+/// Begins a new history behind so many turns, where that isn't refused, tells the gate, and
+/// takes memory ahead.
 fn renewed<S: Renews + Drop, G: Gate>(alloc: Global, story: S, gate: &G, turns: u64) -> S
+    ensures { Renewal (S.opening story) (S.entries story) (S.opening result) (S.entries result) }
+{
+    let story = begun_anew(alloc, story, gate, turns);
+    kept_ahead(alloc, story)
+}
+
+/// Begins a new history behind so many turns, where that isn't refused, and tells the gate.
+fn begun_anew<S: Renews + Drop, G: Gate>(alloc: Global, story: S, gate: &G, turns: u64) -> S
     ensures { Renewal (S.opening story) (S.entries story) (S.opening result) (S.entries result) }
 {
     let mut story = story;
@@ -110,7 +119,7 @@ fn renewed<S: Renews + Drop, G: Gate>(alloc: Global, story: S, gate: &G, turns: 
     if story.renew(alloc).is_ok() {
         gate.renewed(turns);
     }
-    kept_ahead(alloc, story)
+    story
 }
 
 /// Takes memory ahead, as far as there is any; the history is the same.
