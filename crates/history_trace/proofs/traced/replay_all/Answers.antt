@@ -1,4 +1,4 @@
-use Rattle.std.proofs.Common.{List, ◌++◌, map, take, ap, sym, ◌∙◌}
+use Rattle.std.proofs.Common.{◌<◌, List, ◌++◌, length, map, take, ap, sym, ◌∙◌, arith}
 use Rattle.app_trace.specs.Told.{item_told}
 use Rattle.app_world.specs.TraceItem.{TraceItem}
 use Rattle.app_world.specs.World.{items_of}
@@ -17,7 +17,9 @@ loop-place-init c = record {
 }
 
 pub unreachable-requires : goal.unreachable-requires
-unreachable-requires c = some-there c.args.history.now.entries c.loop-place.place c.loop-place-test.true c.in-None.ensures
+unreachable-requires c =
+    let more : c.loop-place.place < length c.args.history.now.entries = omega (arith, c.len-place-end.ensures, c.loop-place-test.true) in
+    some-there c.args.history.now.entries c.loop-place.place more c.in-None.ensures
 
 pub replay-requires-clause-lawful : goal.replay-requires-clause-lawful
 replay-requires-clause-lawful c =
