@@ -41,12 +41,12 @@ loop-place-preserved c =
     let o = c.args.opening.now in
     let at = c.loop-place.invariant.at in
     record {
-      at = at-next h i e there o c.loop-place.portal.story at c.replay.new.portal.story c.in_ok-replay.ensures.goes;
+      at = at-next h i e there o c.loop-place.portal.story at c.replay.new.portal.story c.in_ok-replay-in-Some.ensures.goes;
       files_are =
-          c.in_ok-replay.ensures.files
+          c.in_ok-replay-in-Some.ensures.files
           ∙ (ap (λ (s : State). (after s e).files) at.state ∙ ap (λ (s : State). s.files) (sym (run-next h i e there (opened o))));
       items_are =
-          c.in_ok-replay.ensures.items
+          c.in_ok-replay-in-Some.ensures.items
           ∙ (ap (λ (s : State). map item_told c.loop-place.told ++ items_of c.args.app.now s e) at.state
           ∙ (ap (λ (xs : List TraceItem). xs ++ items_of c.args.app.now (run (opened o) (take i h)) e) c.loop-place.invariant.items_are
           ∙ sym (items-next h i e there c.args.app.now (opened o))));
