@@ -3,3 +3,4 @@ pub mod Asking
 pub mod Alone
 pub mod FrontOut
 pub mod Steps
+pub mod Made

@@ -1,0 +1,133 @@
+//! The machine of a front.
+
+ghost use Rattle.std.specs.Prelude.{◌≡◌, [], Err, IfOk, OnErr, false, true};
+ghost use Rattle.front_core.specs.Fronts.{front_of};
+ghost use Rattle.front_core.specs.Steps.{AppsAreServed, Stands, Steps};
+ghost use Rattle.portal_steps.specs.Story.{state_now};
+
+use crate::front::{FrontInput, FrontOutput, FrontStep};
+use crate::inputs::{came, ended, failed, open, took, wake};
+use crate::links::Links;
+use host_tree::HostTree;
+use portal_base::limits::Settings;
+use portal_base::list::List;
+use portal_base::memory::WantOfMemory;
+use portal_base::outside::{Clock, Words};
+use portal_core::portal::Portal;
+use record_keeper::Keeper;
+use std::alloc::Global;
+use std::marker::Model;
+
+/// A portal and the links of its clients.
+///
+/// Contracts see the portal, what its clients are served by, the links by rising
+/// number, and whether memory was wanted. Until then each link goes on, and the
+/// portal has an open connection of its client at its number, and no others.
+#[derive(Drop)]
+pub struct FrontCore<T: HostTree, K: Keeper, C: Clock, W: Words> {
+    portal: Portal<T, K, C, W>,
+    settings: Settings,
+    links: Links,
+    is_over: bool,
+}
+
+impl<T: HostTree, K: Keeper, C: Clock, W: Words> Model for FrontCore<T, K, C, W> {
+    ghost use Rattle.std.specs.Prelude.{◌≡◌, false};
+    ghost use Rattle.dbus_types.specs.contracts.types.Value as e;
+    ghost use Rattle.front_core.specs.Fronts.{Agrees, FrontIs};
+    ghost use Rattle.front_core.specs.Made.{front_at};
+    ghost use Rattle.std.specs.Coded.{codes};
+
+    ghost Value = { FrontIs T K C W };
+
+    ghost coded = { Prim.hlevel (codes, e.the_row.coded, T.code, K.code, C.code, W.code) };
+
+    ghost view = { λ f. record {
+      portal = f.portal;
+      settings = f.settings;
+      table = f.links;
+      is_over = f.is_over;
+    } };
+
+    ghost invariant = { λ f. f.is_over ≡ false → Agrees (front_at f.portal f.links) };
+}
+
+impl<T: HostTree, K: Keeper, C: Clock, W: Words> FrontCore<T, K, C, W> {
+    /// A front of a portal on which no connection is open, without links.
+    pub fn new(alloc: Global, portal: Portal<T, K, C, W>, settings: Settings) -> Self
+        requires { (state_now portal.story).connections ≡ [] }
+        ensures { result
+            ≡ record { portal = portal; settings = settings; table = []; is_over = false } }
+    {
+        FrontCore {
+            portal,
+            settings,
+            links: Links::new(alloc),
+            is_over: false,
+        }
+    }
+
+    /// The portal again.
+    pub fn into_portal(self) -> Portal<T, K, C, W>
+        ensures { result ≡ self.portal }
+    {
+        self.portal
+    }
+
+    /// Takes an input in, and says what is given for it and whether a wake is due.
+    ///
+    /// An input on link 0, an `Opened` of a link that is open, and any other input on a
+    /// link that isn't open are passed over. After want of memory it answers that
+    /// again, and takes nothing in.
+    pub fn step(&mut self, alloc: Global, input: FrontInput) -> Result<FrontStep, WantOfMemory>
+        ensures steps { IfOk result (Steps self.old input self.new) }
+        ensures err { OnErr result (self.new.is_over ≡ true) }
+        ensures over { self.old.is_over ≡ true → result ≡ Err WantOfMemory }
+        ensures still { self.old.is_over ≡ true → self.new ≡ self.old }
+        // Whatever it answers.
+        ensures stands { Stands (front_of self.old) (front_of self.new) }
+        ensures isolated { AppsAreServed (front_of self.old) (front_of self.new) }
+    {
+        if self.is_over {
+            return Err(WantOfMemory);
+        }
+        let mut outputs = List::new(alloc);
+        match self.take_in(alloc, &input, &mut outputs) {
+            Ok(()) => {
+                let wake = self.links.some_waits(&self.portal);
+                Ok(FrontStep { outputs, wake })
+            }
+            Err(error) => {
+                self.is_over = true;
+                Err(error)
+            }
+        }
+    }
+
+    fn take_in(
+        &mut self,
+        alloc: Global,
+        input: &FrontInput,
+        outputs: &mut List<FrontOutput>,
+    ) -> Result<(), WantOfMemory> {
+        let portal = &mut self.portal;
+        let links = &mut self.links;
+        match input {
+            FrontInput::Opened { link, who, kind } => open(
+                alloc,
+                portal,
+                links,
+                &self.settings,
+                *link,
+                who,
+                *kind,
+                outputs,
+            ),
+            FrontInput::Came { link, bytes } => came(alloc, portal, links, *link, bytes, outputs),
+            FrontInput::Took { link, count } => took(links, *link, *count),
+            FrontInput::Ended { link } => ended(alloc, portal, links, *link, outputs),
+            FrontInput::Failed { link } => failed(alloc, portal, links, *link, outputs),
+            FrontInput::Wake => wake(alloc, portal, links, outputs),
+        }
+    }
+}
