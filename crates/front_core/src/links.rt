@@ -1,9 +1,17 @@
 //! The links of a front, by their numbers.
 
-ghost use Rattle.std.specs.Prelude.{◌≡◌, [], OnErr, OnOk, None, Some, is_some};
-ghost use Rattle.front_core.specs.Fronts.{link_at, placed};
+ghost use Rattle.std.specs.Prelude.{◌≡◌, ◌↔◌, [], IfOk, IsTrue, OnErr, OnOk, None, Some, is_some};
+ghost use Rattle.front_core.specs.FrontOut.{AreWaiting};
+ghost use Rattle.front_core.specs.Fronts.{Agrees, link_at, placed};
+ghost use Rattle.front_core.specs.Made.{front_at};
+ghost use Rattle.front_core.specs.Steps.{SomeWaits};
 
+use host_tree::HostTree;
+use portal_base::list::List;
 use portal_base::memory::WantOfMemory;
+use portal_base::outside::{Clock, Words};
+use portal_core::portal::Portal;
+use record_keeper::Keeper;
 use session::session::Session;
 use std::alloc::Global;
 use std::collections::BTreeMap;
@@ -68,5 +76,45 @@ impl Links {
     {
         self.links.insert(number, link)?;
         Ok(())
+    }
+}
+
+impl Links {
+    /// The numbers of the links that wait for signals, in rising order: links of the
+    /// host to the bus whose handshake is over, with signals that are unsent.
+    pub fn waiting<T: HostTree, K: Keeper, C: Clock, W: Words>(
+        &self,
+        alloc: Global,
+        portal: &Portal<T, K, C, W>,
+    ) -> Result<List<u32>, WantOfMemory>
+        requires { Agrees (front_at portal.now self.now) }
+        ensures { IfOk result (AreWaiting (front_at portal.now self.now)) }
+    {
+        portal.known();
+        let mut waiting = List::new(alloc);
+        // Only links of the host to the bus have signals that are unsent.
+        for (number, link) in &self.links {
+            if link.session.ready() && portal.waiting(*number) {
+                waiting.push(*number)?;
+            }
+        }
+        Ok(waiting)
+    }
+
+    /// Whether some link waits so.
+    pub fn some_waits<T: HostTree, K: Keeper, C: Clock, W: Words>(
+        &self,
+        portal: &Portal<T, K, C, W>,
+    ) -> bool
+        requires { Agrees (front_at portal.now self.now) }
+        ensures { IsTrue result ↔ SomeWaits (front_at portal.now self.now) }
+    {
+        portal.known();
+        for (number, link) in &self.links {
+            if link.session.ready() && portal.waiting(*number) {
+                return true;
+            }
+        }
+        false
     }
 }
