@@ -1,6 +1,7 @@
 -- What a front is: a history that is kept, and the links at which clients are.
-use Rattle.std.specs.Prelude.{◌≡◌, ℕ, ◌==◌, ◌≤◌, List, [], Bool, true, false, ◌&&◌, Option, Some, None, IfSome, if◌then◌else◌}
+use Rattle.std.specs.Prelude.{◌≡◌, ℕ, ◌≤◌, List, [], Bool, true, false, ◌&&◌, Option, Some, None, IfSome, if◌then◌else◌}
 use Rattle.std.specs.Map.{lookup}
+use Rattle.std.specs.Ordering.{is_eq, nat_cmp}
 use Rattle.std.specs.Option.{option_map}
 use Rattle.portal_base.specs.declared.limits.Settings.{Settings}
 use Rattle.portal_core.specs.Waiting.{is_waiting}
@@ -15,13 +16,17 @@ use Rattle.session.specs.Pushes.{is_ready}
 use Rattle.session.specs.Standings.{Standing}
 use Rattle.front_core.specs.declared.links.Link.{Link}
 
+-- the numbers are one, as a table compares them
+abbrev pub is_number : ℕ → ℕ → Bool
+is_number number n = is_eq (nat_cmp number n)
+
 -- the links of a table, by number
 abbrev pub link_at : List (ℕ × Link) → ℕ → Option Link
-link_at table n = lookup (λ k. n == k) table
+link_at table number = lookup (is_number number) table
 
 -- at one number this stands now, and at the others what stood there
 abbrev pub placed : (ℕ → Option Link) → ℕ → Option Link → ℕ → Option Link
-placed links number link n = if n == number then link else links n
+placed links number link n = if is_number number n then link else links n
 
 -- the state that the history began in, the history, and at each number the link that is open there
 pub record Front : Type 0 where
