@@ -194,6 +194,15 @@ WakeGives a outcomes outs b =
 
 -- ---- inputs
 
+-- the client of a link took so many bytes of those that were pending
+abbrev pub took_from : (ℕ → Option Link) → ℕ → ℕ → Option Link → ℕ → Option Link
+took_from links number count None = links
+took_from links number count (Some at) =
+    placed links number (Some (record at { pending = at.pending - count }))
+
+abbrev pub took_at : (ℕ → Option Link) → ℕ → ℕ → ℕ → Option Link
+took_at links number count = took_from links number count (links number)
+
 -- a link that may be opened
 abbrev pub may_open : Front → ℕ → Bool
 may_open a link = nat_lt 0 link && is_none (a.links link)
@@ -206,11 +215,8 @@ FrontOut settings a (Opened link who kind) outcomes outs b =
 FrontOut settings a (Came link bytes) outcomes outs b =
     AtLink (λ at os gives c. CameGives a link bytes at (has_room at.session bytes) os gives c) a
     (a.links link) outcomes outs b
-FrontOut settings a (Took link count) outcomes outs b =
-    AtLink (λ at os gives c. (os ≡ []) × (gives ≡ [])
-    × (c ≡ record a {
-      links = placed a.links link (Some (record at { pending = at.pending - count }));
-    })) a (a.links link) outcomes outs b
+FrontOut settings a (Took link count) outcomes outs b = (outcomes ≡ []) × (outs ≡ [])
+    × (b ≡ record a { links = took_at a.links link count })
 FrontOut settings a (Ended link) outcomes outs b =
     AtLink (λ at os gives c.
     Closes a link (ends.Served (ending at.session.fed at.session.rest)) os gives c) a

@@ -1,9 +1,13 @@
 //! The machine of a front.
 
-ghost use Rattle.std.specs.Prelude.{◌≡◌, [], Err, IfOk, OnErr, false, true};
-ghost use Rattle.front_core.specs.Fronts.{front_of};
+ghost use Rattle.std.specs.Prelude.{◌≡◌, [], Err, IfOk, OnErr, OnOk, false, true};
+ghost use Rattle.front_core.specs.FrontOut.{FrontOut};
+ghost use Rattle.front_core.specs.Fronts.{Agrees, front_of};
+ghost use Rattle.front_core.specs.Made.{Makes, front_at};
 ghost use Rattle.front_core.specs.Steps.{AppsAreServed, Stands, Steps};
-ghost use Rattle.portal_steps.specs.Story.{state_now};
+ghost use Rattle.portal_model.specs.History.{Legal};
+ghost use Rattle.portal_model.specs.Seated.{BeginsWith};
+ghost use Rattle.portal_steps.specs.Story.{state_first, state_now};
 
 use crate::front::{FrontInput, FrontOutput, FrontStep};
 use crate::inputs::{came, ended, failed, open, took, wake};
@@ -92,7 +96,14 @@ impl<T: HostTree, K: Keeper, C: Clock, W: Words> FrontCore<T, K, C, W> {
             return Err(WantOfMemory);
         }
         let mut outputs = List::new(alloc);
-        match self.take_in(alloc, &input, &mut outputs) {
+        match take_in(
+            alloc,
+            &mut self.portal,
+            &mut self.links,
+            &self.settings,
+            &input,
+            &mut outputs,
+        ) {
             Ok(()) => {
                 let wake = self.links.some_waits(&self.portal);
                 Ok(FrontStep { outputs, wake })
@@ -103,31 +114,34 @@ impl<T: HostTree, K: Keeper, C: Clock, W: Words> FrontCore<T, K, C, W> {
             }
         }
     }
+}
 
-    fn take_in(
-        &mut self,
-        alloc: Global,
-        input: &FrontInput,
-        outputs: &mut List<FrontOutput>,
-    ) -> Result<(), WantOfMemory> {
-        let portal = &mut self.portal;
-        let links = &mut self.links;
-        match input {
-            FrontInput::Opened { link, who, kind } => open(
-                alloc,
-                portal,
-                links,
-                &self.settings,
-                *link,
-                who,
-                *kind,
-                outputs,
-            ),
-            FrontInput::Came { link, bytes } => came(alloc, portal, links, *link, bytes, outputs),
-            FrontInput::Took { link, count } => took(links, *link, *count),
-            FrontInput::Ended { link } => ended(alloc, portal, links, *link, outputs),
-            FrontInput::Failed { link } => failed(alloc, portal, links, *link, outputs),
-            FrontInput::Wake => wake(alloc, portal, links, outputs),
-        }
+/// Takes an input in.
+fn take_in<T: HostTree, K: Keeper, C: Clock, W: Words>(
+    alloc: Global,
+    portal: &mut Portal<T, K, C, W>,
+    links: &mut Links,
+    settings: &Settings,
+    input: &FrontInput,
+    outputs: &mut List<FrontOutput>,
+) -> Result<(), WantOfMemory>
+    requires { Agrees (front_at portal.old links.old) }
+    ensures ok { OnOk result (Makes (λ a os said b. FrontOut settings.now a input.now os said b)
+        portal.old links.old outputs.old portal.new links.new outputs.new) }
+    ensures agrees { OnOk result (Agrees (front_at portal.new links.new)) }
+    // Whatever it answers.
+    ensures opening { state_first portal.new.story ≡ state_first portal.old.story }
+    ensures begins { BeginsWith portal.new.story.history portal.old.story.history }
+    ensures legal { Legal (state_first portal.new.story) portal.new.story.history }
+{
+    match input {
+        FrontInput::Opened { link, who, kind } => open(
+            alloc, portal, links, settings, *link, who, *kind, outputs,
+        ),
+        FrontInput::Came { link, bytes } => came(alloc, portal, links, *link, bytes, outputs),
+        FrontInput::Took { link, count } => took(links, *link, *count),
+        FrontInput::Ended { link } => ended(alloc, portal, links, *link, outputs),
+        FrontInput::Failed { link } => failed(alloc, portal, links, *link, outputs),
+        FrontInput::Wake => wake(alloc, portal, links, outputs),
     }
 }

@@ -1,8 +1,8 @@
 //! What becomes of an input.
 
 ghost use Rattle.std.specs.Prelude.{◌≡◌, OnOk, IfOk};
-ghost use Rattle.front_core.specs.FrontOut.{AtLink, CameGives, Closes, OpenedGives, TellsLink, WakeGives, has_room, may_open, met_by as what_it_met, took_by};
-ghost use Rattle.front_core.specs.Fronts.{Agrees};
+ghost use Rattle.front_core.specs.FrontOut.{AtLink, CameGives, Closes, OpenedGives, TellsLink, WakeGives, has_room, may_open, met_by as what_it_met, took_at};
+ghost use Rattle.front_core.specs.Fronts.{Agrees, link_at};
 ghost use Rattle.front_core.specs.Made.{Makes, front_at};
 ghost use Rattle.front_core.specs.declared.front.FrontEnding.TheVariants as ends;
 ghost use Rattle.session.specs.Connections.{served_by};
@@ -127,7 +127,9 @@ pub fn came<T: HostTree, K: Keeper, C: Clock, W: Words>(
 }
 
 /// Takes bytes that the client of a link took from those that are pending.
-pub fn took(links: &mut Links, number: u32, count: u64) -> Result<(), WantOfMemory> {
+pub fn took(links: &mut Links, number: u32, count: u64) -> Result<(), WantOfMemory>
+    ensures { OnOk result (link_at links.new ≡ took_at (link_at links.old) number count) }
+{
     let Some(link) = links.take(number) else {
         return Ok(());
     };

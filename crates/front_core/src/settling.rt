@@ -1,5 +1,14 @@
 //! What a link is given, and how it ends.
 
+ghost use Rattle.std.specs.Prelude.{◌≡◌, ◌+◌, ◌≤◌, ◌<◌, ◌^◌, ◌++◌, length, IfOk, OnOk, Some};
+ghost use Rattle.front_core.specs.Alone.{binding_of};
+ghost use Rattle.front_core.specs.FrontOut.{ends_by as how_it_ends};
+ghost use Rattle.front_core.specs.Fronts.{most_pending};
+ghost use Rattle.front_core.specs.Made.{Settled};
+ghost use Rattle.portal_model.specs.Seated.{bound};
+ghost use Rattle.portal_steps.specs.Story.{state_now};
+ghost use Rattle.session.specs.Items.{joined};
+
 use crate::front::{FrontEnding, FrontOutput};
 use crate::links::{Link, Links};
 use crate::seats;
@@ -11,15 +20,6 @@ use portal_core::portal::Portal;
 use record_keeper::Keeper;
 use session::session::Session;
 use std::alloc::Global;
-
-ghost use Rattle.std.specs.Prelude.{◌≡◌, ◌+◌, ◌≤◌, ◌<◌, ◌^◌, ◌++◌, length, IfOk, OnOk, Some};
-ghost use Rattle.front_core.specs.Alone.{binding_of};
-ghost use Rattle.front_core.specs.FrontOut.{ends_by as how_it_ends};
-ghost use Rattle.front_core.specs.Fronts.{most_pending};
-ghost use Rattle.front_core.specs.Made.{Settled};
-ghost use Rattle.portal_model.specs.Seated.{bound};
-ghost use Rattle.portal_steps.specs.Story.{state_now};
-ghost use Rattle.session.specs.Items.{joined};
 
 /// How many bytes a client may leave untaken.
 pub const MOST_PENDING: u64 = 67_108_864;
