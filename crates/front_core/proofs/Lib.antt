@@ -1,1 +1,2 @@
 pub mod AskedAlone
+pub mod AloneAt
