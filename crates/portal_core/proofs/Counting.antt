@@ -13,11 +13,19 @@ use Rattle.portal_steps.specs.Story.{IsAsBefore, PortalIs}
 abbrev pub counted_at : {T K C W : Type 0} → PortalIs T K C W → ℕ → PortalIs T K C W
 counted_at p n = record p { refusals = n }
 
-pub as_before : {T K C W : Type 0} (old mid new : PortalIs T K C W) (n : ℕ) → new ≡ counted_at mid n → mid ≡ old → IsAsBefore old new
+pub as_before : {T K C W : Type 0} (old mid new : PortalIs T K C W) (n : ℕ) → new ≡ counted_at mid n → IsAsBefore old mid → IsAsBefore old new
 as_before {T = T} {K = K} {C = C} {W = W} old mid new n e same =
-    e ∙ (ap (λ (p : PortalIs T K C W). counted_at p n) same ∙ ap (counted_at old) (sym (ap (λ (p : PortalIs T K C W). p.refusals) e)))
+    let spare : mid.spare ≡ new.spare = sym (ap (λ (p : PortalIs T K C W). p.spare) e) in
+    let count : n ≡ new.refusals = sym (ap (λ (p : PortalIs T K C W). p.refusals) e) in
+    e ∙ (ap (λ (p : PortalIs T K C W). counted_at p n) same ∙ (λ i. record old { spare = spare i; refusals = count i }))
 
-pub as_before_err : {T K C W : Type 0} (r : Result Reply Refused) (old mid new : PortalIs T K C W) (n : ℕ) → new ≡ counted_at mid n → OnErr r (mid ≡ old) → OnErr r (IsAsBefore old new)
+pub the_same : {T K C W : Type 0} (old mid : PortalIs T K C W) → mid ≡ old → IsAsBefore old mid
+the_same {T = T} {K = K} {C = C} {W = W} old mid same =
+    let spare : old.spare ≡ mid.spare = sym (ap (λ (p : PortalIs T K C W). p.spare) same) in
+    let count : old.refusals ≡ mid.refusals = sym (ap (λ (p : PortalIs T K C W). p.refusals) same) in
+    same ∙ (λ i. record old { spare = spare i; refusals = count i })
+
+pub as_before_err : {T K C W : Type 0} (r : Result Reply Refused) (old mid new : PortalIs T K C W) (n : ℕ) → new ≡ counted_at mid n → OnErr r (IsAsBefore old mid) → OnErr r (IsAsBefore old new)
 as_before_err (Ok reply) old mid new n e h = h
 as_before_err (Err why) old mid new n e h = as_before old mid new n e h
 
@@ -47,6 +55,7 @@ module _ {T K C W : Type 0} (tree_is : T → TreeIs) (keeper_is : K → KeeperIs
   spends_counted : (request : Request) → Spends tree_is keeper_is clock_reads words_told old request mid → Spends tree_is keeper_is clock_reads words_told old request (counted_at mid n)
   spends_counted request s = record {
     tree = s.tree;
+    few = s.few;
     keeper = s.keeper;
     clock = s.clock;
     words = s.words;

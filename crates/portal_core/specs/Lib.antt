@@ -1,4 +1,5 @@
 pub mod Started
+pub mod Reserve
 pub mod Renewing
 pub mod Waiting
 pub mod Growth

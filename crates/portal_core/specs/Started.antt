@@ -28,7 +28,8 @@ pub record HandsBack {T K C W : Type 0} (keeper_is : K → KeeperIs) (tree : T) 
   pub words_kept : refusal.words ≡ words
   pub cause : LoadsBadly limits (keeper_is keeper) refusal.error (keeper_is refusal.keeper)
 
--- The portal has these devices, of which none was asked, opens with this state, and has no history.
+-- The portal has these devices, of which none was asked, opens with this state, has no history, and
+-- took no memory ahead.
 abbrev pub reopened : {T K C W : Type 0} → (T → TreeIs) → T → K → C → W → OpeningState
     → PortalIs T K C W
 reopened tree_is tree keeper clock words opening = record {
@@ -37,5 +38,6 @@ reopened tree_is tree keeper clock words opening = record {
   clock = clock;
   words = words;
   story = record { began = (tree_is tree).began; opening = opening; history = [] };
+  spare = 0;
   refusals = 0;
 }

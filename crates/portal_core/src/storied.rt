@@ -141,10 +141,21 @@ pub trait Renews: Storied {
         ensures entries { OnOk result (Self.entries self.new ≡ []) }
         ensures refused { OnErr result (self.new ≡ self.old) }
         ensures uncounted { Self.refusals self.new ≡ Self.refusals self.old };
+
+    /// Takes memory ahead for so many requests of the kinds that free what others hold,
+    /// as far as there is any. It is no answer, and the history is as it was.
+    fn keep_ahead(&mut self, alloc: Global, count: u32)
+        ensures opening { Self.opening self.new ≡ Self.opening self.old }
+        ensures entries { Self.entries self.new ≡ Self.entries self.old }
+        ensures uncounted { Self.refusals self.new ≡ Self.refusals self.old };
 }
 
 impl<T: HostTree, K: Keeper, C: Clock, W: Words> Renews for Portal<T, K, C, W> {
     fn renew(&mut self, alloc: Global) -> Result<(), RenewError> {
         Portal::renew(self, alloc)
+    }
+
+    fn keep_ahead(&mut self, alloc: Global, count: u32) {
+        let _reserved = self.reserve(alloc, count, 0);
     }
 }

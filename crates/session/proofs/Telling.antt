@@ -16,7 +16,7 @@ use Rattle.session.specs.Ledger.{Collected, Grew, Sends, SendsPart, World, world
 use Rattle.session.specs.Pushes.{Pushes, Tells, Told, ToldSome, with_fed, with_serial}
 use Rattle.session.specs.Standings.{Standing}
 use Rattle.session.proofs.Grew.{onto_none}
-use Rattle.session.proofs.ConnectionStaysOpen.{IsPlain, Lets, makes_one}
+use Rattle.session.proofs.ConnectionStaysOpen.{IsPlain, Lets, makes_of}
 
 -- ---- of one Collect there is one outcome
 
@@ -48,6 +48,7 @@ module _ (serial : ℕ) (v w : Seated) (changes : List Change) (collected : Coll
 
   -- where there is nothing to tell
   pub tells_none : (o : Option (List (List ℕ))) (a : ℕ) → changes ≡ [] → Tells (Ok serial) serial (world v o a) (world w o a)
+  unfolding told_of found
   tells_none o a none =
       let quiet : signals_for found.outcome ≡ [] = ap (map signal_of) (sym found.rides ∙ none) in (
         told_of o o a a [] (onto_none o) (omega arith),
@@ -64,12 +65,14 @@ module _ (serial : ℕ) (v w : Seated) (changes : List Change) (collected : Coll
   some_told some none = some (found.rides ∙ none)
 
   tells_part : (halt : Fed) (o n : Option (List (List ℕ))) (a b : ℕ) → changes ≢ [] → SendsPart (spoken serial (signals_for found.outcome)) halt o a n b → Tells (Err halt) serial (world v o a) (world w n b)
+  unfolding told_of found
   tells_part WriteFault o n a b some (written, short, told, rose, risen) = ((told_of o n a b written told rose, some_told some), short, risen)
   tells_part Memory o n a b some (told, same) = ((told_of o n a b [] (told ∙ onto_none o) (omega (arith, same)), some_told some), refl, same)
   tells_part More o n a b some sent = absurd sent
   tells_part (Over ending) o n a b some sent = absurd sent
 
   tells_as : (r : Result ℕ Fed) (o n : Option (List (List ℕ))) (a b : ℕ) → changes ≢ [] → Sends (spoken serial (signals_for found.outcome)) r o a n b → IfOk r (λ last. last ≡ last_spoken serial (signals_for found.outcome)) → Tells r serial (world v o a) (world w n b)
+  unfolding told_of
   tells_as (Ok last) o n a b some (told, same) is = (told_of o n a b (spoken serial (signals_for found.outcome)) told (omega (arith, same)), refl, is, same)
   tells_as (Err halt) o n a b some sent is = tells_part halt o n a b some sent
 
@@ -81,7 +84,7 @@ module _ (serial : ℕ) (v w : Seated) (changes : List Change) (collected : Coll
 -- ---- what it leaves
 
 tried_lets : (v w : World) → Told v w → Lets v.seated w.seated
-tried_lets v w t = (t.outcome ∷ [], t.grows.desk, makes_one IsPlain Request.Collect t.outcome tt t.is_of)
+tried_lets v w t = (t.outcome ∷ [], t.grows.desk, makes_of IsPlain (Request.Collect ∷ []) (t.outcome ∷ []) (tt, tt) (t.outcome, [], refl, t.is_of, refl))
 
 -- nothing that it asks ends the connection
 pub tells_let : (r : Result ℕ Fed) (serial : ℕ) (v w : World) → Tells r serial v w → Lets v.seated w.seated

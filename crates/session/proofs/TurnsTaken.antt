@@ -25,7 +25,7 @@ acts-append (Some act ∷ xs) ys = ap (λ (z : List Act). act ∷ z) (acts-appen
 acts-append (None ∷ xs) ys = acts-append xs ys
 
 pushes-append : {X : Type 0} (xs ys : List (Option X)) → pushes_in (xs ++ ys) ≡ pushes_in xs + pushes_in ys
-pushes-append [] ys = refl
+pushes-append [] ys = omega arith
 pushes-append (Some x ∷ xs) ys = pushes-append xs ys
 pushes-append (None ∷ xs) ys = let more = pushes-append xs ys in omega (arith, more)
 
@@ -88,11 +88,21 @@ marked_push c s last v w (t, said, serial, sound) = record {
   each = refl;
   counted = refl;
   phase = refl;
-  answers = (t.outcome ∷ [], [], t.written, [], last, refl, sym (append-nil t.written), record {
-    asked = (t.outcome, [], refl, t.is_of, refl);
-    said = said ∙ ap (spoken s.serial) (sym (told_messages t.outcome));
-    serial_is = serial ∙ ap (last_spoken s.serial) (sym (told_messages t.outcome));
-  }, (refl, refl, refl));
+  answers = (
+    t.outcome ∷ [],
+    [],
+    t.written,
+    [],
+    last,
+    refl,
+    sym (append-nil t.written),
+    record {
+      asked = (t.outcome, [], refl, t.is_of, refl);
+      said = said ∙ ap (spoken s.serial) (sym (told_messages t.outcome));
+      serial_is = serial ∙ ap (last_spoken s.serial) (sym (told_messages t.outcome));
+    },
+    (refl, refl, refl),
+  );
   grows = t.grows;
   sound = sound;
 }
@@ -143,13 +153,15 @@ turns_taken (Some piece ∷ turns) s v t w few (m, x, (took, keeps), more) =
     let long = length-append took.taken k.taken in
     let first = took.before in
     let second = k.before in
+    let none : 0 + pushes_in turns ≡ pushes_in turns = omega arith in
     record {
       taken = took.taken ++ k.taken;
       bytes = sym (append_assoc s.rest piece (stream_of turns))
           ∙ (ap (λ (z : List ℕ). z ++ stream_of turns) took.bytes
           ∙ (append_assoc took.taken m.rest (stream_of turns)
           ∙ (ap (λ (z : List ℕ). took.taken ++ z) k.bytes ∙ sym (append_assoc took.taken k.taken t.rest))));
-      marked = marked_on s.client s.stage m.stage t.stage v x w took.taken k.taken 0 (pushes_in turns) (marked_did s.client s.stage m.stage v x took.taken took.did) rest_marked;
+      marked = subst (λ (n : ℕ). Marked s.client s.stage v (took.taken ++ k.taken) n t.stage w) none
+          (marked_on s.client s.stage m.stage t.stage v x w took.taken k.taken 0 (pushes_in turns) (marked_did s.client s.stage m.stage v x took.taken took.did) rest_marked);
       before = omega (arith, long, first, second);
       client = k.client ∙ here;
       remains = subst (λ (c : Client). Remains c t.stage.phase t.rest stop.More) here k.remains;

@@ -6,7 +6,7 @@ ghost use Rattle.portal_core.specs.Waiting.{is_waiting};
 ghost use Rattle.portal_model.specs.Seated.{rises_by};
 ghost use Rattle.portal_steps.specs.Story.{state_now};
 
-use super::Portal;
+use crate::portal::Portal;
 use host_tree::HostTree;
 use portal_base::outside::{Clock, Words};
 use portal_model::reply::{Refused, Reply};

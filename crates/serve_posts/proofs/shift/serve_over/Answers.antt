@@ -25,7 +25,8 @@ turns-init g c =
     let next = stand (g.S.Storied.opening c.in_ok-shift.shift.story) (g.S.Storied.entries c.in_ok-shift.shift.story) c.in_ok-shift.shift.posts c.in_ok-shift.shift.ends in
     let many : c.in_ok-ends.ends ≡ all_unserved c.args.posts = c.in_ok-ends.ensures ∙ ap (λ (n : ℕ). replicate n unserved) c.len.ensures in
     let turn : OneTurn s hall_of c.args.settings.now first next =
-    subst (λ (ends : List WorkEnd). OneTurn s hall_of c.args.settings.now (stand (g.S.Storied.opening c.args.story) (g.S.Storied.entries c.args.story) c.args.posts ends) next) many c.in_ok-shift.ensures.turn in
+    rw (← c.kept_ahead-story.ensures.opening, ← c.kept_ahead-story.ensures.entries)
+    (subst (λ (ends : List WorkEnd). OneTurn s hall_of c.args.settings.now (stand (g.S.Storied.opening c.kept_ahead-story.result) (g.S.Storied.entries c.kept_ahead-story.result) c.args.posts ends) next) many c.in_ok-shift.ensures.turn) in
     (tt, tt, (zero, refl, turn), closed_after s hall_of c.args.settings.now first next turn (length-replicate (length c.args.posts) unserved) c.requires.closed)
 
 pub returns-then-not-any_left : goal.returns-then-not-any_left

@@ -1,4 +1,5 @@
-use Rattle.std.proofs.Common.{◌≡◌, ◌≢◌, ◌≤◌, ◌+◌, ℕ, List, ◌∷◌, ◌++◌, [], ap, arith, refl, rules, subst, sym, ◌∙◌}
+use Rattle.std.proofs.Common.{◌≡◌, ◌≢◌, ◌≤◌, ◌<◌, ◌+◌, ℕ, List, ◌∷◌, ◌++◌, [], length, ap, arith, refl, rules, subst, sym, ◌∙◌}
+use Rattle.file_ops.specs.Wanting.{calls_in_vain}
 use Rattle.node_looks.specs.Done.{Reads}
 use Rattle.node_looks.specs.Served.{given_to}
 use Rattle.node_serving.specs.Seats.{seat_calls, seat_step}
@@ -22,6 +23,7 @@ use Rattle.portal_steps.proofs.Steps.{entered-now, keeps-node, lawful_node, loud
 use Rattle.portal_steps.proofs.WentDevices.{same-portal, spends-node, went-node}
 use Rattle.portal_core.proofs.HeldCounts.{held_node, held_over}
 use Rattle.portal_core.specs.LookUps.{AreHeld}
+use Rattle.portal_core.specs.Reserve.{room_in}
 use Rattle.inode_table.specs.declared.inodes.SeatNode.{SeatNode}
 use Rattle.portal_core.proofs.portal.Portal.node.Goals as goal
 
@@ -65,7 +67,7 @@ invariant_of-self-in-Err g c =
     let tree = g.T.HostTree.is k.tree in
     let after = g.T.HostTree.is c.serve-served.new.tree in
     let room = rw (c.as_slice.ensures) at c.in_ok-make_room.ensures.room in
-    let kept = was-called-keeps tree after c.in-Err.ensures.err.calls in
+    let kept = was-called-keeps (calls_in_vain c.args.request.op) tree after c.in-Err.ensures.err.calls in
     let wanting = stands_wanting tree.began k.opening k.history.entries k.history.limit k.documents k.rights k.applications k.connections k.handles tree.told c.self.invariant.0 c.serve-served.new.handles c.in-Err.ensures.err.handles in
     let both = stands_over tree.began after.began k.opening k.history.entries k.history.limit k.documents k.rights k.applications k.connections c.serve-served.new.handles tree.told after.told (g.K.Keeper.is k.keeper).told kept.0 kept.1 wanting c.self.invariant.2 in
     rw (c.in-Err.ensures.connections, c.in_ok-make_room.ensures.entries, c.in_ok-make_room.ensures.limit) (
@@ -121,7 +123,7 @@ returns-in-Ok-clause-began g c =
 
 pub returns-in-Err-clause-began : goal.returns-in-Err-clause-began
 returns-in-Err-clause-began g c =
-    rw (← c.self.view_is) (was-called-keeps (g.T.HostTree.is c.self.inside.tree) (g.T.HostTree.is c.serve-served.new.tree) c.in-Err.ensures.err.calls).0
+    rw (← c.self.view_is) (was-called-keeps (calls_in_vain c.args.request.op) (g.T.HostTree.is c.self.inside.tree) (g.T.HostTree.is c.serve-served.new.tree) c.in-Err.ensures.err.calls).0
 
 pub returns-in-Ok-clause-fault : goal.returns-in-Ok-clause-fault
 returns-in-Ok-clause-fault g c =
@@ -141,10 +143,35 @@ returns-in-Ok-clause-failure g c =
 
 pub returns-in-Err-clause-err : goal.returns-in-Err-clause-err
 returns-in-Err-clause-err g c =
-    let kept = was-called-keeps (g.T.HostTree.is c.self.inside.tree) (g.T.HostTree.is c.serve-served.new.tree) c.in-Err.ensures.err.calls in
-    spends-node _ _ _ _ _ _ _ (λ h. rw (← c.self.view_is) (c.in-Err.ensures.unasked h)) (λ h. rw (← c.self.view_is) (c.serve-served.ensures.unread h)) (rw (← c.self.view_is) c.in-Err.ensures.err.calls) (search rules) (rw (← c.self.view_is) c.in-Err.ensures.clock_err) (search rules) (rw (← c.self.view_is) kept.0) (search rules) (search rules)
+    let kept = was-called-keeps (calls_in_vain c.args.request.op) (g.T.HostTree.is c.self.inside.tree) (g.T.HostTree.is c.serve-served.new.tree) c.in-Err.ensures.err.calls in
+    spends-node _ _ _ _ _ _ _ c.args.request refl (λ h. rw (← c.self.view_is) (c.in-Err.ensures.unasked h)) (λ h. rw (← c.self.view_is) (c.serve-served.ensures.unread h)) (rw (← c.self.view_is) c.in-Err.ensures.err.calls) (search rules) (rw (← c.self.view_is) c.in-Err.ensures.clock_err) (search rules) (rw (← c.self.view_is) kept.0) (search rules) (search rules)
 
 pub returns-in-Err-clause-unasked : goal.returns-in-Err-clause-unasked
 returns-in-Err-clause-unasked g c = λ h.
-    let kept = was-called-keeps (g.T.HostTree.is c.self.inside.tree) (g.T.HostTree.is c.serve-served.new.tree) c.in-Err.ensures.err.calls in
-    same-portal _ _ (rw (← c.self.view_is) (c.in-Err.ensures.unasked h)) (search rules) (rw (← c.self.view_is) (c.serve-served.ensures.unread (still-file c.args.request.op h))) (search rules) (rw (← c.self.view_is) kept.0) (search rules) (search rules) (search rules)
+    let kept = was-called-keeps (calls_in_vain c.args.request.op) (g.T.HostTree.is c.self.inside.tree) (g.T.HostTree.is c.serve-served.new.tree) c.in-Err.ensures.err.calls in
+    same-portal _ _ (rw (← c.self.view_is) (c.in-Err.ensures.unasked h)) (search rules) (rw (← c.self.view_is) (c.serve-served.ensures.unread (still-file c.args.request.op h))) (search rules) (rw (← c.self.view_is) kept.0) (search rules) (search rules)
+
+-- ---- memory that was taken ahead
+
+pub returns-in_err-make_room-clause-reserved : goal.returns-in_err-make_room-clause-reserved
+returns-in_err-make_room-clause-reserved g c = λ r h.
+    let k = c.self.inside in
+    let spare : 0 < room_in (length k.connections) k.history.spare k.counts.room k.rooms = rw (← c.self.view_is) at h in
+    absurd (c.in_err-make_room.ensures.reserved (rw c.as_slice.ensures (omega (arith, spare))))
+
+pub returns-in-Err-clause-reserved : goal.returns-in-Err-clause-reserved
+returns-in-Err-clause-reserved g c = λ r h.
+    let k = c.self.inside in
+    let spare : 0 < room_in (length k.connections) k.history.spare k.counts.room k.rooms = rw (← c.self.view_is) at h in
+    absurd (c.in-Err.ensures.reserved r (omega (arith, spare, c.keep_ahead.ensures.rooms)) (omega (arith, spare, c.keep_ahead.ensures.room)))
+
+pub returns-in-Ok-clause-spare : goal.returns-in-Ok-clause-spare
+returns-in-Ok-clause-spare g c =
+    rw (← c.self.view_is) (rw c.push.ensures (omega (arith, c.serve-served.ensures.count, c.serve-served.ensures.rooms, c.serve-served.ensures.room, c.keep_ahead.ensures.rooms, c.keep_ahead.ensures.room, c.in_ok-make_room.ensures.spare)))
+
+pub returns-in-Err-clause-spare : goal.returns-in-Err-clause-spare
+returns-in-Err-clause-spare g c =
+    rw (← c.self.view_is) (omega (arith, c.serve-served.ensures.count, c.serve-served.ensures.rooms, c.serve-served.ensures.room, c.keep_ahead.ensures.rooms, c.keep_ahead.ensures.room, c.in_ok-make_room.ensures.spare))
+
+pub returns-in_err-make_room-clause-spare : goal.returns-in_err-make_room-clause-spare
+returns-in_err-make_room-clause-spare g c = rw (← c.self.view_is) (omega (arith, c.in_err-make_room.ensures.spare))

@@ -2,7 +2,7 @@ use Rattle.portal_model.proofs.ValidLaws.{run-Valid}
 use Rattle.portal_model.specs.Opening.{opened_over}
 use Rattle.portal_model.specs.History.{run}
 use Rattle.portal_core.proofs.WaitingSeats.{waits_as}
-use Rattle.portal_core.proofs.portal.asked.Portal.waiting.Goals as goal
+use Rattle.portal_core.proofs.portal.Portal.waiting.Goals as goal
 
 pub returns : goal.returns
 returns g c =
