@@ -4,3 +4,5 @@ pub mod Alone
 pub mod FrontOut
 pub mod Steps
 pub mod Made
+pub mod Ends
+pub mod Running

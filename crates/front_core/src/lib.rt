@@ -25,8 +25,10 @@
 #![tactic(auto)]
 
 pub mod core;
+pub mod end;
 pub mod front;
 mod inputs;
 pub mod links;
+pub mod run;
 mod seats;
 mod settling;
