@@ -1,6 +1,8 @@
 -- The end of a front: where its inputs come from, and where its outputs go.
 use Rattle.std.specs.Prelude.{◌≡◌, ℕ, ◌≤◌, List, [], ◌∷◌, ◌++◌, Option, Some, None}
 use Rattle.portal_base.specs.Outside.{HasRisen}
+use Rattle.front_core.specs.declared.end.EndEvent.{EndEvent}
+use Rattle.front_core.specs.declared.end.EndEvent.TheVariants.{Taken, Gave}
 use Rattle.front_core.specs.declared.end.Given.{Given}
 use Rattle.front_core.specs.declared.end.Given.TheVariants as given
 use Rattle.front_core.specs.declared.end.NextInput.{NextInput}
@@ -8,17 +10,12 @@ use Rattle.front_core.specs.declared.end.NextInput.TheVariants as next
 use Rattle.front_core.specs.declared.front.FrontInput.{FrontInput}
 use Rattle.front_core.specs.declared.front.FrontOutput.{FrontOutput}
 
--- an input that was taken, or an output that was given
-pub data Event : Type 0 where
-  Taken : FrontInput → Event
-  Gave : FrontOutput → Event
-
 -- the inputs to come, and what was taken and given, in order
 pub record Log : Type 0 where
   pub coming : List FrontInput
-  pub events : List Event
+  pub events : List EndEvent
 
-abbrev pub log : List FrontInput → List Event → Log
+abbrev pub log : List FrontInput → List EndEvent → Log
 log coming events = record { coming = coming; events = events }
 
 -- The first input to come is taken, and leaves the others; no other answer changes what is told, and

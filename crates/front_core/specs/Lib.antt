@@ -6,3 +6,4 @@ pub mod Steps
 pub mod Made
 pub mod Ends
 pub mod Running
+pub mod InMemory

@@ -11,7 +11,9 @@ use Rattle.front_core.specs.declared.front.FrontInput.TheVariants.{Wake}
 use Rattle.front_core.specs.declared.front.FrontOutput.{FrontOutput}
 use Rattle.front_core.specs.declared.run.FrontStatus.{FrontStatus}
 use Rattle.front_core.specs.declared.run.FrontStatus.TheVariants.{Closed, EndFault, Memory}
-use Rattle.front_core.specs.Ends.{Event, Taken, Gave, Log}
+use Rattle.front_core.specs.declared.end.EndEvent.{EndEvent}
+use Rattle.front_core.specs.declared.end.EndEvent.TheVariants.{Taken, Gave}
+use Rattle.front_core.specs.Ends.{Log}
 use Rattle.front_core.specs.FrontOut.{FrontOut, Passes}
 use Rattle.front_core.specs.Fronts.{Front}
 use Rattle.front_core.specs.Made.{front_at}
@@ -37,15 +39,15 @@ pub record Takes (settings : Settings) (a : Front) (input : FrontInput) (outcome
 
 -- Inputs are taken in, one after another. All outputs of an input and of its wake stand ahead of the
 -- next input.
-abbrev pub Runs : Settings → Front → List FrontInput → List Outcome → List Event → Front → Type 0
+abbrev pub Runs : Settings → Front → List FrontInput → List Outcome → List EndEvent → Front → Type 0
 Runs settings a [] outcomes events b = (outcomes ≡ []) × (events ≡ []) × (b ≡ a)
 Runs settings a (input ∷ inputs) outcomes events b =
-    (os : List Outcome) × (us : List Outcome) × (outs : List FrontOutput) × (more : List Event)
+    (os : List Outcome) × (us : List Outcome) × (outs : List FrontOutput) × (more : List EndEvent)
     × (mid : Front) × (outcomes ≡ os ++ us) × (events ≡ Taken input ∷ (map Gave outs ++ more))
     × Takes settings a input os outs mid × Runs settings mid inputs us more b
 
 -- what an end that tells was told further
-abbrev pub WasTold : Option Log → List Event → Option Log → Type 0
+abbrev pub WasTold : Option Log → List EndEvent → Option Log → Type 0
 WasTold None events new = new ≡ None
 WasTold (Some old) events new =
     (left : List FrontInput) × (new ≡ Some (record { coming = left; events = old.events ++ events }))
@@ -55,7 +57,7 @@ pub record RanAll (settings : Settings) (a : Front) (told told' : Option Log) (b
     (refusals refusals' : ℕ) : Type 0 where
   pub inputs : List FrontInput
   pub outcomes : List Outcome
-  pub events : List Event
+  pub events : List EndEvent
   pub runs : Runs settings a inputs outcomes events b
   pub is_told : WasTold told events told'
   pub counted : refusals' ≡ rises_by refusals (denied outcomes)
@@ -66,10 +68,10 @@ pub record RanUpTo (settings : Settings) (a : Front) (told told' : Option Log) (
     (refusals refusals' : ℕ) : Type 0 where
   pub inputs : List FrontInput
   pub outcomes : List Outcome
-  pub events : List Event
+  pub events : List EndEvent
   pub mid : Front
   pub runs : Runs settings a inputs outcomes events mid
-  pub last : List Event
+  pub last : List EndEvent
   pub is_told : WasTold told (events ++ last) told'
   pub begins : BeginsWith b.history mid.history
   pub counted : rises_by refusals (denied outcomes) ≤ refusals'

@@ -27,6 +27,15 @@ pub enum Given {
     Failed,
 }
 
+/// What an end was told.
+#[derive(Debug, Drop)]
+pub enum EndEvent {
+    /// An input was taken.
+    Taken(FrontInput),
+    /// An output was given.
+    Gave(FrontOutput),
+}
+
 /// Where the inputs of a front come from, and where its outputs go.
 ///
 /// An end may tell contracts which inputs are to come, and which were taken and what

@@ -1,8 +1,12 @@
 //! What comes to a front, and what it gives.
 
+ghost use Rattle.std.specs.Prelude.{◌≡◌, IfOk};
+
 use portal_base::list::{ByteList, List};
+use portal_base::memory::{Replica, WantOfMemory};
 use portal_base::who::{Kind, Who};
 use session::served::Served;
+use std::alloc::Global;
 
 /// What comes to a front. A link is known by its number, from 1, which is its seat.
 #[derive(Debug, Drop)]
@@ -85,4 +89,27 @@ pub struct FrontStep {
     /// Whether signals are unsent that may be sent: then a [`FrontInput::Wake`] is
     /// due.
     pub wake: bool,
+}
+
+impl Replica for FrontInput {
+    fn replica(&self, alloc: Global) -> Result<Self, WantOfMemory> {
+        match self {
+            FrontInput::Opened { link, who, kind } => Ok(FrontInput::Opened {
+                link: *link,
+                who: who.replica(alloc)?,
+                kind: *kind,
+            }),
+            FrontInput::Came { link, bytes } => Ok(FrontInput::Came {
+                link: *link,
+                bytes: bytes.replica(alloc)?,
+            }),
+            FrontInput::Took { link, count } => Ok(FrontInput::Took {
+                link: *link,
+                count: *count,
+            }),
+            FrontInput::Ended { link } => Ok(FrontInput::Ended { link: *link }),
+            FrontInput::Failed { link } => Ok(FrontInput::Failed { link: *link }),
+            FrontInput::Wake => Ok(FrontInput::Wake),
+        }
+    }
 }

@@ -29,6 +29,7 @@ pub mod end;
 pub mod front;
 mod inputs;
 pub mod links;
+pub mod memory_end;
 pub mod run;
 mod seats;
 mod settling;
