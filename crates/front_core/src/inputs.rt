@@ -10,7 +10,8 @@ ghost use Rattle.session.specs.Sessions.{ending};
 
 use crate::front::{FrontEnding, FrontOutput};
 use crate::links::{Link, Links};
-use crate::seats::{self, Begun};
+use crate::seats;
+use crate::seats::Begun;
 use crate::settling::{close, settle};
 use host_tree::HostTree;
 use portal_base::limits::Settings;

@@ -13,7 +13,9 @@
 //! | `seats` | the sessions of links at their seats of the portal |
 //! | `settling` | what a link is given, and how it ends |
 //! | `inputs` | each input, and a wake |
-//! | `core` | [`core::FrontCore`]: the machine |
+//! | `machine` | [`machine::FrontCore`]: the machine |
+//! | `end`, `memory_end` | where inputs come from and outputs go |
+//! | `run` | [`run::run_front`]: a front that runs |
 //!
 //! ```text
 //! let mut core = FrontCore::new(alloc, portal, settings);
@@ -24,11 +26,11 @@
 //! `org.freedesktop.impl.portal.PermissionStore`, signal `Changed`.
 #![tactic(auto)]
 
-pub mod core;
 pub mod end;
 pub mod front;
 mod inputs;
 pub mod links;
+pub mod machine;
 pub mod memory_end;
 pub mod run;
 mod seats;

@@ -93,7 +93,7 @@ impl Links {
         portal.known();
         let mut waiting = List::new(alloc);
         // Only links of the host to the bus have signals that are unsent.
-        for (number, link) in &self.links {
+        for (number, link) in self.links.iter() {
             if link.session.ready() && portal.waiting(*number) {
                 waiting.push(*number)?;
             }
@@ -110,7 +110,7 @@ impl Links {
         ensures { IsTrue result ↔ SomeWaits (front_at portal.now self.now) }
     {
         portal.known();
-        for (number, link) in &self.links {
+        for (number, link) in self.links.iter() {
             if link.session.ready() && portal.waiting(*number) {
                 return true;
             }

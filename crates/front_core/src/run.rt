@@ -7,9 +7,9 @@ ghost use Rattle.front_core.specs.Running.{EndsAs};
 ghost use Rattle.front_core.specs.Steps.{AppsAreServed, Stands};
 ghost use Rattle.portal_steps.specs.Story.{state_now};
 
-use crate::core::FrontCore;
 use crate::end::{FrontEnd, Given, NextInput};
 use crate::front::{FrontInput, FrontOutput};
+use crate::machine::FrontCore;
 use host_tree::HostTree;
 use portal_base::limits::Settings;
 use portal_base::list::List;
