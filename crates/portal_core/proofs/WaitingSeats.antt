@@ -15,7 +15,9 @@ some_there : (b : Bool) (cs : List Change) → (IsTrue b ↔ (cs ≢ [])) → b 
 some_there true [] h = absurd (h.0 refl refl)
 some_there true (c ∷ cs) h = refl
 some_there false [] h = refl
-some_there false (c ∷ cs) h = let no : false ≡ true = h.1 (λ e. cc) in absurd (cc)
+some_there false (c ∷ cs) h =
+    let no : false ≡ true = h.1 (λ e. cc) in
+    absurd (cc)
 
 module _ (s : State) (seat : ℕ) (boxes : Boxes) (valid : Valid s) (waits : AreWaiting s.connections boxes) where
   in_box : (c : Connection) (t : Bool) → connection_of s.connections seat ≡ Some c → is_host_bus c.who c.kind ≡ t → unwrap_or (cond t (Some c.unsent) None) [] ≡ c.unsent

@@ -6,7 +6,7 @@ use Rattle.portal_model.specs.Valid.{Valid}
 use Rattle.portal_desk.proofs.Openings.{opens-over}
 use Rattle.portal_desk.specs.Opening.{IsOpeningState}
 use Rattle.portal_core.proofs.Beginning.{valid_untold}
-use Rattle.portal_core.proofs.portal.reopened.Portal.reopen.Goals as goal
+use Rattle.portal_core.proofs.portal.Portal.reopen.Goals as goal
 
 pub lists_of_opening-requires-clause-valid : goal.lists_of_opening-requires-clause-valid
 lists_of_opening-requires-clause-valid g c = valid_untold c.args.opening (g.T.HostTree.is c.args.tree).began c.requires.valid
