@@ -1,0 +1,4 @@
+pub mod Outside
+pub mod Courses
+pub mod Polls
+pub mod Steps
