@@ -2,3 +2,4 @@ pub mod Outside
 pub mod Courses
 pub mod Polls
 pub mod Steps
+pub mod Stages

@@ -23,3 +23,4 @@ pub mod poll_session;
 pub mod read;
 pub mod send;
 pub mod serve;
+pub mod stages;

@@ -23,11 +23,7 @@ pub enum Flushed {
 }
 
 /// Sends bytes, as many as the sink takes, and leaves the others.
-pub fn flush<K: PollSink>(
-    unsent: &mut BytesMut,
-    sink: &mut K,
-    context: &mut Context<'_>,
-) -> Flushed
+pub fn flush<K: PollSink>(unsent: &mut BytesMut, sink: &mut K, context: &mut Context<'_>) -> Flushed
     ensures flushes { Flushes unsent.old.items (K.told sink.old) (K.counts sink.old) result
         unsent.new.items (K.told sink.new) (K.counts sink.new) }
     ensures registered { IfFlushWaits result (IsArmed context.new) }
