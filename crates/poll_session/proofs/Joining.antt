@@ -13,6 +13,7 @@ use Rattle.session.proofs.DidItems.{answers-append, items-append, joined-append,
 use Rattle.session.proofs.Grew.{grew_on}
 use Rattle.poll_session.specs.Courses.{Around, Gone, Inside, Outside, Place, Sight, Standing, met_by, place_of}
 use Rattle.poll_session.specs.Outside.{appended}
+use Rattle.poll_session.proofs.Sending.{appended_on}
 use Rattle.poll_session.specs.Polls.{Counted, Deeds, IsHeld, IsStill, IsWhole, Runs, followed_by}
 
 -- ---- lists
@@ -24,14 +25,6 @@ behind_on a b (Some told) = ap Some (sym (append_assoc a b told))
 pub behind_none : (o : Option (List ℕ)) → o ≡ behind [] o
 behind_none None = refl
 behind_none (Some told) = refl
-
-pub appended_on : (o : Option (List ℕ)) (a b : List ℕ) → appended (appended o a) b ≡ appended o (a ++ b)
-appended_on None a b = refl
-appended_on (Some told) a b = ap Some (append_assoc told a b)
-
-pub appended_none : (o : Option (List ℕ)) → o ≡ appended o []
-appended_none None = refl
-appended_none (Some told) = ap Some (sym (append-nil told))
 
 -- nothing behind a list
 pub with_none : {A : Type 0} (xs ys : List A) → ys ≡ [] → xs ++ ys ≡ xs

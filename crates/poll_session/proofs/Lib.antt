@@ -1,2 +1,4 @@
+pub mod Sending
+pub mod Flat
 pub mod Joining
 pub mod StepRuns

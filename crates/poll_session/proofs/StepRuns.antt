@@ -19,7 +19,8 @@ use Rattle.poll_session.specs.Courses.{Around, Gone, Inside, Outside, Place, Sig
 use Rattle.poll_session.specs.Outside.{Counts, NoneFalls}
 use Rattle.poll_session.specs.Polls.{Counted, Deeds, IsHeld, IsStill, IsWhole, Runs}
 use Rattle.poll_session.specs.Steps.{Sent, turned}
-use Rattle.poll_session.proofs.Joining.{appended_none, behind_none}
+use Rattle.poll_session.proofs.Joining.{behind_none}
+use Rattle.poll_session.proofs.Sending.{appended_none}
 
 around_none : (c : Client) (p : Place) → Around c p [] [] p
 around_none c Outside = (refl, refl)
@@ -101,7 +102,7 @@ module _ (s : Standing) (serves : s.turn ≡ turn.Serve) (a : Seated) (n : ℕ) 
     last = s.stage.serial;
     rest = rest;
     client = refl;
-    around = ap (λ (z : Turn). place_of z) serves;
+    around = subst (λ (p : Place). Around s.client p [] [] Inside) (sym (ap place_of serves)) refl;
     grew = grew_none a;
     came_in = behind_none l;
     bytes = refl;
@@ -208,7 +209,7 @@ module _ (s : Standing) (serves : s.turn ≡ turn.Serve) (a : Seated) (n : ℕ) 
     last = s.stage.serial;
     rest = s.unsent;
     client = refl;
-    around = ap (λ (z : Turn). place_of z) serves;
+    around = subst (λ (p : Place). Around s.client p [] [] Inside) (sym (ap place_of serves)) refl;
     grew = grew_none a;
     came_in = came_in;
     bytes = refl;

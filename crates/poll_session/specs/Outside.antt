@@ -1,6 +1,7 @@
 -- Sources and sinks that may say "not yet".
 use Rattle.std.specs.Prelude.{◌≡◌, ℕ, ◌≤◌, List, ◌++◌, length, take, Option, Some, None, IfSome, ⊤}
 use Rattle.portal_base.specs.Outside.{HasRisen, Reads}
+use Rattle.session.specs.Items.{joined}
 use Rattle.portal_base.specs.declared.outside.ReadAnswer.TheVariants as answer
 use Rattle.poll_session.specs.declared.outside.PollRead.{PollRead}
 use Rattle.poll_session.specs.declared.outside.PollRead.TheVariants as read
@@ -78,3 +79,10 @@ abbrev pub IfWriteWaits : PollWrote → Type 0 → Type 0
 IfWriteWaits (wrote.Took n) P = ⊤
 IfWriteWaits wrote.NotYet P = P
 IfWriteWaits wrote.Failed P = ⊤
+
+-- ---- sinks of pieces
+
+-- the bytes of the pieces that are told
+abbrev pub flat : Option (List (List ℕ)) → Option (List ℕ)
+flat None = None
+flat (Some pieces) = Some (joined pieces)

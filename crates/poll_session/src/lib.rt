@@ -7,9 +7,10 @@
 //! said "not yet", or as many bytes were read as a poll reads. Polls in a row do
 //! together what they do one by one.
 //!
-//! **Rooms**: [`outside`] has sources and sinks that may say "not yet", [`course`]
-//! is how far a connection has come, [`ask`], [`read`] and [`send`] are the steps of a
-//! poll, [`serve`] goes on by them, and [`poll_session`] is the connection as a future.
+//! **Rooms**: [`outside`] has sources and sinks that may say "not yet", [`prompt`]
+//! those that never do. [`course`] is how far a connection has come, [`ask`], [`read`]
+//! and [`send`] are the steps of a poll, [`serve`] goes on by them, [`stages`] are Enter,
+//! the items and Leave, and [`poll_session`] is the connection as a future.
 //!
 //! ```text
 //! let session = PollSession::new(alloc, desk, who, Kind::Mount, settings, source, sink);
@@ -20,6 +21,7 @@ pub mod ask;
 pub mod course;
 pub mod outside;
 pub mod poll_session;
+pub mod prompt;
 pub mod read;
 pub mod send;
 pub mod serve;
