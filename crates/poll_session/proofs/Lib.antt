@@ -2,3 +2,5 @@ pub mod Sending
 pub mod Flat
 pub mod Joining
 pub mod StepRuns
+pub mod Asking
+pub mod Stages

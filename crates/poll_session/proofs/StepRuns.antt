@@ -37,6 +37,18 @@ silent came = record { read = []; items = []; acts = []; outcomes = []; came = c
 abbrev pub nothing : Deeds
 nothing = silent []
 
+-- nothing but these bytes are written
+abbrev pub wrote : List ℕ → Deeds
+wrote bytes = record { read = []; items = []; acts = []; outcomes = []; came = []; pieces = []; written = bytes; passed = [] }
+
+-- one item is asked, with these outcomes
+abbrev pub asked_one : Client → ℕ → List ℕ → Act → List Outcome → Deeds
+asked_one c serial item act os = record { read = []; items = item ∷ []; acts = act ∷ []; outcomes = os; came = os; pieces = pieces_of c act serial os; written = []; passed = [] }
+
+-- a piece is read, of which these bytes are passed over
+abbrev pub read_one : List ℕ → List ℕ → Deeds
+read_one piece passed = record { read = piece; items = []; acts = []; outcomes = []; came = []; pieces = []; written = []; passed = passed }
+
 module _ (s : Standing) (a b : Seated) (n m : ℕ) (l : Option (List ℕ)) (r : Counts) (o : Option (List ℕ)) (k : Counts) where
   -- what is done next changes, or what the desk knows
   pub runs_turned : (next : Turn) (came : List Outcome) → n ≤ m → Around s.client (place_of s.turn) came [] (place_of next) → Grew a came b
@@ -70,9 +82,6 @@ runs_none s v =
 module _ (s : Standing) (serves : s.turn ≡ turn.Serve) (a : Seated) (n : ℕ) (l : Option (List ℕ)) (r : Counts) (o o' : Option (List ℕ)) (k k' : Counts) (falls : NoneFalls k k') where
   unmet : (e : Served) → met_by s.turn ≡ Some e → ⊥
   unmet e is = let none : met_by s.turn ≡ None = ap met_by serves in absurd (cc)
-
-  abbrev pub wrote : List ℕ → Deeds
-  wrote bytes = record { read = []; items = []; acts = []; outcomes = []; came = []; pieces = []; written = bytes; passed = [] }
 
   -- some of what was unsent is sent
   pub runs_sent : (u : List ℕ) (h : Sent s.unsent o u o') → Runs s (sight a n l r o k) (wrote h.written) (record s { unsent = u }) (sight a n l r o' k')
@@ -126,18 +135,6 @@ module _ (s t : Standing) (serves : s.turn ≡ turn.Serve) (inside : place_of t.
   unmet_yet : (e : Served) → met_by s.turn ≡ Some e → ⊥
   unmet_yet e was = let none : met_by s.turn ≡ None = ap met_by serves in absurd (cc)
 
-  abbrev pub asked_one : Deeds
-  asked_one = record {
-    read = [];
-    items = item ∷ [];
-    acts = act ∷ [];
-    outcomes = os;
-    came = os;
-    pieces = pieces_of s.client act s.stage.serial os;
-    written = [];
-    passed = [];
-  }
-
   around_one : Around s.client (place_of s.turn) os os (place_of t.turn)
   around_one =
       let here : place_of s.turn ≡ Inside = ap place_of serves in
@@ -151,7 +148,7 @@ module _ (s t : Standing) (serves : s.turn ≡ turn.Serve) (inside : place_of t.
       ∙ ap (λ (z : List ℕ). (item ++ []) ++ z) (sym (append-nil t.left))))
 
   pub runs_asked : (a b : Seated) (n m : ℕ) (l : Option (List ℕ)) (r : Counts) (o : Option (List ℕ)) (k : Counts) → n ≤ m → Grew a os b
-      → (IsWhole (met_by t.turn) → (t.unsent ≡ joined (pieces_of s.client act s.stage.serial os)) × (t.stage.serial ≡ serial_past s.client act s.stage.serial os)) → Runs s (sight a n l r o k) asked_one t (sight b m l r o k)
+      → (IsWhole (met_by t.turn) → (t.unsent ≡ joined (pieces_of s.client act s.stage.serial os)) × (t.stage.serial ≡ serial_past s.client act s.stage.serial os)) → Runs s (sight a n l r o k) (asked_one s.client s.stage.serial item act os) t (sight b m l r o k)
   runs_asked a b n m l r o k more grew said = record {
     last = serial_past s.client act s.stage.serial os;
     rest = joined (pieces_of s.client act s.stage.serial os);
@@ -178,11 +175,8 @@ module _ (s : Standing) (serves : s.turn ≡ turn.Serve) (a : Seated) (n : ℕ) 
   unmet_here : (e : Served) → met_by s.turn ≡ Some e → ⊥
   unmet_here e was = let none : met_by s.turn ≡ None = ap met_by serves in absurd (cc)
 
-  abbrev pub read_one : List ℕ → Deeds
-  read_one passed = record { read = piece; items = []; acts = []; outcomes = []; came = []; pieces = []; written = []; passed = passed }
-
   -- a piece is held
-  pub runs_read : Runs s (sight a n l r o k) (read_one []) (record s { left = s.left ++ piece }) (sight a n l' r' o k)
+  pub runs_read : Runs s (sight a n l r o k) (read_one piece []) (record s { left = s.left ++ piece }) (sight a n l' r' o k)
   runs_read = record {
     last = s.stage.serial;
     rest = s.unsent;
@@ -204,7 +198,7 @@ module _ (s : Standing) (serves : s.turn ≡ turn.Serve) (a : Seated) (n : ℕ) 
   }
 
   -- or passed over, where an ending is met
-  pub runs_passed : (e : Served) → (IsHeld (Some e) → piece ≡ []) → Runs s (sight a n l r o k) (read_one piece) (turned s (turn.Leave e)) (sight a n l' r' o k)
+  pub runs_passed : (e : Served) → (IsHeld (Some e) → piece ≡ []) → Runs s (sight a n l r o k) (read_one piece piece) (turned s (turn.Leave e)) (sight a n l' r' o k)
   runs_passed e why = record {
     last = s.stage.serial;
     rest = s.unsent;

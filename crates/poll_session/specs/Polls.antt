@@ -102,9 +102,8 @@ pub record Runs (s : Standing) (v : Sight) (d : Deeds) (t : Standing) (w : Sight
 -- ---- endings
 
 -- no whole item is left, and nothing is unsent
-pub record IsIdle (t : Standing) : Type 0 where
-  pub no_item : Cuts t.stage.phase t.left (no_item stop.More)
-  pub sent : t.unsent ≡ []
+abbrev pub IsIdle : Standing → Type 0
+IsIdle t = Cuts t.stage.phase t.left (no_item stop.More) × (t.unsent ≡ [])
 
 -- nothing is told to come
 abbrev pub IsDry : Sight → Type 0
@@ -124,9 +123,14 @@ EndsAs served.ReadFault t v w passed came = HasRisen v.reading.faults w.reading.
 EndsAs served.WriteFault t v w passed came = HasRisen v.writing.faults w.writing.faults
 EndsAs served.Spent t v w passed came = (longest < t.before + length t.left + length passed)
     × (length passed ≤ longest_piece) × IsIdle t
-EndsAs (served.Full cost limit) t v w passed came =
-    came ≡ Denied (enter t.client) (refused.Full cost limit) ∷ []
+EndsAs (served.Full cost limit) t v w passed came = (more : List Outcome)
+    × (came ≡ Denied (enter t.client) (refused.Full cost limit) ∷ more)
 EndsAs served.Memory t v w passed came = Unit {0}
+
+-- an ending that is met behind Enter
+abbrev pub IsLater : Served → Type 0
+IsLater (served.Full cost limit) = ⊥
+IsLater e = Unit {0}
 
 -- an ending is met only so
 abbrev pub Meets : Option Served → Option Served → Standing → Sight → Sight → List ℕ
