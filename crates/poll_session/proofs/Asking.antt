@@ -11,7 +11,6 @@ use Rattle.portal_model.specs.Seated.{Seated}
 use Rattle.session.specs.declared.act.Act.{Act}
 use Rattle.session.specs.declared.act.Act.TheVariants.{Nothing, Line}
 use Rattle.session.specs.declared.act.Client.{Client}
-use Rattle.session.specs.declared.act.ItemError.{ItemError}
 use Rattle.session.specs.declared.phase.Phase.{Phase}
 use Rattle.session.specs.declared.phase.Phase.TheVariants as due
 use Rattle.session.specs.declared.served.Fed.{Fed}
@@ -52,7 +51,7 @@ put_off_grew a b request again h = record {
 }
 
 -- what a line asks asks nothing of the portal
-line_silent : (found : AuthAnswer) (act : Act) (request : Request) → Ok {E = ItemError} act ≡ line_act found → asked_by act ≡ request ∷ [] → ⊥
+line_silent : (found : AuthAnswer) (act : Act) (request : Request) → line_act found ≡ Ok act → asked_by act ≡ request ∷ [] → ⊥
 line_silent (Say reply) act request is asked =
     let same : act ≡ Line reply = cc in
     let none : asked_by act ≡ [] = ap asked_by same in
@@ -69,7 +68,7 @@ due_stays c due.ZeroByte item act request means asked =
     let same : act ≡ Nothing = cc in
     let none : asked_by act ≡ [] = ap asked_by same in
     absurd (cc)
-due_stays c (due.Handshake h) item act request means asked = absurd (line_silent (step h (line_of item)).0 act request means asked)
+due_stays c (due.Handshake h) item act request means asked = absurd (line_silent (step h (line_of item)).0 act request (sym means) asked)
 due_stays c due.Messages item act request means asked = refl
 due_stays c due.Frames item act request means asked = refl
 
@@ -120,7 +119,7 @@ module _ (s : Standing) (serves : s.turn ≡ turn.Serve) (sent : s.unsent ≡ []
 
   -- a whole item stands there
   module _ (len : ℕ) (act : Act) (cuts : Cuts s.stage.phase s.left (whole_item len)) (means : Means s.client s.stage.phase (take len s.left) (Ok act)) where
-    after_item : Phase
+    abbrev pub after_item : Phase
     after_item = next_phase s.client s.stage.phase (take len s.left)
 
     item_len : length (take len s.left) ≡ len
