@@ -12,7 +12,8 @@ ghost use Rattle.session.specs.Dues.{Became, CanTell, due_of};
 ghost use Rattle.session.specs.declared.act.Act.{Act as AnAct};
 ghost use Rattle.session.specs.declared.act.Client.{Client as AClient};
 
-use crate::course::{Course, Turn, meet};
+use crate::course::{Course, Turn};
+use crate::meet::{close, meet};
 use crate::send::put;
 use futures::task::Context;
 use portal_base::memory::Replica;
@@ -61,13 +62,13 @@ pub fn enter<D: TryDesk>(
 {
     desk.known();
     let Ok(who) = course.client.who.replica(alloc) else {
-        course.turn = Turn::Over(Served::Memory);
+        close(course, Served::Memory);
         return;
     };
     let kind = course.client.kind;
     match desk.try_ask(alloc, Request::Enter { who, kind }) {
         Asked::Answered(_) => course.turn = Turn::Serve,
-        Asked::Refused(refused) => course.turn = Turn::Over(refused_ending(refused)),
+        Asked::Refused(refused) => close(course, refused_ending(refused)),
         Asked::Busy { .. } => {
             let _ = context.yield_now::<()>();
         }
@@ -95,7 +96,7 @@ pub fn leave<D: TryDesk>(
     desk.known();
     match desk.try_ask(alloc, Request::Leave) {
         // It isn't refused, since the connection is open.
-        Asked::Answered(_) | Asked::Refused(_) => course.turn = Turn::Over(ending),
+        Asked::Answered(_) | Asked::Refused(_) => close(course, ending),
         Asked::Busy { .. } => {
             let _ = context.yield_now::<()>();
         }
@@ -187,7 +188,10 @@ fn say(alloc: Global, course: &mut Course, due: Due, told: Told) -> bool
     match answer(alloc, &course.client, due, told, course.stage.serial) {
         Ok(speech) => {
             course.stage.serial = speech.serial;
-            put(&mut course.unsent, speech.pieces.as_slice()).is_ok()
+            match put(&mut course.unsent, speech.pieces.as_slice()) {
+                Ok(()) => true,
+                Err(_) => false,
+            }
         }
         Err(_) => false,
     }

@@ -38,15 +38,3 @@ pub struct Course {
     // A connection has no more bytes than it may have.
     ghost room: { before + length left.items ≤ 2 ^ 40 },
 }
-
-/// An ending is met, and Leave is due.
-pub fn meet(course: &mut Course, ending: Served)
-    ensures client { course.new.client ≡ course.old.client }
-    ensures stage { course.new.stage ≡ course.old.stage }
-    ensures turn { course.new.turn ≡ Turn.Leave ending }
-    ensures before { course.new.before ≡ course.old.before }
-    ensures left { course.new.left ≡ course.old.left }
-    ensures unsent { course.new.unsent ≡ course.old.unsent }
-{
-    course.turn = Turn::Leave(ending);
-}

@@ -8,8 +8,8 @@
 //! together what they do one by one.
 //!
 //! **Rooms**: [`outside`] has sources and sinks that may say "not yet", [`prompt`]
-//! those that never do. [`course`] is how far a connection has come, [`ask`], [`read`]
-//! and [`send`] are the steps of a poll, [`serve`] goes on by them, [`stages`] are Enter,
+//! those that never do. [`course`] is how far a connection has come and [`meet`] how
+//! it ends. [`ask`], [`read`] and [`send`] are the steps of a poll, [`serve`] goes on by them, [`stages`] are Enter,
 //! the items and Leave, and [`poll_session`] is the connection as a future.
 //!
 //! ```text
@@ -19,6 +19,7 @@
 
 pub mod ask;
 pub mod course;
+pub mod meet;
 pub mod outside;
 pub mod poll_session;
 pub mod prompt;

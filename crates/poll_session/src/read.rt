@@ -10,7 +10,8 @@ ghost use Rattle.poll_session.specs.declared.course.Turn.TheVariants as turn;
 ghost use Rattle.portal_model.specs.Seated.{Seated};
 ghost use Rattle.session.specs.Pumps.{longest_piece};
 
-use crate::course::{Course, meet};
+use crate::course::Course;
+use crate::meet::meet;
 use crate::outside::{PollRead, PollSource};
 use futures::task::Context;
 use session::parts::front;

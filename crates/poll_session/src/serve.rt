@@ -9,7 +9,8 @@ ghost use Rattle.poll_session.specs.declared.course.Turn.TheVariants as turn;
 ghost use Rattle.session.specs.Pumps.{longest_piece};
 
 use crate::ask::{Next, ask_next};
-use crate::course::{Course, meet};
+use crate::course::Course;
+use crate::meet::meet;
 use crate::outside::{PollSink, PollSource};
 use crate::read::{Taken, take_piece};
 use crate::send::{Flushed, flush};

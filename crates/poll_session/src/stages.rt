@@ -12,6 +12,7 @@ ghost use Rattle.session.specs.Pumps.{longest_piece};
 
 use crate::ask::{enter, leave};
 use crate::course::{Course, Turn};
+use crate::meet::close;
 use crate::outside::{PollSink, PollSource};
 use crate::serve::attend;
 use futures::task::Context;
@@ -58,7 +59,7 @@ pub fn enter_if_due<D: TryDesk>(
         return;
     };
     if !make_room(buffer) {
-        course.turn = Turn::Over(Served::Memory);
+        close(course, Served::Memory);
         return;
     }
     enter(alloc, course, desk, context);

@@ -1,0 +1,15 @@
+pub mod Cuts
+pub mod Asked
+pub mod Items
+pub mod Answers
+pub mod Ledger
+pub mod Standings
+pub mod Sessions
+pub mod Pumps
+pub mod Connections
+pub mod Dues
+pub mod Outside
+pub mod Courses
+pub mod Polls
+pub mod Steps
+pub mod Stages
