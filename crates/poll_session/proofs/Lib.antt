@@ -4,3 +4,4 @@ pub mod Joining
 pub mod StepRuns
 pub mod Asking
 pub mod Stages
+pub mod Serving
