@@ -159,3 +159,46 @@ module _ (s : Standing) (serves : s.turn ≡ turn.Serve) (idle : IsIdle s) (a : 
     where
       unmet : (f : Served) → met_by s.turn ≡ Some f → ⊥
       unmet f was = let none : met_by s.turn ≡ None = ap met_by serves in absurd (cc)
+
+-- ---- one piece after another
+
+module _ (n : ℕ) (s0 : Standing) (v0 : Sight) (s : Standing) (v : Sight) (so : Going n s0 v0 s v) (t : Standing) (w : Sight) where
+  paused_at : (z : Turn) → t.turn ≡ z → (d : Deeds) → Runs s v d t w → Pauses z s v d t w → Attends s0 v0 t w
+  paused_at turn.Serve is d runs h =
+      let x = going_waits n s0 v0 s v t w so d runs is h in
+      (x.0, x.2, x.3)
+  paused_at (turn.Leave e) is d runs h =
+      let x = going_met n s0 v0 s v t w so d runs (e, is, h.0, h.1) in
+      (x.0, x.2, x.3)
+  paused_at turn.Enter is d runs h = absurd h
+  paused_at (turn.Over e) is d runs h = absurd h
+
+  -- the items of a piece are served, and no more is read
+  pub attend_pauses : Serves false s v t w → Attends s0 v0 t w
+  attend_pauses (d, none, runs, pauses) = paused_at t.turn refl d runs pauses
+
+  -- or more is to be read
+  pub attend_on : Serves true s v t w → Going n s0 v0 t w × IsIdle t
+  attend_on (d, none, runs, serves, idle) =
+      let on = going_on n 0 s0 v0 s v t w so d (none_read d none) runs serves in
+      ((on.0, (let e = on.1 in omega (arith, e)), on.2, on.3), idle)
+
+  -- a piece came
+  pub attend_got : (m : ℕ) → Takes (taken.Got m) s v t w → Going (n + m) s0 v0 t w
+  attend_got m (d, runs, serves, least, most, many) = going_on n m s0 v0 s v t w so d many runs serves
+
+  -- nothing came yet
+  pub attend_waits : IsIdle s → Takes taken.NotYet s v t w → Attends s0 v0 t w
+  attend_waits idle (d, runs, same, none, risen) =
+      paused_at turn.Serve (ap (λ (z : Standing). z.turn) same ∙ so.3) d runs (inr (inr (inl risen, subst IsIdle (sym same) idle)))
+
+  -- the connection ends
+  pub attend_met : Takes taken.Met s v t w → Attends s0 v0 t w
+  attend_met (d, runs, met) =
+      let x = going_met n s0 v0 s v t w so d runs met in
+      (x.0, x.2, x.3)
+
+-- as many bytes are read as a poll reads
+pub attend_much : (n : ℕ) (s0 : Standing) (v0 : Sight) (s : Standing) (v : Sight) → Going n s0 v0 s v → IsIdle s → most_read ≤ n → Attends s0 v0 s v
+attend_much n s0 v0 s v (d, many, runs, serves) idle much =
+    (d, runs, subst (λ (z : Turn). Pauses z s0 v0 d s v) (sym serves) (inr (inr (inr (omega (arith, many, much)), idle))))
