@@ -5,3 +5,4 @@ pub mod StepRuns
 pub mod Asking
 pub mod Stages
 pub mod Serving
+pub mod LawsOfPolls

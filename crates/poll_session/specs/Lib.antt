@@ -3,3 +3,4 @@ pub mod Courses
 pub mod Polls
 pub mod Steps
 pub mod Stages
+pub mod Laws

@@ -19,6 +19,7 @@
 
 pub mod ask;
 pub mod course;
+pub mod laws;
 pub mod meet;
 pub mod outside;
 pub mod poll_session;

@@ -1,0 +1,41 @@
+-- Laws of polls, one after another, which the public functions of src/laws.rt state.
+use Rattle.std.specs.Prelude.{◌≡◌, ℕ, List, ◌++◌, Some}
+use Rattle.portal_base.specs.Outside.{behind}
+use Rattle.session.specs.declared.act.Client.{Client}
+use Rattle.session.specs.declared.served.Served.{Served}
+use Rattle.session.specs.Answers.{Answers}
+use Rattle.session.specs.Cuts.{first_phase}
+use Rattle.session.specs.Items.{AreItems, joined}
+use Rattle.session.specs.Ledger.{Grew}
+use Rattle.poll_session.specs.declared.course.Turn.TheVariants as turn
+use Rattle.poll_session.specs.Courses.{Around, Gone, Outside, Sight, Standing, fresh}
+use Rattle.poll_session.specs.Outside.{appended}
+use Rattle.poll_session.specs.Polls.{Deeds, IsWhole, Runs, followed_by}
+
+-- Of two polls, or runs of polls, that follow each other: what the first did, each list followed by
+-- what the second did, is what both did, from the state before the first to that after the second.
+abbrev pub Join : Type 0
+Join = (s : Standing) (v : Sight) (d : Deeds) (t : Standing) (w : Sight) (e : Deeds) (x : Standing)
+    (y : Sight) → Runs s v d t w → Runs t w e x y → Runs s v (followed_by d e) x y
+
+-- A connection from before Enter until it is over: the items of what was read are asked and
+-- answered, each once, in order, between Enter and Leave, or Enter was refused; and what answers
+-- them was written, but for what is unsent at an ending that cuts it.
+pub record IsConnection (c : Client) (v : Sight) (d : Deeds) (t : Standing) (w : Sight)
+    (e : Served) : Type 0 where
+  pub last : ℕ
+  pub rest : List ℕ
+  pub around : Around c Outside d.came d.outcomes Gone
+  pub grew : Grew v.seated d.came w.seated
+  pub came_in : v.left ≡ behind d.read w.left
+  pub bytes : d.read ≡ joined d.items ++ (t.left ++ d.passed)
+  pub each : AreItems c (first_phase c.kind) d.items d.acts
+  pub answers : Answers c 0 d.acts d.outcomes d.pieces last
+  pub output : joined d.pieces ≡ d.written ++ rest
+  pub went_out : w.told ≡ appended v.told d.written
+  pub whole : IsWhole (Some e) → rest ≡ t.unsent
+
+-- What polls did together, from the first to the one that is ready, is a connection served.
+abbrev pub Whole : Type 0
+Whole = (c : Client) (v : Sight) (d : Deeds) (t : Standing) (w : Sight) (e : Served)
+    → Runs (fresh c) v d t w → t.turn ≡ turn.Over e → IsConnection c v d t w e
