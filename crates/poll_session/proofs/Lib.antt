@@ -5,4 +5,5 @@ pub mod StepRuns
 pub mod Asking
 pub mod Stages
 pub mod Serving
+pub mod Connected
 pub mod LawsOfPolls

@@ -114,8 +114,6 @@ pub fn ask_next<D: TryDesk>(alloc: Global, course: &mut Course, desk: &mut D) ->
         (sight (D.seated desk.old) (D.busy desk.old) left reading told writing)
         (standing course.new)
         (sight (D.seated desk.new) (D.busy desk.new) left reading told writing) }
-    ensures fits { Fits course.old.turn course.old.client (D.seated desk.old)
-        → Fits course.new.turn course.new.client (D.seated desk.new) }
     ensures goes { D.goes desk.old desk.new }
 {
     let len = match next_cut(&course.stage.phase, course.left.as_slice(), 0) {

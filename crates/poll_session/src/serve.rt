@@ -2,7 +2,7 @@
 
 ghost use Rattle.std.specs.Prelude.{◌≡◌, length, true, false, List, Option, ℕ};
 ghost use Rattle.futures.specs.Task.{IsArmed, Keeps};
-ghost use Rattle.poll_session.specs.Courses.{Fits, sight, standing};
+ghost use Rattle.poll_session.specs.Courses.{sight, standing};
 ghost use Rattle.poll_session.specs.Outside.{Counts};
 ghost use Rattle.poll_session.specs.Steps.{Attends, Serves};
 ghost use Rattle.poll_session.specs.declared.course.Turn.TheVariants as turn;
@@ -40,8 +40,6 @@ fn serve_items<D: TryDesk, K: PollSink>(
         (standing course.new)
         (sight (D.seated desk.new) (D.busy desk.new) left reading (K.told sink.new)
         (K.counts sink.new)) }
-    ensures fits { Fits course.old.turn course.old.client (D.seated desk.old)
-        → Fits course.new.turn course.new.client (D.seated desk.new) }
     ensures registered { result ≡ false → course.new.turn ≡ turn.Serve → IsArmed context.new }
     ensures kept { Keeps context.old context.new }
     ensures goes { D.goes desk.old desk.new }
@@ -85,8 +83,6 @@ pub fn attend<D: TryDesk, S: PollSource, K: PollSink>(
         (standing course.new)
         (sight (D.seated desk.new) (D.busy desk.new) (S.left source.new) (S.counts source.new)
         (K.told sink.new) (K.counts sink.new)) }
-    ensures fits { Fits course.old.turn course.old.client (D.seated desk.old)
-        → Fits course.new.turn course.new.client (D.seated desk.new) }
     ensures long_still { length buffer.new ≡ longest_piece }
     ensures registered { course.new.turn ≡ turn.Serve → IsArmed context.new }
     ensures kept { Keeps context.old context.new }

@@ -95,7 +95,9 @@ pub fn attend_if_due<D: TryDesk, S: PollSource, K: PollSink>(
     let Turn::Serve = course.turn else {
         return;
     };
+    desk.known();
     attend(alloc, course, buffer, desk, source, sink, context);
+    desk.known();
 }
 
 /// Asks Leave where it is due.
