@@ -33,7 +33,7 @@ use Rattle.poll_session.specs.declared.course.Turn.{Turn}
 use Rattle.poll_session.specs.declared.course.Turn.TheVariants as turn
 use Rattle.poll_session.specs.Courses.{Around, Inside, Place, Sight, Standing, met_by, place_of, sight}
 use Rattle.poll_session.specs.Outside.{Counts}
-use Rattle.poll_session.specs.Polls.{EndsAs, IsLater, IsWhole}
+use Rattle.poll_session.specs.Polls.{EndsAs, IsWhole}
 use Rattle.poll_session.specs.Steps.{ActDone, ActIs, AsksNext, NextIs, Stops, turned}
 use Rattle.poll_session.proofs.StepRuns.{asked_one, nothing, runs_asked, runs_none, runs_turned, silent}
 
@@ -85,23 +85,23 @@ module _ (s : Standing) (serves : s.turn ≡ turn.Serve) (sent : s.unsent ≡ []
   never_met e x was = let none : met_by s.turn ≡ None = ap met_by serves in absurd (cc)
 
   -- an ending is met here, and nothing is asked
-  pub meets_here : (e : Served) → IsLater e → ((v w : Sight) → EndsAs e (turned s (turn.Leave e)) v w [] []) → AsksNext next.Met s (sight a n l r o k) (turned s (turn.Leave e)) (sight a n l r o k)
-  meets_here e later ends = (
+  pub meets_here : (e : Served) → ((v w : Sight) → EndsAs e (turned s (turn.Leave e)) v w [] []) → AsksNext next.Met s (sight a n l r o k) (turned s (turn.Leave e)) (sight a n l r o k)
+  meets_here e ends = (
     nothing,
     refl,
     runs_turned s a a n n l r o k (turn.Leave e) [] (omega arith) inside_still (grew_none a) (λ f was. never_met f (Some e) was),
-    (e, refl, later, ends (sight a n l r o k) (sight a n l r o k)),
+    (e, refl, ends (sight a n l r o k) (sight a n l r o k)),
   )
 
   -- no item stands at the front
-  ends_at : (what : Stop) (e : Served) → fed_of s.before what ≡ fed.Over e → Remains s.client s.stage.phase s.left what → IsLater e × ((v w : Sight) → EndsAs e (turned s (turn.Leave e)) v w [] [])
+  ends_at : (what : Stop) (e : Served) → fed_of s.before what ≡ fed.Over e → Remains s.client s.stage.phase s.left what → (v w : Sight) → EndsAs e (turned s (turn.Leave e)) v w [] []
   ends_at stop.More e is remains = absurd (cc)
   ends_at (stop.Bad rule) e is remains =
       let same : served.Malformed s.before rule ≡ e = cc in
-      subst (λ (z : Served). IsLater z × ((v w : Sight) → EndsAs z (turned s (turn.Leave z)) v w [] [])) same (tt, λ v w. (refl, remains, sent))
+      subst (λ (z : Served). (v w : Sight) → EndsAs z (turned s (turn.Leave z)) v w [] []) same (λ v w. (refl, remains, sent))
   ends_at stop.TooLong e is remains =
       let same : served.LineTooLong s.before ≡ e = cc in
-      subst (λ (z : Served). IsLater z × ((v w : Sight) → EndsAs z (turned s (turn.Leave z)) v w [] [])) same (tt, λ v w. (refl, remains, sent))
+      subst (λ (z : Served). (v w : Sight) → EndsAs z (turned s (turn.Leave z)) v w [] []) same (λ v w. (refl, remains, sent))
 
   idle_at : (what : Stop) → ((e : Served) → fed_of s.before what ≡ fed.Over e → ⊥) → Remains s.client s.stage.phase s.left what → Remains s.client s.stage.phase s.left stop.More
   idle_at stop.More never remains = remains
@@ -110,8 +110,7 @@ module _ (s : Standing) (serves : s.turn ≡ turn.Serve) (sent : s.unsent ≡ []
 
   pub stops_here : (found : Next) (what : Stop) (t : Standing) → Stops found what s t → Remains s.client s.stage.phase s.left what → AsksNext found s (sight a n l r o k) t (sight a n l r o k)
   stops_here next.Met what t (e, is, same) remains =
-      let ends = ends_at what e is remains in
-      subst (λ (z : Standing). AsksNext next.Met s (sight a n l r o k) z (sight a n l r o k)) (sym same) (meets_here e ends.0 ends.1)
+      subst (λ (z : Standing). AsksNext next.Met s (sight a n l r o k) z (sight a n l r o k)) (sym same) (meets_here e (ends_at what e is remains))
   stops_here next.NoItem what t (never, same) remains =
       subst (λ (z : Standing). AsksNext next.NoItem s (sight a n l r o k) z (sight a n l r o k)) (sym same) (nothing, refl, runs_none s (sight a n l r o k), (serves, (idle_at what never remains, sent)))
   stops_here next.Asked what t h remains = absurd h
@@ -158,6 +157,6 @@ module _ (s : Standing) (serves : s.turn ≡ turn.Serve) (sent : s.unsent ≡ []
           asked_one s.client s.stage.serial (take len s.left) act h.outcomes,
           refl,
           runs_asked s t serves there sent h.client (take len s.left) act h.outcomes (left_is t b m h there) (whole_alone s.stage.phase s.left len cuts, means) h.phase (before_is t b m h there) h.each a b n m l r o k (busy_is t b m h there) h.grew (λ whole. absurd (subst (λ (z : Turn). IsWhole (met_by z)) leaves whole)),
-          (served.Memory, leaves, tt, tt),
+          (served.Memory, leaves, tt),
         )
     act_asks next.NoItem t b m h = absurd h

@@ -20,7 +20,7 @@ use Rattle.poll_session.specs.declared.read.Taken.TheVariants as taken
 use Rattle.poll_session.specs.declared.send.Flushed.TheVariants as flushed
 use Rattle.poll_session.specs.Courses.{Around, Inside, Place, Sight, Standing, met_by, place_of, sight}
 use Rattle.poll_session.specs.Outside.{Counts, Faulted, NoneFalls, Waited}
-use Rattle.poll_session.specs.Polls.{Deeds, EndsAs, IsDry, IsHeld, IsIdle, IsLater, Runs, Waits, followed_by, most_read}
+use Rattle.poll_session.specs.Polls.{Deeds, EndsAs, IsDry, IsHeld, IsIdle, Runs, Waits, followed_by, most_read}
 use Rattle.poll_session.specs.Steps.{AsksNext, Attends, Flushes, Holds, IsServed, MeetsOne, Pauses, Sent, Serves, Takes, TakenIs, turned}
 use Rattle.poll_session.proofs.Joining.{runs_on}
 use Rattle.poll_session.proofs.Stages.{ends_further, waits_further}
@@ -56,13 +56,13 @@ no_length (x ∷ xs) e = absurd (omega (arith, e))
 
 -- an ending is met behind what went on
 pub going_met : (n : ℕ) (s : Standing) (v : Sight) (t : Standing) (w : Sight) (x : Standing) (y : Sight) → Going n s v t w → (e : Deeds) → Runs t w e x y → MeetsOne x w y e.passed e.came → (d : Deeds) × (length d.read ≡ n + length e.read) × Runs s v d x y × Pauses x.turn s v d x y
-going_met n s v t w x y (d, many, runs, serves) e then (met, leaves, later, ends) =
+going_met n s v t w x y (d, many, runs, serves) e then (met, leaves, ends) =
     let none = none_passed s t v w d runs serves in
     let same : e.passed ++ d.passed ≡ e.passed = ap (λ (z : List ℕ). e.passed ++ z) none ∙ append-nil e.passed in (
       followed_by d e,
       (let l = length-append d.read e.read in omega (arith, l, many)),
       runs_on s v d t w e x y runs then,
-      subst (λ (z : Turn). Pauses z s v (followed_by d e) x y) (sym leaves) (later, ends_further met x v w y e.passed (e.passed ++ d.passed) e.came (d.came ++ e.came) runs.counted later same ends),
+      subst (λ (z : Turn). Pauses z s v (followed_by d e) x y) (sym leaves) (ends_further met x v w y e.passed (e.passed ++ d.passed) d.came e.came runs.counted same ends),
     )
 
 -- more is waited for
@@ -100,7 +100,7 @@ module _ (s0 s : Standing) (a0 a : Seated) (n0 n : ℕ) (l : Option (List ℕ)) 
   pub sink_fails : (u : List ℕ) (o' : Option (List ℕ)) (k' : Counts) → Flushes s.unsent o k flushed.Failed u o' k' → Serves false s0 (sight a0 n0 l r o0 k0) (record s { turn = turn.Leave served.WriteFault; unsent = u }) (sight a n l r o' k')
   sink_fails u o' k' ((rest, sent), faulted) =
       serves_false s0 (sight a0 n0 l r o0 k0) (record s { turn = turn.Leave served.WriteFault; unsent = u }) (sight a n l r o' k') 0 refl
-      (going_met 0 s0 (sight a0 n0 l r o0 k0) s (sight a n l r o k) (record s { turn = turn.Leave served.WriteFault; unsent = u }) (sight a n l r o' k') so (wrote sent.written) (runs_broke s serving a n l r o o' k k' faulted.falls u rest sent) (served.WriteFault, refl, tt, faulted.risen))
+      (going_met 0 s0 (sight a0 n0 l r o0 k0) s (sight a n l r o k) (record s { turn = turn.Leave served.WriteFault; unsent = u }) (sight a n l r o' k') so (wrote sent.written) (runs_broke s serving a n l r o o' k k' faulted.falls u rest sent) (served.WriteFault, refl, faulted.risen))
 
   module _ (t : Standing) (b : Seated) (m : ℕ) where
     -- one more item is asked
@@ -140,22 +140,21 @@ module _ (s : Standing) (serves : s.turn ≡ turn.Serve) (idle : IsIdle s) (a : 
   takes_piece taken.NotYet piece l' t least most came_in h = absurd h
   takes_piece taken.Met piece l' t least most came_in (inl same) =
       subst (λ (z : Standing). Takes taken.Met s (sight a n l r o k) z (sight a n l' r o k)) (sym same)
-      (read_one piece piece, runs_passed s serves a n l l' r r o k no_fall piece came_in served.Memory (λ h. absurd h), (served.Memory, refl, tt, tt))
+      (read_one piece piece, runs_passed s serves a n l l' r r o k no_fall piece came_in served.Memory (λ h. absurd h), (served.Memory, refl, tt))
   takes_piece taken.Met piece l' t least most came_in (inr (over, same)) =
       subst (λ (z : Standing). Takes taken.Met s (sight a n l r o k) z (sight a n l' r o k)) (sym same)
-      (read_one piece piece, runs_passed s serves a n l l' r r o k no_fall piece came_in served.Spent (λ h. absurd h), (served.Spent, refl, tt, (over, most, idle)))
+      (read_one piece piece, runs_passed s serves a n l l' r r o k no_fall piece came_in served.Spent (λ h. absurd h), (served.Spent, refl, (over, most, idle)))
 
   -- the source ended
-  ends_dry : (left : List ℕ) → left ≡ s.left → (e : Served) → e ≡ ending_at left → (v w : Sight) → IsDry w → IsLater e × EndsAs e (turned s (turn.Leave e)) v w [] []
-  ends_dry [] same e is v w dry = subst (λ (z : Served). IsLater z × EndsAs z (turned s (turn.Leave z)) v w [] []) (sym is) (tt, (dry, sym same, idle))
+  ends_dry : (left : List ℕ) → left ≡ s.left → (e : Served) → e ≡ ending_at left → (v w : Sight) → IsDry w → EndsAs e (turned s (turn.Leave e)) v w [] []
+  ends_dry [] same e is v w dry = subst (λ (z : Served). EndsAs z (turned s (turn.Leave z)) v w [] []) (sym is) (dry, sym same, idle)
   ends_dry (x ∷ xs) same e is v w dry =
-      subst (λ (z : Served). IsLater z × EndsAs z (turned s (turn.Leave z)) v w [] []) (sym is) (tt, (dry, omega arith, ap length same, idle))
+      subst (λ (z : Served). EndsAs z (turned s (turn.Leave z)) v w [] []) (sym is) (dry, omega arith, ap length same, idle)
 
   pub takes_end : (e : Served) (t : Standing) → e ≡ ending_at s.left → IsDry (sight a n l r o k) → t ≡ turned s (turn.Leave e) → Takes taken.Met s (sight a n l r o k) t (sight a n l r o k)
   takes_end e t is dry same =
-      let ends = ends_dry s.left refl e is (sight a n l r o k) (sight a n l r o k) dry in
       subst (λ (z : Standing). Takes taken.Met s (sight a n l r o k) z (sight a n l r o k)) (sym same)
-      (nothing, runs_turned s a a n n l r o k (turn.Leave e) [] (omega arith) inside_here (grew_none a) (λ f was. absurd (unmet f was)), (e, refl, ends.0, ends.1))
+      (nothing, runs_turned s a a n n l r o k (turn.Leave e) [] (omega arith) inside_here (grew_none a) (λ f was. absurd (unmet f was)), (e, refl, ends_dry s.left refl e is (sight a n l r o k) (sight a n l r o k) dry))
     where
       unmet : (f : Served) → met_by s.turn ≡ Some f → ⊥
       unmet f was = let none : met_by s.turn ≡ None = ap met_by serves in absurd (cc)
@@ -168,7 +167,7 @@ module _ (n : ℕ) (s0 : Standing) (v0 : Sight) (s : Standing) (v : Sight) (so :
       let x = going_waits n s0 v0 s v t w so d runs is h in
       (x.0, x.2, x.3)
   paused_at (turn.Leave e) is d runs h =
-      let x = going_met n s0 v0 s v t w so d runs (e, is, h.0, h.1) in
+      let x = going_met n s0 v0 s v t w so d runs (e, is, h) in
       (x.0, x.2, x.3)
   paused_at turn.Enter is d runs h = absurd h
   paused_at (turn.Over e) is d runs h = absurd h

@@ -1,5 +1,6 @@
 -- The stages of a poll, one after another.
 use Rattle.std.proofs.Common.{◌≡◌, inl, inr, ℕ, ◌+◌, ◌≤◌, List, [], ◌∷◌, ◌++◌, length, Option, Some, None, Ok, Err, refl, sym, ap, ◌∙◌, subst, arith}
+use Rattle.std.specs.Prelude.{IfSome}
 use Rattle.std.proofs.lemmas.List.{append-nil, append_assoc, length-append}
 use Rattle.portal_base.specs.Outside.{HasRisen}
 use Rattle.portal_model.specs.declared.reply.Refused.{Refused}
@@ -8,9 +9,14 @@ use Rattle.portal_model.specs.declared.request.Request.{Request}
 use Rattle.portal_model.specs.Seated.{Seated}
 use Rattle.session.specs.declared.act.Client.{Client}
 use Rattle.session.specs.declared.served.Served.{Served}
+use Rattle.session.specs.declared.phase.Phase.{Phase}
 use Rattle.session.specs.declared.served.Served.TheVariants as served
+use Rattle.session.specs.declared.served.Stop.{Stop}
+use Rattle.session.specs.declared.served.Stop.TheVariants as stop
 use Rattle.session.specs.Answers.{Denied, Made, Outcome}
 use Rattle.session.specs.Connections.{served_by}
+use Rattle.session.specs.Cuts.{Cuts, no_item}
+use Rattle.session.specs.Items.{Remains}
 use Rattle.session.specs.Ledger.{Grew}
 use Rattle.session.specs.Sessions.{enter}
 use Rattle.session.proofs.Grew.{asked_err, asked_ok, grew_none, risen_later}
@@ -18,7 +24,7 @@ use Rattle.poll_session.specs.declared.course.Turn.{Turn}
 use Rattle.poll_session.specs.declared.course.Turn.TheVariants as turn
 use Rattle.poll_session.specs.Courses.{Sight, Standing, fresh, met_by, sight}
 use Rattle.poll_session.specs.Outside.{Counts, NoneFalls}
-use Rattle.poll_session.specs.Polls.{Counted, Deeds, EndsAs, IsHeld, IsLater, Meets, Runs, Waits, followed_by, most_read}
+use Rattle.poll_session.specs.Polls.{Counted, Deeds, EndsAs, IsDry, IsHeld, IsIdle, IsWhole, Meets, Runs, Waits, followed_by, most_read}
 use Rattle.poll_session.specs.Stages.{AfterEnter, AfterItems, AfterLeave, OwesAfterEnter, OwesAfterItems, OwesAfterLeave, SoFar}
 use Rattle.poll_session.specs.Steps.{Attends, Enters, Leaves, Pauses, turned}
 use Rattle.poll_session.proofs.Asking.{put_off_grew}
@@ -27,41 +33,84 @@ use Rattle.poll_session.proofs.StepRuns.{nothing, runs_none, runs_turned, silent
 
 -- ---- reasons and endings, seen from further back
 
+risen_on : (a b c : ℕ) → HasRisen a b → b ≤ c → HasRisen a c
+risen_on a b c h k = omega arith
+
 pub waits_further : (u v w : Sight) (t : Standing) (before read : List ℕ) → Counted u v → Waits v w t read → Waits u w t (before ++ read)
 waits_further u v w t before read c (inl busy) = let e = c.busy in inl (risen_later u.busy v.busy w.busy e busy)
 waits_further u v w t before read c (inr (inl writing)) = let e = c.writing.waits in inr (inl (risen_later u.writing.waits v.writing.waits w.writing.waits e writing))
 waits_further u v w t before read c (inr (inr (inl reading, idle))) = let e = c.reading.waits in inr (inr (inl (risen_later u.reading.waits v.reading.waits w.reading.waits e reading), idle))
 waits_further u v w t before read c (inr (inr (inr much, idle))) = let e = length-append before read in inr (inr (inr (omega (arith, e, much)), idle))
 
--- an ending that is met behind Enter
-pub ends_further : (e : Served) (t : Standing) (u v w : Sight) (passed more : List ℕ) (came all : List Outcome) → Counted u v → IsLater e → more ≡ passed → EndsAs e t v w passed came → EndsAs e t u w more all
-ends_further served.Ended t u v w passed more came all c later same h = h
-ends_further (served.Cut n) t u v w passed more came all c later same h = h
-ends_further (served.Malformed at rule) t u v w passed more came all c later same h = h
-ends_further (served.LineTooLong at) t u v w passed more came all c later same h = h
-ends_further served.ReadFault t u v w passed more came all c later same h = (risen_later u.reading.faults v.reading.faults w.reading.faults c.reading.faults h.0, h.1)
-ends_further served.WriteFault t u v w passed more came all c later same h = risen_later u.writing.faults v.writing.faults w.writing.faults c.writing.faults h
-ends_further served.Spent t u v w passed more came all c later same h = rw same h
-ends_further (served.Full cost limit) t u v w passed more came all c later same h = absurd later
-ends_further served.Memory t u v w passed more came all c later same h = tt
+-- an ending, of what was done before it too
+pub ends_further : (e : Served) (t : Standing) (u v w : Sight) (passed more : List ℕ) (front came : List Outcome) → Counted u v → more ≡ passed → EndsAs e t v w passed came → EndsAs e t u w more (front ++ came)
+ends_further served.Ended t u v w passed more front came c same h = h
+ends_further (served.Cut n) t u v w passed more front came c same h = h
+ends_further (served.Malformed at rule) t u v w passed more front came c same h = h
+ends_further (served.LineTooLong at) t u v w passed more front came c same h = h
+ends_further served.ReadFault t u v w passed more front came c same h = (risen_later u.reading.faults v.reading.faults w.reading.faults c.reading.faults h.0, h.1)
+ends_further served.WriteFault t u v w passed more front came c same h = risen_later u.writing.faults v.writing.faults w.writing.faults c.writing.faults h
+ends_further served.Spent t u v w passed more front came c same h = rw same h
+ends_further (served.Full cost limit) t u v w passed more front came c same (before, after, is) =
+    (front ++ before, after, ap (λ (z : List Outcome). front ++ z) is ∙ sym (append_assoc front before (Denied (enter t.client) (refused.Full cost limit) ∷ after)))
+ends_further served.Memory t u v w passed more front came c same h = tt
 
--- once an ending is met it is still so behind Leave, and while Leave isn't answered
-pub ends_still : (e : Served) (t : Standing) (next : Turn) (u : Sight) (b c : Seated) (m n : ℕ) (l : Option (List ℕ)) (r : Counts) (o : Option (List ℕ)) (k : Counts) (passed : List ℕ) (came more : List Outcome)
-    → EndsAs e t u (sight b m l r o k) passed came → EndsAs e (turned t next) u (sight c n l r o k) passed (came ++ more)
-ends_still served.Ended t next u b c m n l r o k passed came more h = h
-ends_still (served.Cut k') t next u b c m n l r o k passed came more h = h
-ends_still (served.Malformed at rule) t next u b c m n l r o k passed came more h = h
-ends_still (served.LineTooLong at) t next u b c m n l r o k passed came more h = h
-ends_still served.ReadFault t next u b c m n l r o k passed came more h = h
-ends_still served.WriteFault t next u b c m n l r o k passed came more h = h
-ends_still served.Spent t next u b c m n l r o k passed came more h = h
-ends_still (served.Full cost limit) t next u b c m n l r o k passed came more (others, is) = (others ++ more, ap (λ (z : List Outcome). z ++ more) is)
-ends_still served.Memory t next u b c m n l r o k passed came more h = tt
+-- once an ending is met it is still so where nothing more is done
+pub record IsSame (e : Served) (t : Standing) (w : Sight) (x : Standing) (y : Sight) : Type 0 where
+  pub client : x.client ≡ t.client
+  pub phase : x.stage.phase ≡ t.stage.phase
+  pub before : x.before ≡ t.before
+  pub left : x.left ≡ t.left
+  pub unsent : IsWhole (Some e) → x.unsent ≡ t.unsent
+  pub source : y.left ≡ w.left
+  pub counted : Counted w y
 
-meets_still : (x : Option Served) (e : Served) (t : Standing) (next : Turn) (u : Sight) (b c : Seated) (m n : ℕ) (l : Option (List ℕ)) (r : Counts) (o : Option (List ℕ)) (k : Counts) (passed : List ℕ) (came more : List Outcome)
-    → Meets x (Some e) t u (sight b m l r o k) passed came → Meets x (Some e) (turned t next) u (sight c n l r o k) passed (came ++ more)
-meets_still None e t next u b c m n l r o k passed came more h = ends_still e t next u b c m n l r o k passed came more h
-meets_still (Some f) e t next u b c m n l r o k passed came more h = tt
+idle_same : (e : Served) (t : Standing) (w : Sight) (x : Standing) (y : Sight) → IsSame e t w x y → IsWhole (Some e) → IsIdle t → IsIdle x
+idle_same e t w x y q whole h = (
+  subst (λ (z : List ℕ). Cuts x.stage.phase z (no_item stop.More)) (sym q.left) (subst (λ (p : Phase). Cuts p t.left (no_item stop.More)) (sym q.phase) h.0),
+  q.unsent whole ∙ h.1,
+)
+
+dry_same : (e : Served) (t : Standing) (w : Sight) (x : Standing) (y : Sight) → IsSame e t w x y → IsDry w → IsDry y
+dry_same e t w x y q h = subst (λ (z : Option (List ℕ)). IfSome z (λ left. left ≡ [])) (sym q.source) h
+
+remains_same : (e : Served) (t : Standing) (w : Sight) (x : Standing) (y : Sight) (what : Stop) → IsSame e t w x y → Remains t.client t.stage.phase t.left what → Remains x.client x.stage.phase x.left what
+remains_same e t w x y what q h =
+    subst (λ (z : Client). Remains z x.stage.phase x.left what) (sym q.client)
+    (subst (λ (z : List ℕ). Remains t.client x.stage.phase z what) (sym q.left) (subst (λ (p : Phase). Remains t.client p t.left what) (sym q.phase) h))
+
+pub ends_same : (e : Served) (t : Standing) (u w : Sight) (x : Standing) (y : Sight) (passed more : List ℕ) (came behind : List Outcome) → IsSame e t w x y → more ≡ passed → EndsAs e t u w passed came → EndsAs e x u y more (came ++ behind)
+ends_same served.Ended t u w x y passed more came behind q same h = (dry_same served.Ended t w x y q h.0, q.left ∙ h.1, idle_same served.Ended t w x y q tt h.2)
+ends_same (served.Cut n) t u w x y passed more came behind q same h =
+    (dry_same (served.Cut n) t w x y q h.0, h.1, h.2 ∙ ap length (sym q.left), idle_same (served.Cut n) t w x y q tt h.3)
+ends_same (served.Malformed at rule) t u w x y passed more came behind q same h =
+    (h.0 ∙ sym q.before, remains_same (served.Malformed at rule) t w x y (stop.Bad rule) q h.1, q.unsent tt ∙ h.2)
+ends_same (served.LineTooLong at) t u w x y passed more came behind q same h =
+    (h.0 ∙ sym q.before, remains_same (served.LineTooLong at) t w x y stop.TooLong q h.1, q.unsent tt ∙ h.2)
+ends_same served.ReadFault t u w x y passed more came behind q same h =
+    (risen_on u.reading.faults w.reading.faults y.reading.faults h.0 q.counted.reading.faults, idle_same served.ReadFault t w x y q tt h.1)
+ends_same served.WriteFault t u w x y passed more came behind q same h = risen_on u.writing.faults w.writing.faults y.writing.faults h q.counted.writing.faults
+ends_same served.Spent t u w x y passed more came behind q same h = (
+  rw (q.before, q.left, same) h.0,
+  rw same h.1,
+  idle_same served.Spent t w x y q tt h.2,
+)
+ends_same (served.Full cost limit) t u w x y passed more came behind q same (before, after, is) = (
+  before,
+  after ++ behind,
+  ap (λ (z : List Outcome). z ++ behind) is
+      ∙ (append_assoc before (Denied (enter t.client) (refused.Full cost limit) ∷ after) behind
+      ∙ ap (λ (z : Client). before ++ (Denied (enter z) (refused.Full cost limit) ∷ (after ++ behind))) (sym q.client)),
+)
+ends_same served.Memory t u w x y passed more came behind q same h = tt
+
+meets_same_on : (o : Option Served) (e : Served) (t : Standing) (u w : Sight) (x : Standing) (y : Sight) (passed more : List ℕ) (came behind : List Outcome) → IsSame e t w x y → more ≡ passed → Meets o (Some e) t u w passed came → Meets o (Some e) x u y more (came ++ behind)
+meets_same_on None e t u w x y passed more came behind q same h = ends_same e t u w x y passed more came behind q same h
+meets_same_on (Some f) e t u w x y passed more came behind q same h = tt
+
+meets_after : (o : Option Served) (e : Served) (t : Standing) (u v w : Sight) (passed more : List ℕ) (front came : List Outcome) → Counted u v → more ≡ passed → EndsAs e t v w passed came → Meets o (Some e) t u w more (front ++ came)
+meets_after None e t u v w passed more front came c same h = ends_further e t u v w passed more front came c same h
+meets_after (Some f) e t u v w passed more front came c same h = tt
 
 meets_none : (x : Option Served) (t : Standing) (u w : Sight) (passed : List ℕ) (came : List Outcome) → Meets x None t u w passed came
 meets_none None t u w passed came = tt
@@ -72,7 +121,7 @@ meets_none (Some e) t u w passed came = tt
 module _ (c : Client) (a b : Seated) (n m : ℕ) (l : Option (List ℕ)) (r : Counts) (o : Option (List ℕ)) (k : Counts) where
   full_of : (why : Refused) → EndsAs (served_by why) (turned (fresh c) (turn.Over (served_by why))) (sight a n l r o k) (sight b m l r o k) [] (Denied (enter c) why ∷ [])
   full_of refused.Memory = tt
-  full_of (refused.Full cost limit) = ([], refl)
+  full_of (refused.Full cost limit) = ([], [], refl)
 
   pub entered : (t : Standing) → Enters (fresh c) a n t b m → AfterEnter (fresh c) (sight a n l r o k) t (sight b m l r o k)
   entered t (inl (reply, asks, busy, same)) =
@@ -140,14 +189,10 @@ module _ (s0 : Standing) (v0 : Sight) (s : Standing) (v : Sight) (serves : s.tur
   passed_same : d.passed ++ so.deeds.passed ≡ d.passed
   passed_same = ap (λ (z : List ℕ). d.passed ++ z) none_passed ∙ append-nil d.passed
 
-  meets_later : (x : Option Served) (e : Served) → IsLater e → EndsAs e t v w d.passed d.came → Meets x (Some e) t v0 w (d.passed ++ so.deeds.passed) (so.deeds.came ++ d.came)
-  meets_later None e later h = ends_further e t v0 v w d.passed (d.passed ++ so.deeds.passed) d.came (so.deeds.came ++ d.came) so.runs.counted later passed_same h
-  meets_later (Some f) e later h = tt
-
   meets_by : (x : Turn) → Pauses x s v d t w → Meets (met_by s0.turn) (met_by x) t v0 w (d.passed ++ so.deeds.passed) (so.deeds.came ++ d.came)
   meets_by turn.Enter h = absurd h
   meets_by turn.Serve h = meets_none (met_by s0.turn) t v0 w (d.passed ++ so.deeds.passed) (so.deeds.came ++ d.came)
-  meets_by (turn.Leave e) h = meets_later (met_by s0.turn) e h.0 h.1
+  meets_by (turn.Leave e) h = meets_after (met_by s0.turn) e t v0 v w d.passed (d.passed ++ so.deeds.passed) so.deeds.came d.came so.runs.counted passed_same h
   meets_by (turn.Over e) h = absurd h
 
   waits_by : (x : Turn) → Pauses x s v d t w → OwesAfterItems x (Waits v0 w t (so.deeds.read ++ d.read))
@@ -176,8 +221,16 @@ pub not_left : (s0 : Standing) (v0 : Sight) (s : Standing) (v : Sight) → ((e :
 not_left s0 v0 s v h so = record { deeds = so.deeds; runs = so.runs; meets = so.meets; waits = owes_last s.turn _ h so.waits }
 
 module _ (s0 : Standing) (v0 : Sight) (s : Standing) (e : Served) (a b : Seated) (n m : ℕ) (l : Option (List ℕ)) (r : Counts) (o : Option (List ℕ)) (k : Counts) where
-  here : Standing
-  here = turned s (turn.Leave e)
+  same_but : (x : Turn) → n ≤ m → IsSame e (turned s (turn.Leave e)) (sight a n l r o k) (turned s x) (sight b m l r o k)
+  same_but x more = record {
+    client = refl;
+    phase = refl;
+    before = refl;
+    left = refl;
+    unsent = λ h. refl;
+    source = refl;
+    counted = record { busy = more; reading = record { faults = omega arith; waits = omega arith }; writing = record { faults = omega arith; waits = omega arith } };
+  }
 
   pub left : (t : Standing) → Leaves e (turned s (turn.Leave e)) a n t b m → AfterItems s0 v0 (turned s (turn.Leave e)) (sight a n l r o k) → AfterLeave s0 v0 t (sight b m l r o k)
   left t (inl (reply, asks, busy, same)) so =
@@ -187,7 +240,7 @@ module _ (s0 : Standing) (v0 : Sight) (s : Standing) (e : Served) (a b : Seated)
       subst (λ (z : Standing). AfterLeave s0 v0 z (sight b m l r o k)) (sym same) (record {
         deeds = followed_by so.deeds (silent (Made x.0 ∷ []));
         runs = runs_on s0 v0 so.deeds (turned s (turn.Leave e)) (sight a n l r o k) (silent (Made x.0 ∷ [])) (turned s (turn.Over e)) (sight b m l r o k) so.runs one;
-        meets = meets_still (met_by s0.turn) e (turned s (turn.Leave e)) (turn.Over e) v0 a b n m l r o k so.deeds.passed so.deeds.came (Made x.0 ∷ []) so.meets;
+        meets = meets_same_on (met_by s0.turn) e (turned s (turn.Leave e)) v0 (sight a n l r o k) (turned s (turn.Over e)) (sight b m l r o k) so.deeds.passed so.deeds.passed so.deeds.came (Made x.0 ∷ []) (same_but (turn.Over e) more) refl so.meets;
         waits = tt;
       })
   left t (inr (off, more, risen, same)) so =
@@ -195,6 +248,6 @@ module _ (s0 : Standing) (v0 : Sight) (s : Standing) (e : Served) (a b : Seated)
       subst (λ (z : Standing). AfterLeave s0 v0 z (sight b m l r o k)) (sym same) (record {
         deeds = followed_by so.deeds nothing;
         runs = runs_on s0 v0 so.deeds (turned s (turn.Leave e)) (sight a n l r o k) nothing (turned s (turn.Leave e)) (sight b m l r o k) so.runs one;
-        meets = meets_still (met_by s0.turn) e (turned s (turn.Leave e)) (turn.Leave e) v0 a b n m l r o k so.deeds.passed so.deeds.came [] so.meets;
+        meets = meets_same_on (met_by s0.turn) e (turned s (turn.Leave e)) v0 (sight a n l r o k) (turned s (turn.Leave e)) (sight b m l r o k) so.deeds.passed so.deeds.passed so.deeds.came [] (same_but (turn.Leave e) more) refl so.meets;
         waits = waits_further v0 (sight a n l r o k) (sight b m l r o k) (turned s (turn.Leave e)) so.deeds.read [] so.runs.counted (inl risen);
       })

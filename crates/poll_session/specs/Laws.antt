@@ -8,19 +8,24 @@ use Rattle.session.specs.Cuts.{first_phase}
 use Rattle.session.specs.Items.{AreItems, joined}
 use Rattle.session.specs.Ledger.{Grew}
 use Rattle.poll_session.specs.declared.course.Turn.TheVariants as turn
-use Rattle.poll_session.specs.Courses.{Around, Gone, Outside, Sight, Standing, fresh}
+use Rattle.poll_session.specs.Courses.{Around, Gone, Outside, Sight, Standing, fresh, met_by}
 use Rattle.poll_session.specs.Outside.{appended}
-use Rattle.poll_session.specs.Polls.{Deeds, IsWhole, Runs, followed_by}
+use Rattle.poll_session.specs.Polls.{Deeds, EndsAs, IsWhole, Meets, Runs, followed_by}
+
+-- what a poll does, or a run of polls
+pub record Does (s : Standing) (v : Sight) (d : Deeds) (t : Standing) (w : Sight) : Type 0 where
+  pub runs : Runs s v d t w
+  pub meets : Meets (met_by s.turn) (met_by t.turn) t v w d.passed d.came
 
 -- Of two polls, or runs of polls, that follow each other: what the first did, each list followed by
 -- what the second did, is what both did, from the state before the first to that after the second.
 abbrev pub Join : Type 0
 Join = (s : Standing) (v : Sight) (d : Deeds) (t : Standing) (w : Sight) (e : Deeds) (x : Standing)
-    (y : Sight) → Runs s v d t w → Runs t w e x y → Runs s v (followed_by d e) x y
+    (y : Sight) → Does s v d t w → Does t w e x y → Does s v (followed_by d e) x y
 
 -- A connection from before Enter until it is over: the items of what was read are asked and
 -- answered, each once, in order, between Enter and Leave, or Enter was refused; and what answers
--- them was written, but for what is unsent at an ending that cuts it.
+-- them was written, but for what is unsent at an ending that cuts it. The ending means what it says.
 pub record IsConnection (c : Client) (v : Sight) (d : Deeds) (t : Standing) (w : Sight)
     (e : Served) : Type 0 where
   pub last : ℕ
@@ -34,8 +39,9 @@ pub record IsConnection (c : Client) (v : Sight) (d : Deeds) (t : Standing) (w :
   pub output : joined d.pieces ≡ d.written ++ rest
   pub went_out : w.told ≡ appended v.told d.written
   pub whole : IsWhole (Some e) → rest ≡ t.unsent
+  pub ends : EndsAs e t v w d.passed d.came
 
 -- What polls did together, from the first to the one that is ready, is a connection served.
 abbrev pub Whole : Type 0
 Whole = (c : Client) (v : Sight) (d : Deeds) (t : Standing) (w : Sight) (e : Served)
-    → Runs (fresh c) v d t w → t.turn ≡ turn.Over e → IsConnection c v d t w e
+    → Does (fresh c) v d t w → t.turn ≡ turn.Over e → IsConnection c v d t w e

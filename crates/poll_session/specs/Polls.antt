@@ -110,7 +110,7 @@ abbrev pub IsDry : Sight → Type 0
 IsDry w = IfSome w.left (λ left. left ≡ [])
 
 -- What each ending means at the poll that meets it: of the session after it, of what is around it
--- before and after, of the bytes that were passed over, and of what was asked.
+-- before and after, of the bytes that were passed over, and of what was asked; Enter is asked once.
 abbrev pub EndsAs : Served → Standing → Sight → Sight → List ℕ → List Outcome → Type 0
 EndsAs served.Ended t v w passed came = IsDry w × (t.left ≡ []) × IsIdle t
 EndsAs (served.Cut n) t v w passed came =
@@ -123,14 +123,10 @@ EndsAs served.ReadFault t v w passed came = HasRisen v.reading.faults w.reading.
 EndsAs served.WriteFault t v w passed came = HasRisen v.writing.faults w.writing.faults
 EndsAs served.Spent t v w passed came = (longest < t.before + length t.left + length passed)
     × (length passed ≤ longest_piece) × IsIdle t
-EndsAs (served.Full cost limit) t v w passed came = (more : List Outcome)
-    × (came ≡ Denied (enter t.client) (refused.Full cost limit) ∷ more)
+EndsAs (served.Full cost limit) t v w passed came = (before : List Outcome)
+    × (after : List Outcome)
+    × (came ≡ before ++ Denied (enter t.client) (refused.Full cost limit) ∷ after)
 EndsAs served.Memory t v w passed came = Unit {0}
-
--- an ending that is met behind Enter
-abbrev pub IsLater : Served → Type 0
-IsLater (served.Full cost limit) = ⊥
-IsLater e = Unit {0}
 
 -- an ending is met only so
 abbrev pub Meets : Option Served → Option Served → Standing → Sight → Sight → List ℕ

@@ -32,7 +32,7 @@ use Rattle.session.specs.Pumps.{longest_piece}
 use Rattle.session.specs.Standings.{longest}
 use Rattle.poll_session.specs.Outside.{Counts, Faulted, Waited, appended}
 use Rattle.poll_session.specs.Courses.{Sight, Standing}
-use Rattle.poll_session.specs.Polls.{Deeds, EndsAs, IsIdle, IsLater, Runs, Waits}
+use Rattle.poll_session.specs.Polls.{Deeds, EndsAs, IsIdle, Runs, Waits}
 
 -- ---- sending
 
@@ -62,7 +62,7 @@ IfFlushWaits flushed.Failed P = ⊤
 -- an ending was met, and Leave is due
 abbrev pub MeetsOne : Standing → Sight → Sight → List ℕ → List Outcome → Type 0
 MeetsOne t v w passed came =
-    (e : Served) × (t.turn ≡ turn.Leave e) × IsLater e × EndsAs e t v w passed came
+    (e : Served) × (t.turn ≡ turn.Leave e) × EndsAs e t v w passed came
 
 -- what became of the next item: it was asked and answered; there is none; the desk was busy; or an
 -- ending was met
@@ -187,7 +187,7 @@ Takes found s v t w = (d : Deeds) × Runs s v d t w × TakenIs found s v d t w
 -- met
 abbrev pub Pauses : Turn → Standing → Sight → Deeds → Standing → Sight → Type 0
 Pauses turn.Serve s v d t w = Waits v w t d.read
-Pauses (turn.Leave e) s v d t w = IsLater e × EndsAs e t v w d.passed d.came
+Pauses (turn.Leave e) s v d t w = EndsAs e t v w d.passed d.came
 Pauses turn.Enter s v d t w = ⊥
 Pauses (turn.Over e) s v d t w = ⊥
 
