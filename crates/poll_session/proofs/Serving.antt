@@ -1,5 +1,5 @@
 -- Items that are served one after another, and pieces that are read one after another.
-use Rattle.std.proofs.Common.{◌≡◌, inl, inr, ℕ, ◌+◌, ◌<◌, ◌≤◌, List, [], ◌∷◌, ◌++◌, length, Option, Some, None, refl, sym, ap, ◌∙◌, subst, arith}
+use Rattle.std.proofs.Common.{◌≡◌, inl, inr, ℕ, ◌+◌, ◌<◌, ◌≤◌, List, [], ◌∷◌, ◌++◌, length, true, false, Option, Some, None, refl, sym, ap, ◌∙◌, subst, arith}
 use Rattle.std.proofs.lemmas.List.{append-nil, length-append}
 use Rattle.portal_base.specs.Outside.{HasRisen, behind}
 use Rattle.portal_model.specs.Seated.{Seated}
@@ -105,17 +105,17 @@ module _ (s0 s : Standing) (a0 a : Seated) (n0 n : ℕ) (l : Option (List ℕ)) 
   module _ (t : Standing) (b : Seated) (m : ℕ) where
     -- one more item is asked
     pub one_asked : AsksNext next.Asked s (sight a n l r o k) t (sight b m l r o k) → Going 0 s0 (sight a0 n0 l r o0 k0) t (sight b m l r o k) × (length t.left < length s.left)
-    one_asked (d, none, runs, serves, shorter) = (going_on 0 0 s0 (sight a0 n0 l r o0 k0) s (sight a n l r o k) t (sight b m l r o k) so d (none_read d none) runs serves, shorter)
+    one_asked (d, none, runs, (serves, shorter)) = (going_on 0 0 s0 (sight a0 n0 l r o0 k0) s (sight a n l r o k) t (sight b m l r o k) so d (none_read d none) runs serves, shorter)
 
     -- there is none
     pub none_asked : AsksNext next.NoItem s (sight a n l r o k) t (sight b m l r o k) → Serves true s0 (sight a0 n0 l r o0 k0) t (sight b m l r o k)
-    none_asked (d, none, runs, serves, idle) =
+    none_asked (d, none, runs, (serves, idle)) =
         let on = going_on 0 0 s0 (sight a0 n0 l r o0 k0) s (sight a n l r o k) t (sight b m l r o k) so d (none_read d none) runs serves in
         (on.0, no_length on.0.read on.1, on.2, (serves, idle))
 
     -- the desk is busy
     pub desk_busy : AsksNext next.Busy s (sight a n l r o k) t (sight b m l r o k) → Serves false s0 (sight a0 n0 l r o0 k0) t (sight b m l r o k)
-    desk_busy (d, none, runs, serves, risen) =
+    desk_busy (d, none, runs, (serves, risen)) =
         serves_false s0 (sight a0 n0 l r o0 k0) t (sight b m l r o k) (0 + length d.read) (none_read d none) (going_waits 0 s0 (sight a0 n0 l r o0 k0) s (sight a n l r o k) t (sight b m l r o k) so d runs serves (inl risen))
 
     -- the connection ends
@@ -178,17 +178,17 @@ module _ (n : ℕ) (s0 : Standing) (v0 : Sight) (s : Standing) (v : Sight) (so :
 
   -- or more is to be read
   pub attend_on : Serves true s v t w → Going n s0 v0 t w × IsIdle t
-  attend_on (d, none, runs, serves, idle) =
+  attend_on (d, none, runs, (serves, idle)) =
       let on = going_on n 0 s0 v0 s v t w so d (none_read d none) runs serves in
       ((on.0, (let e = on.1 in omega (arith, e)), on.2, on.3), idle)
 
   -- a piece came
   pub attend_got : (m : ℕ) → Takes (taken.Got m) s v t w → Going (n + m) s0 v0 t w
-  attend_got m (d, runs, serves, least, most, many) = going_on n m s0 v0 s v t w so d many runs serves
+  attend_got m (d, runs, (serves, least, most, many)) = going_on n m s0 v0 s v t w so d many runs serves
 
   -- nothing came yet
   pub attend_waits : IsIdle s → Takes taken.NotYet s v t w → Attends s0 v0 t w
-  attend_waits idle (d, runs, same, none, risen) =
+  attend_waits idle (d, runs, (same, none, risen)) =
       paused_at turn.Serve (ap (λ (z : Standing). z.turn) same ∙ so.3) d runs (inr (inr (inl risen, subst IsIdle (sym same) idle)))
 
   -- the connection ends

@@ -104,15 +104,15 @@ ends_same (served.Full cost limit) t u w x y passed more came behind q same (bef
 )
 ends_same served.Memory t u w x y passed more came behind q same h = tt
 
-meets_same_on : (o : Option Served) (e : Served) (t : Standing) (u w : Sight) (x : Standing) (y : Sight) (passed more : List ℕ) (came behind : List Outcome) → IsSame e t w x y → more ≡ passed → Meets o (Some e) t u w passed came → Meets o (Some e) x u y more (came ++ behind)
+pub meets_same_on : (o : Option Served) (e : Served) (t : Standing) (u w : Sight) (x : Standing) (y : Sight) (passed more : List ℕ) (came behind : List Outcome) → IsSame e t w x y → more ≡ passed → Meets o (Some e) t u w passed came → Meets o (Some e) x u y more (came ++ behind)
 meets_same_on None e t u w x y passed more came behind q same h = ends_same e t u w x y passed more came behind q same h
 meets_same_on (Some f) e t u w x y passed more came behind q same h = tt
 
-meets_after : (o : Option Served) (e : Served) (t : Standing) (u v w : Sight) (passed more : List ℕ) (front came : List Outcome) → Counted u v → more ≡ passed → EndsAs e t v w passed came → Meets o (Some e) t u w more (front ++ came)
+pub meets_after : (o : Option Served) (e : Served) (t : Standing) (u v w : Sight) (passed more : List ℕ) (front came : List Outcome) → Counted u v → more ≡ passed → EndsAs e t v w passed came → Meets o (Some e) t u w more (front ++ came)
 meets_after None e t u v w passed more front came c same h = ends_further e t u v w passed more front came c same h
 meets_after (Some f) e t u v w passed more front came c same h = tt
 
-meets_none : (x : Option Served) (t : Standing) (u w : Sight) (passed : List ℕ) (came : List Outcome) → Meets x None t u w passed came
+pub meets_none : (x : Option Served) (t : Standing) (u w : Sight) (passed : List ℕ) (came : List Outcome) → Meets x None t u w passed came
 meets_none None t u w passed came = tt
 meets_none (Some e) t u w passed came = tt
 
