@@ -116,12 +116,12 @@ module _ (s0 s : Standing) (a0 a : Seated) (n0 n : ℕ) (l : Option (List ℕ)) 
     -- the desk is busy
     pub desk_busy : AsksNext next.Busy s (sight a n l r o k) t (sight b m l r o k) → Serves false s0 (sight a0 n0 l r o0 k0) t (sight b m l r o k)
     desk_busy (d, none, runs, (serves, risen)) =
-        serves_false s0 (sight a0 n0 l r o0 k0) t (sight b m l r o k) (0 + length d.read) (none_read d none) (going_waits 0 s0 (sight a0 n0 l r o0 k0) s (sight a n l r o k) t (sight b m l r o k) so d runs serves (inl risen))
+        serves_false s0 (sight a0 n0 l r o0 k0) t (sight b m l r o k) (0 + length d.read) (let z = none_read d none in omega (arith, z)) (going_waits 0 s0 (sight a0 n0 l r o0 k0) s (sight a n l r o k) t (sight b m l r o k) so d runs serves (inl risen))
 
     -- the connection ends
     pub ends_asking : AsksNext next.Met s (sight a n l r o k) t (sight b m l r o k) → Serves false s0 (sight a0 n0 l r o0 k0) t (sight b m l r o k)
     ends_asking (d, none, runs, met) =
-        serves_false s0 (sight a0 n0 l r o0 k0) t (sight b m l r o k) (0 + length d.read) (none_read d none) (going_met 0 s0 (sight a0 n0 l r o0 k0) s (sight a n l r o k) t (sight b m l r o k) so d runs met)
+        serves_false s0 (sight a0 n0 l r o0 k0) t (sight b m l r o k) (0 + length d.read) (let z = none_read d none in omega (arith, z)) (going_met 0 s0 (sight a0 n0 l r o0 k0) s (sight a n l r o k) t (sight b m l r o k) so d runs met)
 
 -- ---- reading
 
