@@ -29,8 +29,36 @@ use trace_items::{Lent, come, foresee, is_done};
 use tree_files::TreeFiles;
 
 /// Asks an entry again, appends what it tells the application, and lets the
-/// files be those behind it.
+/// numbers of open handles and the files be those behind it.
 pub(crate) fn replay(
+    alloc: Global,
+    portal: &mut QuietPortal,
+    app: &AppId,
+    entry: &Entry,
+    numbers: &mut OpenNumbers,
+    files: &mut TreeFiles,
+    items: &mut List<TraceItem>,
+) -> Result<(), WantOfMemory>
+    requires lawful { Lawful (state_now portal.old.story) entry.now }
+    requires room { HasRoom portal.old.story entry.now }
+    requires covered { Cover numbers.old (state_now portal.old.story).handles }
+    requires files { (state_now portal.old.story).files ≡ files.old }
+    ensures goes { OnOk result (GoesOn portal.old.story entry.now portal.new.story) }
+    ensures covered { OnOk result (Cover numbers.new
+        (after (state_now portal.old.story) entry.now).handles) }
+    ensures files { OnOk result (files.new
+        ≡ (after (state_now portal.old.story) entry.now).files) }
+    ensures items { OnOk result (map item_told items.new ≡ map item_told items.old
+        ++ items_of app.now (state_now portal.old.story) entry.now) }
+{
+    tell_again(alloc, portal, app, entry, numbers, files, items)?;
+    follow_entry(alloc, portal, entry, numbers)?;
+    Ok(())
+}
+
+/// Asks an entry again, appends what it tells the application, and lets the
+/// files be those behind it.
+fn tell_again(
     alloc: Global,
     portal: &mut QuietPortal,
     app: &AppId,
@@ -64,7 +92,7 @@ pub(crate) fn replay(
 }
 
 /// Lets the numbers of open handles be those behind an entry that was asked again.
-pub(crate) fn follow_entry(
+fn follow_entry(
     alloc: Global,
     portal: &QuietPortal,
     entry: &Entry,

@@ -9,7 +9,7 @@ ghost use Rattle.portal_model.specs.Opening.{opened};
 ghost use Rattle.history_trace.specs.Replayed.{Begins};
 
 use crate::beginning::{QuietPortal, opened_portal};
-use crate::replay::{follow_entry, replay};
+use crate::replay::replay;
 use app_trace::{Trace, TraceItem, files_of, view_of};
 use named_paths::OpenNumbers;
 use portal_base::list::List;
@@ -85,11 +85,18 @@ fn replay_all(
     let mut numbers: OpenNumbers = BTreeMap::new(alloc);
     let mut told = List::new(alloc);
     for place in 0..history.len() {
-        let Some(entry) = history.entry(place) else {
-            unreachable!();
-        };
-        replay(alloc, portal, app, entry, &numbers, &mut files, &mut told)?;
-        follow_entry(alloc, portal, entry, &mut numbers)?;
+        match history.entry(place) {
+            Some(entry) => replay(
+                alloc,
+                portal,
+                app,
+                entry,
+                &mut numbers,
+                &mut files,
+                &mut told,
+            )?,
+            None => unreachable!(),
+        }
     }
     Ok(told)
 }
