@@ -256,7 +256,7 @@ module _ (s : State) (c : Connection) (a : AddRequest) (who : Who) (paths : List
         make = changes-make-them s r.valid who a plan call files.drawn.words numbers drawn-are then made-is files.drawn.documents follows-here
 
         abbrev given : Bool → Given
-        given failed = record { now = None; words = files.drawn.words; numbers = numbers; looks = looks; full = false; fault = fault_if failed }
+        given failed = record { now = None; words = files.drawn.words; numbers = numbers; looks = looks; listed = None; generation = None; full = false; fault = fault_if failed }
 
         abbrev answered : Bool → Answer
         answered failed = cond failed (Answer.Refused Code.Failed) (Answer.Ids files.ids)

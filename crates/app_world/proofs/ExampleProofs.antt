@@ -53,7 +53,7 @@ first_written (d ∷ ds) = d.rights.write
 pub traces : TracesTellWhatIsHeld
 unfolding first_written
 traces = record {
-  legal = record { opening = valid_with_another; lawful = (record { given = (other_name, refl) }, (record { given = (editor_name, refl) }, (record { given = (refl, refl) }, (record { given = record { clock = refl; words = refl; numbers = refl; full = refl; keeper = λ e. cc; looks = (refl, (refl, refl)) } }, (record { given = record { clock = refl; words = refl; numbers = refl; full = refl; keeper = λ e. cc; looks = (refl, (refl, refl)) } }, tt))))) };
+  legal = record { opening = valid_with_another; lawful = (record { given = (other_name, refl) }, (record { given = (editor_name, refl) }, (record { given = (refl, refl) }, (record { given = record { clock = refl; listed = refl; generation = refl; words = refl; numbers = refl; full = refl; keeper = λ e. cc; looks = (refl, (refl, refl)) } }, (record { given = record { clock = refl; listed = refl; generation = refl; words = refl; numbers = refl; full = refl; keeper = λ e. cc; looks = (refl, (refl, refl)) } }, tt))))) };
   same = refl;
   own_rights = λ e. let p : false ≡ true = ap (λ (t : Trace). first_written t.opening.documents) e in cc;
 }

@@ -90,12 +90,12 @@ shared_told = record {
       (
         record { given = (viewer_name, refl) },
         (
-          record { given = record { looks = (refl, (refl, refl)); clock = refl; words = refl; numbers = refl; full = refl; keeper = λ e. cc } },
+          record { given = record { looks = (refl, (refl, refl)); clock = refl; listed = refl; generation = refl; words = refl; numbers = refl; full = refl; keeper = λ e. cc } },
           (
-            record { given = record { looks = (refl, (refl, refl)); clock = refl; words = refl; numbers = refl; full = refl; keeper = λ e. cc } },
+            record { given = record { looks = (refl, (refl, refl)); clock = refl; listed = refl; generation = refl; words = refl; numbers = refl; full = refl; keeper = λ e. cc } },
             (
-              record { given = record { looks = refl; clock = refl; words = refl; numbers = refl; full = refl; keeper = λ e. cc } },
-              (record { given = record { looks = refl; clock = refl; words = refl; numbers = refl; full = refl; keeper = λ e. cc } }, tt),
+              record { given = record { looks = refl; clock = refl; listed = refl; generation = refl; words = refl; numbers = refl; full = refl; keeper = λ e. cc } },
+              (record { given = record { looks = refl; clock = refl; listed = refl; generation = refl; words = refl; numbers = refl; full = refl; keeper = λ e. cc } }, tt),
             ),
           ),
         ),
@@ -116,12 +116,12 @@ apart_told = record {
       (
         record { given = (viewer_name, refl) },
         (
-          record { given = record { looks = (refl, (refl, refl)); clock = refl; words = refl; numbers = refl; full = refl; keeper = λ e. cc } },
+          record { given = record { looks = (refl, (refl, refl)); clock = refl; listed = refl; generation = refl; words = refl; numbers = refl; full = refl; keeper = λ e. cc } },
           (
-            record { given = record { looks = (refl, (refl, refl)); clock = refl; words = refl; numbers = refl; full = refl; keeper = λ e. cc } },
+            record { given = record { looks = (refl, (refl, refl)); clock = refl; listed = refl; generation = refl; words = refl; numbers = refl; full = refl; keeper = λ e. cc } },
             (
-              record { given = record { looks = refl; clock = refl; words = refl; numbers = refl; full = refl; keeper = λ e. cc } },
-              (record { given = record { looks = refl; clock = refl; words = refl; numbers = refl; full = refl; keeper = λ e. cc } }, tt),
+              record { given = record { looks = refl; clock = refl; listed = refl; generation = refl; words = refl; numbers = refl; full = refl; keeper = λ e. cc } },
+              (record { given = record { looks = refl; clock = refl; listed = refl; generation = refl; words = refl; numbers = refl; full = refl; keeper = λ e. cc } }, tt),
             ),
           ),
         ),

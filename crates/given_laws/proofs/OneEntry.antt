@@ -21,7 +21,7 @@ use Rattle.given_laws.proofs.OneNumbers.{numbers-one, words-one}
 -- ---- the parts of what is given
 
 given_is : (g h : Given) → g.now ≡ h.now → g.words ≡ h.words → g.numbers ≡ h.numbers → g.looks ≡ h.looks → g.full ≡ h.full → g.fault ≡ h.fault → g ≡ h
-given_is g h n w u l f d = λ i. record { now = n i; words = w i; numbers = u i; looks = l i; full = f i; fault = d i }
+given_is g h n w u l f d = λ i. record { now = n i; words = w i; numbers = u i; looks = l i; listed = None; generation = None; full = f i; fault = d i }
 
 -- the moment, where both read the clock or none does
 moment_is : (g h : Option ℕ) → is_some h ≡ is_some g → IfSome h (λ now. now ≡ moment_given g) → h ≡ g

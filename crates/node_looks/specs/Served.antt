@@ -38,6 +38,8 @@ given_to done = record {
   words = [];
   numbers = [];
   looks = done.looks;
+  listed = None;
+  generation = None;
   full = false;
   fault = done.fault;
 }

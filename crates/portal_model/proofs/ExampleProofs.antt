@@ -121,15 +121,15 @@ costs = record { enter = refl; attributes = refl; leave = refl; collect = refl; 
 
 pub attributes : AttributesOfGrantedFile
 attributes = record {
-  legal = record { opening = valid_read_write; lawful = (record { given = (editor_name, refl) }, (record { given = record { clock = refl; words = refl; numbers = refl; full = refl; keeper = λ e. cc; looks = (refl, (refl, refl)) } }, tt)) };
+  legal = record { opening = valid_read_write; lawful = (record { given = (editor_name, refl) }, (record { given = record { clock = refl; listed = refl; generation = refl; words = refl; numbers = refl; full = refl; keeper = λ e. cc; looks = (refl, (refl, refl)) } }, tt)) };
   replies_are = refl;
 }
 
 pub foreign : ForeignIsAsMissing
 foreign = record {
-  legal_foreign = record { opening = valid_of_other; lawful = (record { given = (editor_name, refl) }, (record { given = record { clock = refl; words = refl; numbers = refl; full = refl; keeper = λ e. cc; looks = (refl, refl) } }, tt)) };
+  legal_foreign = record { opening = valid_of_other; lawful = (record { given = (editor_name, refl) }, (record { given = record { clock = refl; listed = refl; generation = refl; words = refl; numbers = refl; full = refl; keeper = λ e. cc; looks = (refl, refl) } }, tt)) };
   foreign = refl;
-  legal_missing = record { opening = valid_of_nobody; lawful = (record { given = (editor_name, refl) }, (record { given = record { clock = refl; words = refl; numbers = refl; full = refl; keeper = λ e. cc; looks = (refl, refl) } }, tt)) };
+  legal_missing = record { opening = valid_of_nobody; lawful = (record { given = (editor_name, refl) }, (record { given = record { clock = refl; listed = refl; generation = refl; words = refl; numbers = refl; full = refl; keeper = λ e. cc; looks = (refl, refl) } }, tt)) };
   missing = refl;
 }
 
@@ -140,7 +140,7 @@ seats = record {
   twice = refl;
   on_a_bus = refl;
   by_handle = refl;
-  by_handle_given = record { clock = refl; words = refl; numbers = refl; full = refl; keeper = λ e. cc; looks = (refl, refl) };
+  by_handle_given = record { clock = refl; listed = refl; generation = refl; words = refl; numbers = refl; full = refl; keeper = λ e. cc; looks = (refl, refl) };
 }
 
 pub endings : LeaveAndCollect
@@ -159,5 +159,5 @@ endings = record {
 pub failed : FailedLook
 failed = record {
   reply = refl;
-  lawful = record { given = record { clock = refl; words = refl; numbers = refl; full = refl; keeper = λ e. cc; looks = refl } };
+  lawful = record { given = record { clock = refl; listed = refl; generation = refl; words = refl; numbers = refl; full = refl; keeper = λ e. cc; looks = refl } };
 }

@@ -48,7 +48,13 @@ limits = record {
 }
 
 abbrev pub file : List ℕ → List ℕ → FileItem
-file path content = record { path = path; content = content; moment = 0 }
+file path content = record {
+  path = path;
+  content = content;
+  moment = 0;
+  generation = 0;
+  present = true;
+}
 
 -- rights are given by their bits: read 1, write 2, grant-permissions 4, delete 8
 abbrev pub grant : List ℕ → ℕ → GrantRecord
@@ -59,6 +65,7 @@ document number path grants = record {
   kept =
       record { number = number; path = path; reusable = true; strict = false; grants = grants };
   persistent = true;
+  folder = false;
 }
 
 abbrev pub made_of : List OpeningDocument → List DocId
@@ -72,6 +79,7 @@ opening documents files = record {
   applications = first_named (each names_kept documents);
   entries = [];
   files = files;
+  taken = [];
 }
 
 abbrev pub given : List Look → Given
@@ -80,6 +88,8 @@ given looks = record {
   words = [];
   numbers = [];
   looks = looks;
+  listed = None;
+  generation = None;
   full = false;
   fault = Fault.None;
 }
@@ -222,6 +232,9 @@ waiting_state = record read_write_state {
         queue = [];
         opens = 0;
         unsent = change ∷ [];
+        namings = [];
+        temps = [];
+        added = 0;
       } ∷ [];
 }
 
@@ -252,6 +265,8 @@ failed_look = record {
     words = [];
     numbers = [];
     looks = [];
+    listed = None;
+    generation = None;
     full = false;
     fault = Fault.Tree;
   };

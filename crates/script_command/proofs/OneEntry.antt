@@ -97,7 +97,7 @@ numbers_one made (w ∷ words) (n ∷ ns) (m ∷ ms) a b =
 -- ---- what is given
 
 abbrev given : Option ℕ → List ℕ → List DocId → List Look → Bool → Fault → Given
-given now words numbers looks full fault = record { now = now; words = words; numbers = numbers; looks = looks; full = full; fault = fault }
+given now words numbers looks full fault = record { now = now; words = words; numbers = numbers; looks = looks; listed = None; generation = None; full = full; fault = fault }
 
 given_is : (g h : Given) → g.now ≡ h.now → g.words ≡ h.words → g.numbers ≡ h.numbers → g.looks ≡ h.looks → g.full ≡ h.full → g.fault ≡ h.fault → g ≡ h
 given_is g h n w u l f d = λ i. given (n i) (w i) (u i) (l i) (f i) (d i)
