@@ -44,6 +44,9 @@ connection-apart a b e =
       queue = (e i).queue;
       opens = (e i).opens;
       handles = handles i;
+      namings = (e i).namings;
+      temps = (e i).temps;
+      added = (e i).added;
     }
 
 path-apart : (a b : PathContent) → path_told a ≡ path_told b → a ≡ b

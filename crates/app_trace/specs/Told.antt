@@ -36,6 +36,9 @@ connection_told c = record {
   queue = c.queue;
   opens = c.opens;
   handles = map handle_told c.handles;
+  namings = c.namings;
+  temps = c.temps;
+  added = c.added;
 }
 
 abbrev pub path_told : PathContent → view.PathContent

@@ -27,7 +27,7 @@ use Rattle.portal_model.specs.History.{Legal, replies, cost_of}
 use Rattle.portal_model.specs.State.{State}
 use Rattle.portal_model.specs.Lawful.{Lawful, LawfulGiven}
 use Rattle.portal_model.specs.Step.{after, reply_at, step}
-use Rattle.portal_model.specs.Opening.{opened, id_of, first_named, each, names_kept}
+use Rattle.portal_model.specs.Opening.{opened, id_of, first_item, first_named, each, names_kept}
 
 -- ---- what the examples are made of
 
@@ -48,13 +48,7 @@ limits = record {
 }
 
 abbrev pub file : List ℕ → List ℕ → FileItem
-file path content = record {
-  path = path;
-  content = content;
-  moment = 0;
-  generation = 0;
-  present = true;
-}
+file path content = first_item path content 0
 
 -- rights are given by their bits: read 1, write 2, grant-permissions 4, delete 8
 abbrev pub grant : List ℕ → ℕ → GrantRecord

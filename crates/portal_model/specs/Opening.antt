@@ -63,7 +63,16 @@ each f xs = flat_map f xs
 abbrev pub file_of : FileItem → File
 file_of f = record { path = f.path; generation = 0; bytes = f.content; moment = f.moment }
 
--- it is, and it stands at the path
+-- the first file of a path, which stands there
+abbrev pub first_item : List ℕ → List ℕ → ℕ → FileItem
+first_item path content moment = record {
+  path = path;
+  content = content;
+  moment = moment;
+  generation = 0;
+  present = true;
+}
+
 abbrev pub is_first_item : FileItem → Bool
 is_first_item f = f.generation == 0 && f.present
 
