@@ -192,6 +192,7 @@ impl Same for TraceItem {
                 looks,
                 full,
                 fault,
+                generation,
             } => match other {
                 TraceItem::Own {
                     seat: other_seat,
@@ -203,6 +204,7 @@ impl Same for TraceItem {
                     looks: other_looks,
                     full: other_full,
                     fault: other_fault,
+                    generation: other_generation,
                 } => {
                     *seat == *other_seat
                         && request.is_same(other_request)
@@ -213,6 +215,7 @@ impl Same for TraceItem {
                         && *looks == *other_looks
                         && *full == *other_full
                         && fault.is_same(other_fault)
+                        && generation.is_same(other_generation)
                 }
                 _ => false,
             },

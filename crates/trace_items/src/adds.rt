@@ -377,8 +377,7 @@ fn first_for<'a>(
 ) -> Option<&'a Document>
     ensures { option_copied result ≡ find (serves_for path.now persistent strict folder) made.now }
 {
-    made.iter()
-        .find(|document| serves(document, path, persistent, strict, folder))
+    made.iter().find(|document| serves(document, path, persistent, strict, folder))
 }
 
 /// Says whether a document may stand for a new one of a path.
