@@ -39,6 +39,7 @@ valid_with_another = record {
   files_apart = refl;
   files_named = rw (b_path, a_path) refl;
   files_told = λ e. cc;
+  files_first = refl;
   taken_none = refl;
   documents_within = omega arith;
   made_within = omega arith;

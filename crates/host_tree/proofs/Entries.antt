@@ -13,7 +13,7 @@ use Rattle.std.specs.declared.cmp.Ordering.TheVariants.{Less, Equal, Greater}
 use Rattle.portal_base.specs.Names.{is_same, is_host_path}
 use Rattle.portal_base.specs.PathOrder.{path_order}
 use Rattle.portal_base.specs.PathOrders.{path_order_total, path_order_ties}
-use Rattle.portal_base.specs.Content.{file_at, file_named, is_named, paths_of, is_folder, has_room, content_of, look_of, look_at, ArePlaced, IsTree}
+use Rattle.portal_base.specs.Content.{file_at, file_named, is_first_file, is_named, paths_of, is_folder, has_room, content_of, look_of, look_at, ArePlaced, IsTree}
 use Rattle.portal_base.specs.declared.files.File.{File}
 use Rattle.portal_base.specs.declared.files.FileName.{FileName}
 use Rattle.portal_base.specs.declared.files.Look.{Look}
@@ -185,12 +185,18 @@ pub paths-are : (es : List (List ℕ × Stored)) → paths_of (files_of es) ≡ 
 paths-are [] = refl
 paths-are (e ∷ es) = ap (λ (ks : List (List ℕ)). e.0 ∷ ks) (paths-are es)
 
+-- each file of a map is the first that its path has
+pub all-first : (es : List (List ℕ × Stored)) → list_all is_first_file (files_of es) ≡ true
+all-first [] = refl
+all-first (e ∷ es) = all-first es
+
 pub tree-of-keys : (es fs : List (List ℕ × Stored)) → keys_of fs ≡ keys_of es → IsTree (files_of es) → IsTree (files_of fs)
 tree-of-keys es fs e t =
     let same : paths_of (files_of es) ≡ paths_of (files_of fs) = paths-are es ∙ (sym e ∙ sym (paths-are fs)) in
     record {
       placed = subst ArePlaced same t.placed;
       names = subst (λ (ps : List (List ℕ)). list_all is_host_path ps ≡ true) same t.names;
+      first = all-first fs;
     }
 
 -- ---- a file put at its place

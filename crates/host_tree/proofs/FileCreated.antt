@@ -12,17 +12,17 @@ use Rattle.std.specs.List.{slice_split}
 use Rattle.std.specs.Str.{is_utf8}
 use Rattle.portal_base.specs.Names.{is_same, is_slash, is_rooted, is_byte_of_path, is_host_path, has_path_form, path_limit, root, parent_of}
 use Rattle.portal_base.specs.PathOrder.{path_order}
-use Rattle.portal_base.specs.Content.{is_above, is_folder, has_room, file_at, paths_of, ArePlaced, IsTree}
+use Rattle.portal_base.specs.Content.{is_above, is_first_file, is_folder, has_room, file_at, paths_of, ArePlaced, IsTree}
 use Rattle.portal_base.specs.declared.files.File.{File}
 use Rattle.portal_base.proofs.PathsAbove.{above_longer, all-apart, any-paths, both, or-parts}
 use Rattle.host_tree.specs.Stored.{file_of, files_of}
 use Rattle.host_tree.specs.Trees.{put_file, may_create}
 use Rattle.host_tree.specs.declared.files.Stored.{Stored}
-use Rattle.host_tree.proofs.Entries.{same-is, paths-are, put-entry, has-file-at}
+use Rattle.host_tree.proofs.Entries.{all-first, same-is, paths-are, put-entry, has-file-at}
 use Rattle.portal_base.proofs.PathsAbove.{all-put, any-put}
 
-pub put-is-tree : (f : File) (fs : List File) → IsTree fs → may_create fs f.path ≡ true → is_host_path f.path ≡ true → IsStrictlySortedBy path_order (paths_of (put_file f fs)) → IsTree (put_file f fs)
-put-is-tree f fs t may name order =
+pub put-is-tree : (f : File) (fs : List File) → IsTree fs → may_create fs f.path ≡ true → is_host_path f.path ≡ true → IsStrictlySortedBy path_order (paths_of (put_file f fs)) → list_all is_first_file (put_file f fs) ≡ true → IsTree (put_file f fs)
+put-is-tree f fs t may name order whole =
     let first = both (not (is_some (file_at fs f.path))) (not (is_folder fs f.path) && has_room fs f.path) may in
     let second = both (not (is_folder fs f.path)) (has_room fs f.path) first.1 in
     let folder = or-parts (is_same f.path root) (list_any (λ (g : File). is_above f.path g.path) fs) second.0 in
@@ -39,6 +39,7 @@ put-is-tree f fs t may name order =
         apart = all-put (λ q. not (list_any (is_above q) (paths_of (put_file f fs)))) f fs ∙ (λ i. not (new i) && others i);
       };
       names = all-put is_host_path f fs ∙ (λ i. name i && t.names i);
+      first = whole;
     }
 
 -- ---- in the map
@@ -51,7 +52,8 @@ pub inserted-is-tree : (es fs : List (List ℕ × Stored)) (p : List ℕ) (s : S
 inserted-is-tree es fs p s t may name l e order =
     let put : files_of fs ≡ put_file (file_of (p, s)) (files_of es) = inserted-is es fs p s l e in
     subst IsTree (sym put) (put-is-tree (file_of (p, s)) (files_of es) t may name
-    (subst (IsStrictlySortedBy path_order) (sym (paths-are fs) ∙ ap paths_of put) order))
+    (subst (IsStrictlySortedBy path_order) (sym (paths-are fs) ∙ ap paths_of put) order)
+    (subst (λ (gs : List File). list_all is_first_file gs ≡ true) put (all-first fs)))
 
 nothing-at : {X : Type 0} (o : Option X) → not (is_some o) ≡ true → o ≡ None
 nothing-at None e = refl
@@ -67,4 +69,8 @@ none-stored es p may =
 pub added-is-tree : (es fs : List (List ℕ × Stored)) (p : List ℕ) (s : Stored) → IsTree (files_of es) → ArePlaced (paths_of (put_file (file_of (p, s)) (files_of es))) → is_host_path p ≡ true
     → files_of fs ≡ put_file (file_of (p, s)) (files_of es) → IsTree (files_of fs)
 added-is-tree es fs p s t placed name put =
-    subst IsTree (sym put) (record { placed = placed; names = all-put is_host_path (file_of (p, s)) (files_of es) ∙ (λ i. name i && t.names i) })
+    subst IsTree (sym put) (record {
+      placed = placed;
+      names = all-put is_host_path (file_of (p, s)) (files_of es) ∙ (λ i. name i && t.names i);
+      first = subst (λ (gs : List File). list_all is_first_file gs ≡ true) put (all-first fs);
+    })

@@ -67,7 +67,13 @@ pub record ArePlaced (paths : List (List ℕ)) : Type 0 where
   pub no_root : list_all (λ p. not (is_same p root)) paths ≡ true
   pub apart : list_all (λ p. not (list_any (is_above p) paths)) paths ≡ true
 
+-- the file is the first that its path has
+abbrev pub is_first_file : File → Bool
+is_first_file f = f.generation == 0
+
 -- What a tree may hold.
 pub record IsTree (files : List File) : Type 0 where
   pub placed : ArePlaced (paths_of files)
   pub names : list_all is_host_path (paths_of files) ≡ true
+  -- not yet: no file was made to be renamed later
+  pub first : list_all is_first_file files ≡ true

@@ -54,6 +54,7 @@ valid_untold o began v = record {
   files_apart = refl;
   files_named = refl;
   files_told = λ e. refl;
+  files_first = refl;
   taken_none = v.taken_none;
   documents_within = v.documents_within;
   made_within = v.made_within;

@@ -1,8 +1,8 @@
 -- Files that change or are made: the files of a tree stay sound.
-use Rattle.std.proofs.Common.{◌≡◌, ℕ, List, [], ◌∷◌, Bool, true, false, not, ◌&&◌, ◌||◌, cond, Option, Some, None, refl, sym, ap, ◌∙◌, arith}
+use Rattle.std.proofs.Common.{◌≡◌, ℕ, ◌==◌, List, [], ◌∷◌, Bool, true, false, not, ◌&&◌, ◌||◌, cond, Option, Some, None, refl, sym, ap, ◌∙◌, arith}
 use Rattle.std.specs.List.{list_all, list_any, IsDistinct, AllByRecursion}
 use Rattle.std.specs.Ordering.{is_lt}
-use Rattle.portal_base.specs.Content.{file_at, is_above, is_folder, is_named, has_room, look_at, paths_of}
+use Rattle.portal_base.specs.Content.{file_at, is_above, is_first_file, is_folder, is_named, has_room, look_at, paths_of}
 use Rattle.portal_base.specs.FileChanges.{change_named, put_file, written}
 use Rattle.portal_base.specs.Names.{is_same, is_host_path, parent_of, root}
 use Rattle.portal_base.specs.PathOrder.{path_order}
@@ -10,7 +10,7 @@ use Rattle.portal_base.specs.declared.files.File.{File}
 use Rattle.portal_base.specs.declared.files.FileName.{FileName}
 use Rattle.portal_base.specs.declared.files.Look.{Look}
 use Rattle.portal_base.proofs.PathsAbove.{above_longer, all-apart, all-put, any-paths, any-put, or-parts}
-use Rattle.portal_model.proofs.DocumentChanges.{both}
+use Rattle.portal_model.proofs.DocumentChanges.{both, first_of_both, second_of_both}
 use Rattle.portal_model.proofs.ListLookups.{is_same-eq, is_same-refl}
 use Rattle.portal_model.proofs.SoundParts.{SoundFiles}
 
@@ -35,8 +35,8 @@ apart_is whole (f ∷ fs) = λ i. not (is_same f.path root || any-paths (is_abov
 pub sound-paths : (files : List File) (told : Bool) → SoundFiles told files → SoundPaths (paths_of files)
 sound-paths files told h = record { differ = h.differ; apart = sym (apart_is files files) ∙ h.apart; named = sym (all_paths is_host_path files) ∙ h.named }
 
-pub files-sound : (files : List File) (told : Bool) → SoundPaths (paths_of files) → (told ≡ false → files ≡ []) → SoundFiles told files
-files-sound files told h n = record { differ = h.differ; apart = apart_is files files ∙ h.apart; named = all_paths is_host_path files ∙ h.named; none = n }
+pub files-sound : (files : List File) (told : Bool) → SoundPaths (paths_of files) → list_all is_first_file files ≡ true → (told ≡ false → files ≡ []) → SoundFiles told files
+files-sound files told h f n = record { differ = h.differ; apart = apart_is files files ∙ h.apart; named = all_paths is_host_path files ∙ h.named; first = f; none = n }
 
 -- ---- a change of a file that keeps its path
 
@@ -51,6 +51,32 @@ changed-paths name change h (f ∷ fs) = λ i. changed_one name change f (is_nam
 pub written-path : (offset : ℕ) (content : List ℕ) (now : ℕ) (f : File) → (written offset content now f).path ≡ f.path
 written-path offset [] now f = refl
 written-path offset (b ∷ bs) now f = refl
+
+-- ---- each file is the first that its path has
+
+first_one : (change : File → File) (f : File) (b : Bool) → (change f).generation ≡ f.generation → is_first_file f ≡ true → is_first_file (cond b (change f) f) ≡ true
+first_one change f true g h = ap (λ (n : ℕ). n == 0) g ∙ h
+first_one change f false g h = h
+
+pub first-changed : (name : FileName) (change : File → File) → ((f : File) → (change f).generation ≡ f.generation) → (files : List File) → list_all is_first_file files ≡ true → list_all is_first_file (change_named name change files) ≡ true
+first-changed name change g [] h = refl
+first-changed name change g (f ∷ fs) h =
+    both (is_first_file (cond (is_named name f) (change f) f)) (list_all is_first_file (change_named name change fs))
+    (first_one change f (is_named name f) (g f) (first_of_both (is_first_file f) (list_all is_first_file fs) h))
+    (first-changed name change g fs (second_of_both (is_first_file f) (list_all is_first_file fs) h))
+
+pub written-generation : (offset : ℕ) (content : List ℕ) (now : ℕ) (f : File) → (written offset content now f).generation ≡ f.generation
+written-generation offset [] now f = refl
+written-generation offset (b ∷ bs) now f = refl
+
+pub first-put : (new : File) → is_first_file new ≡ true → (fs : List File) → list_all is_first_file fs ≡ true → list_all is_first_file (put_file new fs) ≡ true
+first-put new n [] h = both (is_first_file new) true n refl
+first-put new n (f ∷ fs) h = elim (is_lt (path_order new.path f.path)) as (λ b. list_all is_first_file (cond b (new ∷ f ∷ fs) (f ∷ put_file new fs)) ≡ true) [
+  | true ↦ both (is_first_file new) (list_all is_first_file (f ∷ fs)) n h
+  | false ↦
+      both (is_first_file f) (list_all is_first_file (put_file new fs)) (first_of_both (is_first_file f) (list_all is_first_file fs) h)
+      (first-put new n fs (second_of_both (is_first_file f) (list_all is_first_file fs) h))
+]
 
 -- ---- a file that is made
 

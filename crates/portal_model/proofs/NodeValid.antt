@@ -4,7 +4,7 @@ use Rattle.std.specs.List.{list_all, IsDistinct}
 use Rattle.std.proofs.Math.Nat.{div-eq_of_lt}
 use Rattle.std.proofs.lemmas.Bool.Decides.{nat_tests}
 use Rattle.std.proofs.lemmas.List.Folds.{list_all-append}
-use Rattle.portal_base.specs.Content.{paths_of}
+use Rattle.portal_base.specs.Content.{is_first_file, paths_of}
 use Rattle.portal_base.specs.FileChanges.{new_file, resized, written}
 use Rattle.portal_base.specs.Names.{is_host_path, is_same, name_of}
 use Rattle.portal_base.specs.declared.files.File.{File}
@@ -48,7 +48,7 @@ use Rattle.portal_model.specs.Walk.{Walk, Answers, Looks, Ends, AtPath, Changes,
 use Rattle.portal_model.specs.Write.{write, write_content, write_limit, write_open}
 use Rattle.portal_model.proofs.DistinctItems.{list_all-filter}
 use Rattle.portal_model.proofs.DocumentChanges.{both}
-use Rattle.portal_model.proofs.FilesValid.{changed-paths, files-sound, missing-is, put-paths, sound-paths, SoundPaths, written-path}
+use Rattle.portal_model.proofs.FilesValid.{changed-paths, files-sound, first-changed, first-put, missing-is, put-paths, sound-paths, SoundPaths, written-generation, written-path}
 use Rattle.portal_model.proofs.ListLookups.{found_in_all}
 use Rattle.portal_model.proofs.NodeWalks.{IfMet, OnNode, at_file-on, at_name-on, by_file_handle-on, by_place-on, errs_if-on, on-given}
 use Rattle.portal_model.proofs.OpenHandles.{closed-handles, opened-handles}
@@ -404,6 +404,12 @@ module _ (s : State) (c found : Connection) (here : connection_of s.connections 
       let missing = missing-is s.files path (sym h.0) in
       put-paths (new_file path now) s.files missing.0 missing.1 (sym h.1) h.2 (sound-paths s.files s.told (valid-files s v))
 
+  first-valid : (change : FileChange) → list_all is_first_file (files_after true change s.files) ≡ true
+  first-valid FilesStay = v.files_first
+  first-valid (Writes name offset content now) = first-changed name (written offset content now) (written-generation offset content now) s.files v.files_first
+  first-valid (Resizes name size now) = first-changed name (resized size now) (λ f. refl) s.files v.files_first
+  first-valid (Creates path now) = first-put (new_file path now) refl s.files v.files_first
+
   not-told : (change : FileChange) → files_after false change s.files ≡ s.files
   not-told FilesStay = refl
   not-told (Writes name offset content now) = refl
@@ -413,7 +419,7 @@ module _ (s : State) (c found : Connection) (here : connection_of s.connections 
   files-valid : (change : FileChange) (b : Bool) → s.told ≡ b → FileFine (files_told s) change → SoundFiles s.told (files_after b change s.files)
   files-valid change true e h =
       files-sound (files_after true change s.files) s.told
-      (paths-valid change (subst (λ (b : Bool). FileFine (cond b (Some s.files) None) change) e h)) (λ n. let no : true ≡ false = sym e ∙ n in cc)
+      (paths-valid change (subst (λ (b : Bool). FileFine (cond b (Some s.files) None) change) e h)) (first-valid change) (λ n. let no : true ≡ false = sym e ∙ n in cc)
   files-valid change false e h = subst (SoundFiles s.told) (sym (not-told change)) (valid-files s v)
 
   pub done-valid : (d : NodeDoing) → Fine asks (files_told s) (room_of s c) d → Valid (node_done s c d)

@@ -5,6 +5,7 @@ use Rattle.std.proofs.lemmas.Bool.Decides.{nat_tests}
 use Rattle.std.proofs.lemmas.List.{length-map}
 use Rattle.std.proofs.lemmas.List.Folds.{list_all-append, list_all-map, list_any-append}
 use Rattle.portal_base.specs.Names.{is_same, is_app_name, is_host_path}
+use Rattle.portal_base.specs.Content.{is_first_file}
 use Rattle.portal_base.specs.declared.names.doc_id.DocId.{DocId}
 use Rattle.portal_model.specs.declared.opening.FileItem.{FileItem}
 use Rattle.portal_model.specs.declared.opening.OpeningDocument.{OpeningDocument}
@@ -144,6 +145,10 @@ paths_of_files : (fs : List FileItem) → map (λ (f : File). f.path) (map file_
 paths_of_files [] = refl
 paths_of_files (f ∷ fs) = ap (λ (x : List (List ℕ)). f.path ∷ x) (paths_of_files fs)
 
+first_items : (fs : List FileItem) → list_all is_first_file (map file_of fs) ≡ true
+first_items [] = refl
+first_items (f ∷ fs) = first_items fs
+
 all_of_both : {X : Type 0} (p q : X → Bool) (xs : List X) → list_all p xs ≡ true → list_all q xs ≡ true → list_all (λ x. p x && q x) xs ≡ true
 all_of_both p q [] h k = refl
 all_of_both p q (x ∷ xs) h k = grind (arith, all_of_both p q xs)
@@ -186,6 +191,7 @@ sound-Valid o k = record {
   files_apart = list_all-map (λ (f : File). not (is_folder (map file_of o.files) f.path)) file_of o.files ∙ k.files_apart;
   files_named = list_all-map (λ (f : File). is_host_path f.path) file_of o.files ∙ k.files_named;
   files_told = λ e. cc;
+  files_first = first_items o.files;
   taken_none = k.none_taken;
   documents_within = rw (length-map o.documents document_kept) k.documents_within;
   made_within = rw (k.made, length-map o.documents (λ (d : OpeningDocument). id_of d.kept.number)) k.made_within;
@@ -227,6 +233,7 @@ quiet-Valid o k =
       files_apart = refl;
       files_named = refl;
       files_told = λ e. refl;
+      files_first = refl;
       taken_none = v.taken_none;
       documents_within = v.documents_within;
       made_within = v.made_within;

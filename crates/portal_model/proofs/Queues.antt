@@ -199,6 +199,7 @@ sound-connected s cs k c h = record {
     files_apart = k.connected.files_apart;
     files_named = k.connected.files_named;
     files_told = k.connected.files_told;
+    files_first = k.connected.files_first;
     taken_none = k.connected.taken_none;
     made_limit = k.connected.made_limit;
     queued_limit = k.connected.queued_limit;

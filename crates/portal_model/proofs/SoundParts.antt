@@ -11,6 +11,7 @@ use Rattle.portal_model.specs.declared.state.Connection.{Connection}
 use Rattle.portal_model.specs.declared.state.Document.{Document}
 use Rattle.portal_model.specs.declared.state.Triple.{Triple}
 use Rattle.portal_model.specs.declared.store.StoredEntry.{StoredEntry}
+use Rattle.portal_base.specs.Content.{is_first_file}
 use Rattle.portal_model.specs.Content.{is_folder}
 use Rattle.portal_model.specs.Grant.{exceeds_limits}
 use Rattle.portal_model.specs.Rights.{are_in_order}
@@ -52,6 +53,7 @@ pub record Connected (s : State) : Type 0 where
   pub files_apart : list_all (λ (f : File). not (is_folder s.files f.path)) s.files ≡ true
   pub files_named : list_all (λ (f : File). is_host_path f.path) s.files ≡ true
   pub files_told : s.told ≡ false → s.files ≡ []
+  pub files_first : list_all is_first_file s.files ≡ true
   pub taken_none : s.taken ≡ []
   pub made_limit : s.limits.made < 2 ^ 32
   pub queued_limit : s.limits.queued < 2 ^ 32
@@ -86,6 +88,7 @@ valid-sound s v = record {
     files_apart = v.files_apart;
     files_named = v.files_named;
     files_told = v.files_told;
+    files_first = v.files_first;
     taken_none = v.taken_none;
     made_limit = v.made_limit;
     queued_limit = v.queued_limit;
@@ -134,6 +137,7 @@ sound-valid s e k =
       files_apart = k.connected.files_apart;
       files_named = k.connected.files_named;
       files_told = k.connected.files_told;
+      files_first = k.connected.files_first;
       taken_none = k.connected.taken_none;
       documents_within = within s.limits.documents (length s.documents) (neither_first documents (made || applications) e);
       made_within = within s.limits.made (length s.made) (neither_first made applications later);
@@ -161,6 +165,7 @@ sound-lists s ds made rights apps k d m = record {
     files_apart = k.connected.files_apart;
     files_named = k.connected.files_named;
     files_told = k.connected.files_told;
+    files_first = k.connected.files_first;
     taken_none = k.connected.taken_none;
     made_limit = k.connected.made_limit;
     queued_limit = k.connected.queued_limit;
@@ -192,6 +197,7 @@ fewer-lists s ds rights v d fewer = record {
   files_apart = v.files_apart;
   files_named = v.files_named;
   files_told = v.files_told;
+  files_first = v.files_first;
   taken_none = v.taken_none;
   documents_within = fewer;
   made_within = v.made_within;
@@ -215,13 +221,14 @@ pub record SoundFiles (told : Bool) (files : List File) : Type 0 where
   pub differ : IsDistinct is_same (map (λ (f : File). f.path) files)
   pub apart : list_all (λ (f : File). not (is_folder files f.path)) files ≡ true
   pub named : list_all (λ (f : File). is_host_path f.path) files ≡ true
+  pub first : list_all is_first_file files ≡ true
   pub none : told ≡ false → files ≡ []
 
 pub valid-handles : (s : State) → Valid s → SoundHandles s.limits.handles s.connections s.handles
 valid-handles s v = record { differ = v.handles_differ; sound = v.handles_sound; within = v.handles_within }
 
 pub valid-files : (s : State) → Valid s → SoundFiles s.told s.files
-valid-files s v = record { differ = v.files_differ; apart = v.files_apart; named = v.files_named; none = v.files_told }
+valid-files s v = record { differ = v.files_differ; apart = v.files_apart; named = v.files_named; first = v.files_first; none = v.files_told }
 
 -- other connections, handles and files
 pub Valid-open : (s : State) (cs : List Connection) (hs : List OpenHandle) (files : List File) → Valid s → SoundConnections s.limits.queued cs → SoundHandles s.limits.handles cs hs → list_all (is_of_made s.made) hs ≡ true → SoundFiles s.told files →
@@ -248,6 +255,7 @@ Valid-open s cs hs files v k h m f = record {
   files_apart = f.apart;
   files_named = f.named;
   files_told = f.none;
+  files_first = f.first;
   taken_none = v.taken_none;
   documents_within = v.documents_within;
   made_within = v.made_within;
@@ -283,6 +291,7 @@ Valid-entries s entries v d e = record {
   files_apart = v.files_apart;
   files_named = v.files_named;
   files_told = v.files_told;
+  files_first = v.files_first;
   taken_none = v.taken_none;
   documents_within = v.documents_within;
   made_within = v.made_within;

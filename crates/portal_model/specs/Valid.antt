@@ -13,6 +13,7 @@ use Rattle.portal_model.specs.declared.state.Connection.{Connection}
 use Rattle.portal_model.specs.declared.state.Document.{Document}
 use Rattle.portal_model.specs.declared.state.Triple.{Triple}
 use Rattle.portal_model.specs.declared.store.StoredEntry.{StoredEntry}
+use Rattle.portal_base.specs.Content.{is_first_file}
 use Rattle.portal_model.specs.Content.{is_folder}
 use Rattle.portal_model.specs.Data.{is_data}
 use Rattle.portal_model.specs.NodeNumbers.{view_of_node}
@@ -167,6 +168,8 @@ pub record Valid (s : State) : Type 0 where
   pub files_apart : list_all (λ f. not (is_folder s.files f.path)) s.files ≡ true
   pub files_named : list_all (λ f. is_host_path f.path) s.files ≡ true
   pub files_told : s.told ≡ false → s.files ≡ []
+  -- not yet: each file is the first that its path has
+  pub files_first : list_all is_first_file s.files ≡ true
   -- not yet: no generation was taken
   pub taken_none : s.taken ≡ []
   pub documents_within : length s.documents ≤ s.limits.documents

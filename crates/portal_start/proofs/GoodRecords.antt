@@ -237,6 +237,7 @@ with_files o files v t = record {
   files_apart = each_apart files files t.placed.no_root t.placed.apart;
   files_named = sym (list_all-map is_host_path (λ (f : File). f.path) files) ∙ t.names;
   files_told = λ e. cc;
+  files_first = t.first;
   taken_none = v.taken_none;
   documents_within = v.documents_within;
   made_within = v.made_within;

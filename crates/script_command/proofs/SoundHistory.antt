@@ -92,7 +92,7 @@ pub script_opens : (entries : Entries) (lines : List ScriptLine) → IsScript li
 script_opens entries lines good kept valid =
     opens-told (Some (tree_files lines)) (opening_with entries run_limits lines) valid
     (good_rows (entries_of lines) entries (never_bad run_limits lines good holds).entries kept)
-    (record { placed = script_placed lines good; names = list_all-map is_host_path (λ (f : HostFile). f.path) (tree_files lines) ∙ valid.files_named })
+    (record { placed = script_placed lines good; names = list_all-map is_host_path (λ (f : HostFile). f.path) (tree_files lines) ∙ valid.files_named; first = valid.files_first })
 
 pub sound : (entries : Entries) (lines front : List ScriptLine) (history : List Entry) (out : List (List ℕ)) (last : Scene) → IsOpeningState (opening_state entries lines) → Valid (opening_state entries lines) → Plays (first_scene entries lines) front history out last → IsSound entries lines history
 sound entries lines front history out last started valid plays =
