@@ -59,6 +59,8 @@ pub struct File {
     pub bytes: ByteList,
     /// When it changed last, in seconds.
     pub moment: u64,
+    /// Whether it is the one that stands at the path.
+    pub present: bool,
 }
 
 impl Replica for File {
@@ -68,6 +70,25 @@ impl Replica for File {
             generation: self.generation,
             bytes: self.bytes.replica(alloc)?,
             moment: self.moment,
+            present: self.present,
+        })
+    }
+}
+
+/// A file or folder in a folder.
+#[derive(Debug, Drop)]
+pub struct ChildName {
+    /// Its name in the folder.
+    pub name: ByteList,
+    /// Whether it is a folder.
+    pub folder: bool,
+}
+
+impl Replica for ChildName {
+    fn replica(&self, alloc: Global) -> Result<ChildName, WantOfMemory> {
+        Ok(ChildName {
+            name: self.name.replica(alloc)?,
+            folder: self.folder,
         })
     }
 }

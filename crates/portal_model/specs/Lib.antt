@@ -3,6 +3,7 @@ pub mod Ordered
 pub mod Rights
 pub mod Documents
 pub mod Applications
+pub mod SeatNames
 pub mod Content
 pub mod NodeNumbers
 pub mod Place
@@ -29,6 +30,8 @@ pub mod Fsync
 pub mod Release
 pub mod ReleaseDir
 pub mod Access
+pub mod Rename
+pub mod Unlink
 pub mod Verdict
 pub mod Arguments
 pub mod Present

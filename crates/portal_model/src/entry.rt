@@ -1,8 +1,7 @@
 //! Entries of the history: a request, and what the outside gave it.
 
-use crate::child::ChildName;
 use crate::request::Request;
-use portal_base::files::Look;
+use portal_base::files::{ChildName, Look};
 use portal_base::list::List;
 use portal_base::names::doc_id::DocId;
 

@@ -12,7 +12,7 @@
 //! | `request`, `reply`, `entry` | what is asked, what is answered, and one request with what the outside gave it |
 //! | `asked` | what a seat is answered that waits for nobody |
 //! | `state`, `rights`, `handle`, `place` | the items of the portal's lists, the four rights, open handles, the numbers of nodes |
-//! | `child`, `naming`, `temporary` | what a folder lists, names below exported folders, and files that are renamed later |
+//! | `naming`, `temporary` | names below exported folders, and files that are renamed later |
 //! | `opening`, `records` | what a run begins with, and the records that outlive it |
 //! | `store`, `datum` | the calls of the permission store, its entries and their data |
 //! | `errno` | the numbers of errors on nodes |
@@ -29,7 +29,6 @@
 #![tactic(auto)]
 
 pub mod asked;
-pub mod child;
 pub mod datum;
 pub mod document_examples;
 pub mod document_laws;
