@@ -52,7 +52,7 @@ may_add s c a =
     are_presented c.queue a
     && (are_add_arguments c.queue a
     && (may_list_all s c.who a (document_paths c.queue a)
-    && are_of_kind a (map (look_at s.files) (paths_shown c.queue a))))
+    && are_of_kind a (paths_shown c.queue a) (map (look_at s.files) (paths_shown c.queue a))))
 
 -- of a live document
 abbrev pub may_grant_in : State → Who → RightsCall → Option Document → Bool
@@ -128,10 +128,19 @@ has_file s path = is_file (look_at s.files path)
 abbrev pub has_named : State → FileName → Bool
 has_named s name = is_some (file_named s.files name)
 
+-- what a look shows at or below an exported folder
+abbrev pub at_look : (Bool → Bool) → (Folder → Bool) → Bool → Folder → Look → Bool
+at_look file folder may_write here (Look.File generation size moment) = file may_write
+at_look file folder may_write here Look.Folder = folder here
+at_look file folder may_write here Look.Missing = false
+
 -- a file of which this is asked of its right to be written, where it is there; or a folder
 abbrev pub at_sight : State → (Bool → Bool) → (Folder → Bool) → Option Sight → Bool
 at_sight s file folder None = false
 at_sight s file folder (Some (SightOfFile d may_write)) = has_file s d.path && file may_write
+at_sight s file folder (Some (SightOfTemp d name may_write)) = has_named s name && file may_write
+at_sight s file folder (Some (SightBelow view d path may_write)) =
+    at_look file folder may_write (Exported view d path may_write) (look_at s.files path)
 at_sight s file folder (Some (SightOfFolder f)) = folder f
 
 -- what is asked of an open file, where it is there
@@ -151,22 +160,53 @@ is_folder_handle None = false
 is_folder_handle (Some (Handle.File name node document strict read write)) = false
 is_folder_handle (Some (Handle.Folder node names)) = true
 
-abbrev pub has_child : State → List ℕ → Folder → Bool
-has_child s name (RootOf view numbers has_views) =
+-- the document's name, of a file or of a folder that is exported
+abbrev pub has_document : State → Document → Bool
+has_document s d =
+    has_file s d.path || (d.folder && is_folder_look (look_at s.files d.path))
+
+-- a temporary of the seat whose file is there
+abbrev pub has_temp : State → Option OwnTemp → Bool
+has_temp s None = false
+has_temp s (Some t) = has_named s t.temp.file
+
+abbrev pub has_path : State → Option (List ℕ) → Bool
+has_path s None = false
+has_path s (Some path) = not (is_missing (look_at s.files path))
+
+abbrev pub has_child : State → SeatNames → List ℕ → Folder → Bool
+has_child s names name (RootOf view numbers has_views) =
     is_some (named_in_root view numbers has_views name)
-has_child s name (Views applications) = is_some (named_in_views applications name)
-has_child s name (FolderOf view d may_write) =
-    is_same name (name_of d.path) && has_file s d.path
+has_child s names name (Views applications) = is_some (named_in_views applications name)
+has_child s names name (FolderOf view d may_write) =
+    cond (is_same name (name_of d.path)) (has_document s d)
+    (has_temp s (found_temp names.temps view d.id name))
+has_child s names name (Exported view d path may_write) = has_path s (named_child path name)
 
 -- nothing is there, and the parent is a folder
 abbrev pub is_free : State → List ℕ → Bool
 is_free s path = is_missing (look_at s.files path) && has_room s.files path
 
-abbrev pub may_create_in : State → List ℕ → Folder → Bool
-may_create_in s name (RootOf view numbers has_views) = false
-may_create_in s name (Views applications) = false
-may_create_in s name (FolderOf view d may_write) =
-    is_same name (name_of d.path) && (may_write && is_free s d.path)
+abbrev pub is_free_child : State → Option (List ℕ) → Bool
+is_free_child s None = false
+is_free_child s (Some path) = is_free s path
+
+-- another name than the document's is a temporary's: there is none of it yet, and the parent of the
+-- document's path is a folder
+abbrev pub may_begin : State → SeatNames → List ℕ → ℕ → Document → Bool
+may_begin s names name view d =
+    not d.folder
+    && (not (is_dots name)
+    && (not (is_some (found_temp names.temps view d.id name)) && has_room s.files d.path))
+
+abbrev pub may_create_in : State → SeatNames → List ℕ → Folder → Bool
+may_create_in s names name (RootOf view numbers has_views) = false
+may_create_in s names name (Views applications) = false
+may_create_in s names name (FolderOf view d may_write) =
+    may_write
+    && cond (is_same name (name_of d.path)) (is_free s d.path) (may_begin s names name view d)
+may_create_in s names name (Exported view d path may_write) =
+    may_write && is_free_child s (named_child path name)
 
 abbrev pub never : {X : Type 0} → X → Bool
 never x = false
@@ -200,7 +240,49 @@ may_access s mask sight =
     not (nat_lt 7 mask)
     && at_sight s
     (λ may_write. not (executes mask) && (not (writes_to mask) || may_write))
-    (λ folder. not (writes_to mask)) sight
+    (λ folder. not (writes_to mask) || is_writable folder) sight
+
+-- a temporary may get another name, or stand at its path where no folder is
+abbrev pub may_rename_to : State → List ℕ → Document → OwnTemp → Bool
+may_rename_to s name d t =
+    not (is_dots name)
+    && (not (is_same name (name_of d.path))
+    || (has_named s t.temp.file && not (is_folder s.files t.temp.file.path)))
+
+abbrev pub may_rename_temp : State → List ℕ → Home → Option OwnTemp → Bool
+may_rename_temp s name home None = false
+may_rename_temp s name home (Some t) = home.may_write && may_rename_to s name home.document t
+
+abbrev pub may_rename_at : State → SeatNames → RenameCall → Home → Bool
+may_rename_at s names call home =
+    not (is_same call.old_name (name_of home.document.path))
+    && may_rename_temp s call.new_name home
+    (found_temp names.temps home.view home.document.id call.old_name)
+
+abbrev pub in_one_home : State → SeatNames → RenameCall → Option Home → Option Home → Bool
+in_one_home s names call None second = false
+in_one_home s names call (Some first) None = false
+in_one_home s names call (Some first) (Some second) =
+    same_home first second && may_rename_at s names call first
+
+abbrev pub may_rename : State → SeatNames → RenameCall → Option Sight → Option Sight → Bool
+may_rename s names call sight new_sight =
+    (call.flags == 0)
+    && (not (is_too_long call.old_name || is_too_long call.new_name)
+    && at_sight s never
+    (λ first. at_sight s never
+    (λ second. in_one_home s names call (home_of first) (home_of second)) new_sight) sight)
+
+abbrev pub may_unlink_at : SeatNames → List ℕ → Option Home → Bool
+may_unlink_at names name None = false
+may_unlink_at names name (Some home) =
+    not (is_same name (name_of home.document.path))
+    && (home.may_write && is_some (found_temp names.temps home.view home.document.id name))
+
+abbrev pub may_unlink : State → SeatNames → List ℕ → Option Sight → Bool
+may_unlink s names name sight =
+    not (is_too_long name)
+    && at_sight s never (λ folder. may_unlink_at names name (home_of folder)) sight
 
 -- a write of no bytes needs no file
 abbrev pub may_write_to : State → Reaching → List ℕ → Option Handle → Bool
@@ -210,38 +292,46 @@ may_write_to s reach content (Some (Handle.File name node document strict read w
     && (is_none content || has_named s name)
 may_write_to s reach content (Some (Handle.Folder node names)) = false
 
-abbrev pub may_ask_at : State → Reaching → NodeOp → Option Sight → (ℕ → Option Handle) → Bool
-may_ask_at s reach (NodeOp.Lookup name) sight handle =
-    not (is_too_long name) && at_sight s never (has_child s name) sight
-may_ask_at s reach (NodeOp.Forget count) sight handle = true
-may_ask_at s reach (NodeOp.BatchForget nodes) sight handle = true
-may_ask_at s reach (NodeOp.GetAttr flags fh) sight handle =
+abbrev pub may_ask_at :
+    State → Reaching → SeatNames → NodeOp → (ℕ → Option Sight) → Option Sight
+    → (ℕ → Option Handle) → Bool
+may_ask_at s reach names (NodeOp.Lookup name) sight_of sight handle =
+    not (is_too_long name) && at_sight s never (has_child s names name) sight
+may_ask_at s reach names (NodeOp.Forget count) sight_of sight handle = true
+may_ask_at s reach names (NodeOp.BatchForget nodes) sight_of sight handle = true
+may_ask_at s reach names (NodeOp.GetAttr flags fh) sight_of sight handle =
     may_get_attr s reach (names_handle flags) sight (handle fh)
-may_ask_at s reach (NodeOp.SetAttr valid fh size) sight handle =
+may_ask_at s reach names (NodeOp.SetAttr valid fh size) sight_of sight handle =
     may_set_attr s reach valid sight (handle fh)
-may_ask_at s reach (NodeOp.Open flags) sight handle =
+may_ask_at s reach names (NodeOp.Open flags) sight_of sight handle =
     not (has_no_mode flags)
     && at_sight s (λ may_write. not (opens_to_write flags) || may_write) never sight
-may_ask_at s reach (NodeOp.Create name flags) sight handle =
+may_ask_at s reach names (NodeOp.Create name flags) sight_of sight handle =
     not (has_no_mode flags)
-    && (not (is_too_long name) && at_sight s never (may_create_in s name) sight)
-may_ask_at s reach (NodeOp.Read fh offset size) sight handle =
+    && (not (is_too_long name) && at_sight s never (may_create_in s names name) sight)
+may_ask_at s reach names (NodeOp.Read fh offset size) sight_of sight handle =
     not (nat_lt read_limit size) && on_handle s (may_read_now reach) (handle fh)
-may_ask_at s reach (NodeOp.Write fh offset content) sight handle =
+may_ask_at s reach names (NodeOp.Write fh offset content) sight_of sight handle =
     not (nat_lt write_limit (length content)) && may_write_to s reach content (handle fh)
-may_ask_at s reach (NodeOp.Flush fh) sight handle = is_file_handle (handle fh)
-may_ask_at s reach (NodeOp.Fsync fh) sight handle = on_handle s always (handle fh)
-may_ask_at s reach (NodeOp.Release fh) sight handle = is_file_handle (handle fh)
-may_ask_at s reach NodeOp.OpenDir sight handle = at_sight s never always sight
-may_ask_at s reach (NodeOp.ReadDir fh offset size) sight handle =
+may_ask_at s reach names (NodeOp.Flush fh) sight_of sight handle = is_file_handle (handle fh)
+may_ask_at s reach names (NodeOp.Fsync fh) sight_of sight handle = on_handle s always (handle fh)
+may_ask_at s reach names (NodeOp.Release fh) sight_of sight handle = is_file_handle (handle fh)
+may_ask_at s reach names NodeOp.OpenDir sight_of sight handle = at_sight s never always sight
+may_ask_at s reach names (NodeOp.ReadDir fh offset size) sight_of sight handle =
     not (nat_lt read_limit size) && is_folder_handle (handle fh)
-may_ask_at s reach (NodeOp.ReleaseDir fh) sight handle = is_folder_handle (handle fh)
-may_ask_at s reach (NodeOp.Access mask) sight handle = may_access s mask sight
+may_ask_at s reach names (NodeOp.ReleaseDir fh) sight_of sight handle = is_folder_handle (handle fh)
+may_ask_at s reach names (NodeOp.Access mask) sight_of sight handle = may_access s mask sight
+
+may_ask_at s reach names (NodeOp.Rename new_parent flags old_name new_name) sight_of sight handle =
+    may_rename s names (record { flags = flags; old_name = old_name; new_name = new_name }) sight
+    (sight_of new_parent)
+may_ask_at s reach names (NodeOp.Unlink name) sight_of sight handle = may_unlink s names name sight
 
 -- A request on a node of this connection, which is a mount.
 abbrev pub may_ask_node : State → Connection → NodeRequest → Bool
 may_ask_node s c r =
-    may_ask_at s (reach_at s c.who) r.op (place_of s c.who r.node) (handle_of s.handles c.seat)
+    may_ask_at s (reach_at s c.who) (names_of c) r.op (place_on s c) (place_on s c r.node)
+    (handle_of s.handles c.seat)
 
 -- no limit is met: that of open handles, and that of a file's length
 abbrev pub within : State → Connection → NodeOp → Bool

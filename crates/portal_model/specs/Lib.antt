@@ -4,6 +4,9 @@ pub mod Rights
 pub mod Documents
 pub mod Applications
 pub mod SeatNames
+pub mod Made
+pub mod SoundNames
+pub mod SoundFiles
 pub mod Content
 pub mod NodeNumbers
 pub mod Place
