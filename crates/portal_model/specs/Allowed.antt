@@ -1,7 +1,7 @@
 -- What a seat may ask: what is allowed is done, where no device fails and no limit is met.
-use Rattle.std.specs.Prelude.{ℕ, ◌+◌, List, [], map, Bool, true, false, not, ◌&&◌, ◌||◌, length, nat_lt, Option, Some, None, is_some, cond}
-use Rattle.portal_base.specs.Content.{file_named, has_room}
-use Rattle.portal_base.specs.Names.{is_app_name, is_same, name_of}
+use Rattle.std.specs.Prelude.{ℕ, ◌+◌, ◌==◌, List, [], map, Bool, true, false, not, ◌&&◌, ◌||◌, length, nat_lt, Option, Some, None, is_some, cond}
+use Rattle.portal_base.specs.Content.{file_named, has_room, is_folder}
+use Rattle.portal_base.specs.Names.{is_app_name, is_dots, is_same, name_of, named_child}
 use Rattle.portal_base.specs.declared.files.FileName.{FileName}
 use Rattle.portal_base.specs.declared.files.Look.{Look}
 use Rattle.portal_base.specs.declared.who.Who.{Who}
@@ -17,23 +17,27 @@ use Rattle.portal_model.specs.declared.rights.Right.TheVariants.{Delete, GrantPe
 use Rattle.portal_model.specs.declared.state.Connection.{Connection}
 use Rattle.portal_model.specs.declared.state.Document.{Document}
 use Rattle.portal_model.specs.declared.store.StoreCall.{StoreCall}
+use Rattle.portal_model.specs.declared.temporary.OwnTemp.{OwnTemp}
 use Rattle.portal_model.specs.Access.{executes, writes_to}
-use Rattle.portal_model.specs.Add.{are_of_kind, is_file, may_list_all}
+use Rattle.portal_model.specs.Add.{are_of_kind, is_file, is_folder_look, may_list_all}
 use Rattle.portal_model.specs.AddArguments.{are_add_arguments, are_presented, document_paths, paths_shown}
 use Rattle.portal_model.specs.Arguments.{ahead_of_end, document_named, is_ended_path}
+use Rattle.portal_model.specs.Attributes.{is_writable}
 use Rattle.portal_model.specs.Content.{look_at}
 use Rattle.portal_model.specs.GetAttr.{names_handle}
 use Rattle.portal_model.specs.Grant.{are_rights_arguments, may_grant}
-use Rattle.portal_model.specs.Lookup.{named_in_root, named_in_views}
+use Rattle.portal_model.specs.Lookup.{naming_in, named_in_root, named_in_views}
 use Rattle.portal_model.specs.Node.{room_of}
 use Rattle.portal_model.specs.NodeVerdict.{is_too_long}
 use Rattle.portal_model.specs.Open.{has_no_mode, opens_to_write}
-use Rattle.portal_model.specs.Place.{Folder, RootOf, Views, FolderOf, Sight, SightOfFile, SightOfFolder, place_of, reach_at}
+use Rattle.portal_model.specs.Place.{Folder, RootOf, Views, FolderOf, Exported, Sight, SightOfFile, SightOfTemp, SightBelow, SightOfFolder, place_on, reach_at}
 use Rattle.portal_model.specs.Present.{may_present}
 use Rattle.portal_model.specs.Reach.{OpenFile, Reaching, may_read_now, may_write_now, open_file_of, reaches}
 use Rattle.portal_model.specs.Read.{read_limit}
+use Rattle.portal_model.specs.Rename.{Home, RenameCall, home_of, same_home}
 use Rattle.portal_model.specs.Revoke.{names_itself}
 use Rattle.portal_model.specs.Rights.{held_by}
+use Rattle.portal_model.specs.SeatNames.{SeatNames, are_temps_full, found_temp, lacks_number, names_of}
 use Rattle.portal_model.specs.SetAttr.{sets_by_handle, sets_owner_or_mode, sets_size}
 use Rattle.portal_model.specs.State.{State, connection_of, handle_of, is_host, who_has}
 use Rattle.portal_model.specs.Store.{store_call}
@@ -321,7 +325,6 @@ may_ask_at s reach names (NodeOp.ReadDir fh offset size) sight_of sight handle =
     not (nat_lt read_limit size) && is_folder_handle (handle fh)
 may_ask_at s reach names (NodeOp.ReleaseDir fh) sight_of sight handle = is_folder_handle (handle fh)
 may_ask_at s reach names (NodeOp.Access mask) sight_of sight handle = may_access s mask sight
-
 may_ask_at s reach names (NodeOp.Rename new_parent flags old_name new_name) sight_of sight handle =
     may_rename s names (record { flags = flags; old_name = old_name; new_name = new_name }) sight
     (sight_of new_parent)
@@ -333,26 +336,62 @@ may_ask_node s c r =
     may_ask_at s (reach_at s c.who) (names_of c) r.op (place_on s c) (place_on s c r.node)
     (handle_of s.handles c.seat)
 
--- no limit is met: that of open handles, and that of a file's length
-abbrev pub within : State → Connection → NodeOp → Bool
-within s c (NodeOp.Open flags) = not (room_of s c).full
-within s c (NodeOp.Create name flags) = not (room_of s c).full
-within s c NodeOp.OpenDir = not (room_of s c).full
-within s c (NodeOp.SetAttr valid fh size) =
+-- a name below an exported folder has a number, or there is one left for it
+abbrev pub has_number : SeatNames → ℕ → Document → Option (List ℕ) → Bool
+has_number names view d None = true
+has_number names view d (Some path) = not (lacks_number names.namings (naming_in view d path))
+
+abbrev pub names_within : SeatNames → List ℕ → Option Sight → Bool
+names_within names name None = true
+names_within names name (Some (SightOfFile d may_write)) = true
+names_within names name (Some (SightOfTemp d file may_write)) = true
+names_within names name (Some (SightBelow view d path may_write)) =
+    has_number names view d (named_child path name)
+names_within names name (Some (SightOfFolder f)) = true
+
+-- the seat may make one temporary more, where the name is that of one
+abbrev pub temps_within_in : SeatNames → List ℕ → Folder → Bool
+temps_within_in names name (RootOf view numbers has_views) = true
+temps_within_in names name (Views applications) = true
+temps_within_in names name (FolderOf view d may_write) =
+    is_same name (name_of d.path) || not (are_temps_full names.temps)
+temps_within_in names name (Exported view d path may_write) = true
+
+abbrev pub temps_within : SeatNames → List ℕ → Option Sight → Bool
+temps_within names name None = true
+temps_within names name (Some (SightOfFile d may_write)) = true
+temps_within names name (Some (SightOfTemp d file may_write)) = true
+temps_within names name (Some (SightBelow view d path may_write)) = true
+temps_within names name (Some (SightOfFolder f)) = temps_within_in names name f
+
+-- no limit is met: those of open handles, of names below exported folders and of temporaries, and
+-- that of a file's length
+abbrev pub within_at : State → Connection → NodeOp → Option Sight → Bool
+within_at s c (NodeOp.Open flags) sight = not (room_of s c).full
+within_at s c (NodeOp.Create name flags) sight =
+    not (room_of s c).full
+    && (names_within (names_of c) name sight && temps_within (names_of c) name sight)
+within_at s c (NodeOp.Lookup name) sight = names_within (names_of c) name sight
+within_at s c NodeOp.OpenDir sight = not (room_of s c).full
+within_at s c (NodeOp.SetAttr valid fh size) sight =
     not (sets_size valid) || not (nat_lt s.limits.file_bytes size)
-within s c (NodeOp.Write fh offset content) =
+within_at s c (NodeOp.Write fh offset content) sight =
     is_none content || not (nat_lt s.limits.file_bytes (offset + length content))
-within s c (NodeOp.Lookup name) = true
-within s c (NodeOp.Forget count) = true
-within s c (NodeOp.BatchForget nodes) = true
-within s c (NodeOp.GetAttr flags fh) = true
-within s c (NodeOp.Read fh offset size) = true
-within s c (NodeOp.Flush fh) = true
-within s c (NodeOp.Fsync fh) = true
-within s c (NodeOp.Release fh) = true
-within s c (NodeOp.ReadDir fh offset size) = true
-within s c (NodeOp.ReleaseDir fh) = true
-within s c (NodeOp.Access mask) = true
+within_at s c (NodeOp.Forget count) sight = true
+within_at s c (NodeOp.BatchForget nodes) sight = true
+within_at s c (NodeOp.GetAttr flags fh) sight = true
+within_at s c (NodeOp.Read fh offset size) sight = true
+within_at s c (NodeOp.Flush fh) sight = true
+within_at s c (NodeOp.Fsync fh) sight = true
+within_at s c (NodeOp.Release fh) sight = true
+within_at s c (NodeOp.ReadDir fh offset size) sight = true
+within_at s c (NodeOp.ReleaseDir fh) sight = true
+within_at s c (NodeOp.Access mask) sight = true
+within_at s c (NodeOp.Rename new_parent flags old_name new_name) sight = true
+within_at s c (NodeOp.Unlink name) sight = true
+
+abbrev pub within : State → Connection → NodeRequest → Bool
+within s c r = within_at s c r.op (place_on s c r.node)
 
 -- ---- a request of a seat
 
@@ -398,12 +437,12 @@ place_on s request None = true
 place_on s request (Some c) = has_place s c request
 
 -- and a request on a node meets no limit
-abbrev pub node_within : State → NodeOp → Option Connection → Bool
-node_within s op None = true
-node_within s op (Some c) = within s c op
+abbrev pub node_within : State → NodeRequest → Option Connection → Bool
+node_within s r None = true
+node_within s r (Some c) = within s c r
 
 abbrev pub limits_kept : State → Request → Option Connection → Bool
-limits_kept s (Request.Node r) o = node_within s r.op (mount_of o)
+limits_kept s (Request.Node r) o = node_within s r (mount_of o)
 limits_kept s request o = place_on s request (bus_of o)
 
 abbrev pub place_left : State → ℕ → Request → Bool
