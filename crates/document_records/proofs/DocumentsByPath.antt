@@ -362,7 +362,8 @@ found-serving documents path persistent strict folder (x ∷ xs) h =
         (find (serves path persistent strict folder) xs))
     step true k =
         (λ i. cond (has_flags persistent strict folder (h.0 i)) (Some x.id) (k i))
-        ∙ inside flags
+        ∙ inside (same_flag x.persistent persistent
+        && (same_flag x.strict strict && (same_flag x.folder folder && x.reusable)))
         (find (serves path persistent strict folder) xs)
     step false k = k
 
