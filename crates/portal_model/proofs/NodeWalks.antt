@@ -30,15 +30,15 @@ module _ (tree : Option (List File)) (P : NodeDoing → Type 0) where
   on-listed None done missing h k = k
   on-listed (Some names) done missing h k = h names
 
-  pub on-given : (w : Walk NodeVerdict) (now : ℕ) (looks : List Look) (listed : Option (List ChildName)) (failed : Bool) → Gives tree w looks listed failed → OnNode w → IfMet (walked w now listed looks failed)
-  on-given (Answers v) now looks listed failed g h = h
-  on-given (Looks target next) now [] listed failed g h = tt
-  on-given (Looks target next) now (look ∷ looks) listed failed g h = on-given (next look) now looks listed failed g.1 (h look g.0)
-  on-given (Ends call done missing) now [] listed true g h = tt
-  on-given (Ends call done missing) now [] listed false g h = h.0 now g.1
-  on-given (Ends call done missing) now (look ∷ looks) listed failed g h = h.1
-  on-given (Lists path done missing) now looks listed true g h = tt
-  on-given (Lists path done missing) now looks listed false g h = on-listed listed done missing h.0 h.1
+  pub on-given : (w : Walk NodeVerdict) (now : ℕ) (listed : Option (List ChildName)) (looks : List Look) (failed : Bool) → Gives tree w looks listed failed → OnNode w → IfMet (walked w now listed looks failed)
+  on-given (Answers v) now listed looks failed g h = h
+  on-given (Looks target next) now listed [] failed g h = tt
+  on-given (Looks target next) now listed (look ∷ looks) failed g h = on-given (next look) now listed looks failed g.1 (h look g.0)
+  on-given (Ends call done missing) now listed [] true g h = tt
+  on-given (Ends call done missing) now listed [] false g h = h.0 now g.1
+  on-given (Ends call done missing) now listed (look ∷ looks) failed g h = h.1
+  on-given (Lists path done missing) now listed looks true g h = tt
+  on-given (Lists path done missing) now listed looks false g h = on-listed listed done missing h.0 h.1
 
   pub errs_if-on : (b : Bool) (errno : ℕ) (w : Walk NodeVerdict) → (b ≡ false → OnNode w) → OnNode (errs_if b errno w)
   errs_if-on true errno w h = tt
