@@ -45,3 +45,4 @@ pub mod EntriesAllowed
 pub mod NodeLawsHold
 pub mod FileExampleProofs
 pub mod StoreExampleProofs
+pub mod FolderExampleProofs

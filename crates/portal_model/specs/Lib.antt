@@ -71,5 +71,7 @@ pub mod DocumentLaws
 pub mod DocumentExamples
 pub mod NodeLaws
 pub mod FileExamples
+pub mod FolderExamples
+pub mod SaveExamples
 pub mod StoreExamples
 pub mod StoreLaws
