@@ -11,7 +11,9 @@ pub mod RightsLaws
 pub mod DocumentChanges
 pub mod OpenHandles
 pub mod MadeHandles
+pub mod StandingFiles
 pub mod FilesValid
+pub mod TakenValid
 pub mod NodeWalks
 pub mod NodeValid
 pub mod NodeAllowed

@@ -138,7 +138,7 @@ files_after told (Turns name) files = cond told (turned name files) files
 
 -- the generations that were taken are the portal's own, whatever the tree tells
 abbrev pub taken_after : FileChange → List TakenGeneration → List TakenGeneration
-taken_after (Freshens name now) taken = with_taken taken name.path name.generation
+taken_after (Freshens name now) taken = with_taken name.path name.generation taken
 taken_after FilesStay taken = taken
 taken_after (Writes name offset content now) taken = taken
 taken_after (Resizes name size now) taken = taken

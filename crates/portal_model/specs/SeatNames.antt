@@ -1,6 +1,6 @@
 -- What a connection has named: paths below exported folders, by their places, and temporaries, by
 -- their numbers. Both count from 1, on each connection by itself.
-use Rattle.std.specs.Prelude.{ℕ, zero, suc, ◌+◌, ◌==◌, ◌&&◌, nat_lt, List, [], ◌∷◌, ◌++◌, length, map, Bool, not, Option, Some, None, cond, is_some, option_map, slice_get}
+use Rattle.std.specs.Prelude.{ℕ, zero, suc, ◌+◌, ◌==◌, ◌&&◌, nat_lt, List, [], ◌∷◌, ◌++◌, length, map, Bool, not, Option, Some, None, cond, option_map, slice_get}
 use Rattle.std.specs.List.{filter, find, list_any, position}
 use Rattle.portal_base.specs.Names.{is_same}
 use Rattle.portal_base.specs.declared.names.doc_id.DocId.{DocId}
@@ -102,21 +102,18 @@ abbrev pub last_of : Option TakenGeneration → ℕ
 last_of None = 0
 last_of (Some t) = t.last
 
+abbrev pub is_of : List ℕ → TakenGeneration → Bool
+is_of path t = is_same t.path path
+
 -- the last one taken for a path, 0 where none was
 abbrev pub last_taken : List TakenGeneration → List ℕ → ℕ
-last_taken taken path = last_of (find (λ t. is_same t.path path) taken)
+last_taken taken path = last_of (find (is_of path) taken)
 
 abbrev pub next_generation : List TakenGeneration → List ℕ → ℕ
 next_generation taken path = last_taken taken path + 1
 
-abbrev pub has_taken : List TakenGeneration → List ℕ → Bool
-has_taken taken path = list_any (λ t. is_same t.path path) taken
-
-abbrev pub taken_at : List ℕ → ℕ → TakenGeneration → TakenGeneration
-taken_at path generation t = cond (is_same t.path path) (record t { last = generation }) t
-
--- a path has one at most
-abbrev pub with_taken : List TakenGeneration → List ℕ → ℕ → List TakenGeneration
-with_taken taken path generation =
-    cond (has_taken taken path) (map (taken_at path generation) taken)
-    (taken ++ record { path = path; last = generation } ∷ [])
+-- this is the last one of the path, in the place of the former or behind all
+abbrev pub with_taken : List ℕ → ℕ → List TakenGeneration → List TakenGeneration
+with_taken path last [] = record { path = path; last = last } ∷ []
+with_taken path last (t ∷ ts) =
+    cond (is_of path t) (record t { last = last } ∷ ts) (t ∷ with_taken path last ts)
