@@ -14,6 +14,7 @@ pub mod MadeHandles
 pub mod StandingFiles
 pub mod FilesValid
 pub mod TakenValid
+pub mod NamesValid
 pub mod NodeWalks
 pub mod NodeValid
 pub mod NodeAllowed
