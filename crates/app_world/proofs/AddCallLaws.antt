@@ -26,7 +26,7 @@ use Rattle.app_world.proofs.HeldLaws.{same-rights}
 use Rattle.app_world.proofs.PresentLaws.{view-elsewhere, view-requeued}
 use Rattle.app_world.proofs.ReachedLaws.{IsTouched}
 use Rattle.portal_model.specs.Documents.{serves}
-use Rattle.portal_model.specs.AddArguments.{exports, persists}
+use Rattle.portal_model.specs.AddArguments.{persists}
 
 -- ---- the queue
 
