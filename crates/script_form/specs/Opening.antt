@@ -1,5 +1,5 @@
 -- The state that a script opens with.
-use Rattle.std.specs.Prelude.{◌≡◌, ℕ, ◌^◌, ◌<◌, ◌≤◌, true, List, [], ◌∷◌, ◌++◌, map}
+use Rattle.std.specs.Prelude.{◌≡◌, ℕ, ◌^◌, ◌<◌, ◌≤◌, true, false, List, [], ◌∷◌, ◌++◌, map}
 use Rattle.portal_base.specs.declared.limits.Limits.{Limits}
 use Rattle.portal_model.specs.RecordChanges.{records_version}
 use Rattle.portal_model.specs.Opening.{each, first_item, first_named, id_of, names_kept}
