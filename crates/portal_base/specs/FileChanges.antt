@@ -1,7 +1,7 @@
 -- What reading gives of a file's bytes, and what each change leaves of the files of a tree.
 -- Source: POSIX.1-2017, pread, pwrite and ftruncate: a write behind the end fills the gap with
 -- zero bytes, a write of no bytes changes nothing.
-use Rattle.std.specs.Prelude.{ℕ, ◌+◌, ◌-◌, List, [], ◌∷◌, ◌++◌, length, take, drop, map, replicate, cond}
+use Rattle.std.specs.Prelude.{ℕ, ◌+◌, ◌-◌, List, [], ◌∷◌, ◌++◌, length, take, drop, map, replicate, true, false, cond}
 use Rattle.std.specs.Ordering.{is_lt}
 use Rattle.portal_base.specs.Names.{is_same}
 use Rattle.portal_base.specs.PathOrder.{file_order}
