@@ -29,6 +29,15 @@ pub struct FileItem {
     pub moment: u64,
 }
 
+/// The last generation that was taken for a file of a path.
+#[derive(Drop)]
+pub struct TakenGeneration {
+    /// The path on the host.
+    pub path: ByteList,
+    /// The generation, from 1.
+    pub last: u64,
+}
+
 /// The state that a portal opens with.
 #[derive(Drop)]
 pub struct OpeningState {
@@ -61,6 +70,15 @@ impl Replica for FileItem {
             path: self.path.replica(alloc)?,
             content: self.content.replica(alloc)?,
             moment: self.moment,
+        })
+    }
+}
+
+impl Replica for TakenGeneration {
+    fn replica(&self, alloc: Global) -> Result<TakenGeneration, WantOfMemory> {
+        Ok(TakenGeneration {
+            path: self.path.replica(alloc)?,
+            last: self.last,
         })
     }
 }
