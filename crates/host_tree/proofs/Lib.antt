@@ -1,4 +1,5 @@
-pub mod PathsBelow
 pub mod Bytes
-pub mod FileCreated
 pub mod Entries
+pub mod FileCreated
+pub mod NamesFound
+pub mod PathsBelow
