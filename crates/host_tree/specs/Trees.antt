@@ -1,10 +1,10 @@
 -- What a tree of files answers, and what each call leaves of it.
-use Rattle.std.specs.Prelude.{◌≡◌, ℕ, ◌≤◌, min, nat_lt, List, [], ◌∷◌, ◌++◌, length, Bool, true, false, not, ◌&&◌, cond, Option, Some, None, is_some, option_map, IfSome}
-use Rattle.std.specs.List.{filter}
+use Rattle.std.specs.Prelude.{◌≡◌, ℕ, ◌≤◌, ◌==◌, min, nat_lt, List, [], ◌∷◌, ◌++◌, length, map, Bool, true, false, not, ◌&&◌, cond, Option, Some, None, is_some, option_map, IfSome}
+use Rattle.std.specs.List.{filter, list_all, list_any}
 use Rattle.portal_base.specs.Calls.{Calls, next_call, FailsAsTold}
 use Rattle.portal_base.specs.Devices.{count_after}
 use Rattle.portal_base.specs.Names.{is_same}
-use Rattle.portal_base.specs.Content.{file_at, file_named, is_folder, has_room, look_at}
+use Rattle.portal_base.specs.Content.{file_at, file_named, is_folder, is_named, has_room, look_at}
 pub use Rattle.portal_base.specs.FileChanges.{bytes_from, cut_to, overlaid, with_bytes, written, resized, change_named, put_file, file_with, new_file}
 use Rattle.portal_base.specs.declared.files.File.{File}
 use Rattle.portal_base.specs.declared.files.FileName.{FileName}
@@ -33,13 +33,65 @@ abbrev pub unnoted : Noted
 unnoted = record { room = 0; kinds = [] }
 
 pub record TreeIs : Type 0 where
-  -- the files that it began with and those that it has, where it tells them
+  -- the present files that it began with and those that it has, where it tells them
   pub began : Option (List File)
   pub told : Option (List File)
+  -- the same of the files beside them, which aren't present
+  pub began_hidden : List File
+  pub hidden : List File
   pub faults : ℕ
   -- its calls, where it tells them
   pub calls : Option Calls
   pub noted : Noted
+
+-- ---- the files, present or not
+
+-- the present files, of which each path has one at most, and those beside them
+pub record Held : Type 0 where
+  pub present : List File
+  pub hidden : List File
+
+abbrev pub held_with : List File → List File → Held
+held_with present hidden = record { present = present; hidden = hidden }
+
+-- all of them
+abbrev pub all_of : Held → List File
+all_of held = held.present ++ held.hidden
+
+-- the files of a tree that tells them
+abbrev pub held_of : TreeIs → Option Held
+held_of tree = option_map (λ present. held_with present tree.hidden) tree.told
+
+-- all of these
+abbrev pub all_files : TreeIs → Option (List File)
+all_files tree = option_map (λ present. present ++ tree.hidden) tree.told
+
+-- the tree with these files, where it tells them
+abbrev pub with_held : TreeIs → Option Held → TreeIs
+with_held tree None = tree
+with_held tree (Some held) = record tree { told = Some held.present; hidden = held.hidden }
+
+abbrev pub name_of_file : File → FileName
+name_of_file f = record { path = f.path; generation = f.generation }
+
+-- the file isn't the present one of its path; where there is none, it isn't the first of its path
+abbrev pub is_other : File → Option File → Bool
+is_other f None = not (f.generation == 0)
+is_other f (Some present) = not (f.generation == present.generation)
+
+-- it lies in a folder, beside the present file of its path
+abbrev pub is_beside : List File → File → Bool
+is_beside present f = has_room present f.path && is_other f (file_at present f.path)
+
+abbrev pub names_differ : List File → Bool
+names_differ [] = true
+names_differ (f ∷ fs) = not (list_any (is_named (name_of_file f)) fs) && names_differ fs
+
+-- What the files beside the present ones are: each lies in a folder, and no two files have one
+-- name; a path whose first file is there has a present one.
+pub record AreBeside (held : Held) : Type 0 where
+  pub beside : list_all (is_beside held.present) held.hidden ≡ true
+  pub differ : names_differ held.hidden ≡ true
 
 -- ---- calls and faults
 
@@ -67,7 +119,7 @@ after_call tree kind failed told = record tree {
 
 -- the files as they are are those that it began with
 abbrev pub settled : TreeIs → TreeIs
-settled tree = record tree { began = tree.told }
+settled tree = record tree { began = tree.told; began_hidden = tree.hidden }
 
 -- ---- answers
 
@@ -142,14 +194,22 @@ may_create files path = not (is_some (file_at files path))
 
 -- Done where the files allow it, and then they are changed; NotFile where they don't; where the
 -- answer isn't Done they stay.
+abbrev pub DoesTo : (F : Type 0) → (F → Bool) → (F → F) → Option F → TreeDone → Option F → Type 0
+DoesTo F allows change told done.Done new = (new ≡ option_map change told)
+    × IfSome told (λ files. allows files ≡ true)
+DoesTo F allows change told done.NotFile new = (new ≡ told)
+    × IfSome told (λ files. allows files ≡ false)
+DoesTo F allows change told done.Failed new = new ≡ told
+DoesTo F allows change told done.Memory new = new ≡ told
+
+-- the same of the present files
 abbrev pub Does : (List File → Bool) → (List File → List File) → Option (List File) → TreeDone
     → Option (List File) → Type 0
-Does allows change told done.Done new = (new ≡ option_map change told)
-    × IfSome told (λ files. allows files ≡ true)
-Does allows change told done.NotFile new = (new ≡ told)
-    × IfSome told (λ files. allows files ≡ false)
-Does allows change told done.Failed new = new ≡ told
-Does allows change told done.Memory new = new ≡ told
+Does allows change told answer new = DoesTo (List File) allows change told answer new
+
+-- the same of all files of a tree in memory
+abbrev pub DoesHeld : (Held → Bool) → (Held → Held) → Held → TreeDone → Held → Type 0
+DoesHeld allows change old answer new = DoesTo Held allows change (Some old) answer (Some new)
 
 abbrev pub has_file : FileName → List File → Bool
 has_file name files = is_some (file_named files name)
@@ -158,6 +218,51 @@ has_file name files = is_some (file_named files name)
 abbrev pub as_before : List File → List File
 as_before files = files
 
+-- ---- changes of files, present or not
+
+abbrev pub has_named : FileName → Held → Bool
+has_named name held = has_file name (all_of held)
+
+-- the file of a name changed, be it present or not
+abbrev pub change_held : FileName → (File → File) → Held → Held
+change_held name change held =
+    held_with (change_named name change held.present) (change_named name change held.hidden)
+
+-- whether the parent is a folder and no file has the name
+abbrev pub may_add : FileName → Held → Bool
+may_add name held = not (has_named name held) && has_room held.present name.path
+
+-- an empty file more, which isn't present
+abbrev pub added : FileName → ℕ → Held → Held
+added name moment held = held_with held.present (held.hidden ++ record {
+  path = name.path;
+  generation = name.generation;
+  bytes = [];
+  moment = moment;
+} ∷ [])
+
+-- whether the file is there and its path is no folder
+abbrev pub may_turn : FileName → Held → Bool
+may_turn name held = has_named name held && not (is_folder held.present name.path)
+
+-- a file in the place of that of a path
+abbrev pub replaced : List ℕ → File → List File → List File
+replaced path f files = map (λ g. cond (is_same g.path path) f g) files
+
+-- a file that isn't present becomes its path's present one; the former present one, where there is
+-- one, stands in its place beside
+abbrev pub turned_to : FileName → Option File → Option File → Held → Held
+turned_to name None former held = held
+turned_to name (Some f) None held =
+    held_with (put_file f held.present) (filter (λ g. not (is_named name g)) held.hidden)
+turned_to name (Some f) (Some former) held =
+    held_with (replaced name.path f held.present)
+    (map (λ g. cond (is_named name g) former g) held.hidden)
+
+abbrev pub turned : FileName → Held → Held
+turned name held =
+    turned_to name (file_named held.hidden name) (file_at held.present name.path) held
+
 -- ---- one call
 
 -- A call of this kind that asks: the files stay.
@@ -165,9 +270,16 @@ pub record Asks (kind : TreeCall) (old : TreeIs) (failed : Bool) (new : TreeIs) 
   pub goes : new ≡ after_call old kind failed old.told
   pub fails : FailsAsTold old.calls failed
 
--- A call of this kind that changes the files, or doesn't.
+-- A call of this kind that changes the present files, or doesn't.
 pub record Changes (kind : TreeCall) (allows : List File → Bool) (change : List File
     → List File) (old : TreeIs) (answer : TreeDone) (new : TreeIs) : Type 0 where
   pub goes : new ≡ after_call old kind (is_done_fault answer) new.told
   pub does : Does allows change old.told answer new.told
+  pub fails : FailsAsTold old.calls (is_done_fault answer)
+
+-- A call of this kind that changes the files, present or not, or doesn't.
+pub record ChangesHeld (kind : TreeCall) (allows : Held → Bool) (change : Held → Held) (old : TreeIs)
+    (answer : TreeDone) (new : TreeIs) : Type 0 where
+  pub goes : new ≡ with_held (after_call old kind (is_done_fault answer) old.told) (held_of new)
+  pub does : DoesTo Held allows change (held_of old) answer (held_of new)
   pub fails : FailsAsTold old.calls (is_done_fault answer)

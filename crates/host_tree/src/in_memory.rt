@@ -7,7 +7,8 @@ ghost use Rattle.host_tree.specs.Trees.{put_file, file_with};
 ghost use Rattle.host_tree.specs.Devices.{with_file, quiet_with_file};
 ghost use Rattle.host_tree.specs.Trees.{unnoted};
 
-use crate::files::{Files, bytes_from};
+use crate::files::bytes_from;
+use crate::held::HeldFiles;
 use crate::made::CallsMade;
 use crate::names::ChildName;
 use crate::tree::{AttrAnswer, HostTree, ListAnswer, LookAnswer, TreeCall, TreeDone, TreeRead};
@@ -23,22 +24,29 @@ use std::marker::Model;
 pub struct MemoryTree {
     alloc: Global,
     // Contracts speak of the files that it began with too, so each file takes its room twice.
-    began: Files,
-    files: Files,
+    began: HeldFiles,
+    files: HeldFiles,
     made: CallsMade,
 }
 
 impl Model for MemoryTree {
+    ghost use Rattle.std.specs.Prelude.{◌≡◌, []};
     ghost use Rattle.host_tree.specs.Devices.{TreeState};
 
     ghost Value = { TreeState };
 
     ghost view = { λ t. record {
-      began = t.began;
-      files = t.files;
+      began = t.began.present;
+      files = t.files.present;
+      began_hidden = t.began.hidden;
+      hidden = t.files.hidden;
       count = t.made.count;
       noted = t.made.noted;
     } };
+
+    // Only a call hides a file.
+    ghost invariant = { λ t. t.made.count.calls.made ≡ 0
+        → (t.files.hidden ≡ []) × (t.began.hidden ≡ []) };
 }
 
 impl MemoryTree {
@@ -48,14 +56,16 @@ impl MemoryTree {
         ensures { result ≡ record {
           began = [];
           files = [];
+          began_hidden = [];
+          hidden = [];
           count = uncalled fails;
           noted = unnoted;
         } }
     {
         MemoryTree {
             alloc,
-            began: Files::new(alloc),
-            files: Files::new(alloc),
+            began: HeldFiles::new(alloc),
+            files: HeldFiles::new(alloc),
             made: CallsMade::new(alloc, fails),
         }
     }
@@ -152,6 +162,20 @@ impl HostTree for MemoryTree {
         self.files.create(self.alloc, path, now)
     }
 
+    fn fresh(&mut self, file: &FileName, now: u64) -> TreeDone {
+        if self.made.next_fails(TreeCall::Fresh) {
+            return TreeDone::Failed;
+        }
+        self.files.fresh(self.alloc, file, now)
+    }
+
+    fn turn(&mut self, file: &FileName) -> TreeDone {
+        if self.made.next_fails(TreeCall::Turn) {
+            return TreeDone::Failed;
+        }
+        self.files.turn(self.alloc, file)
+    }
+
     fn sync(&mut self, file: &FileName) -> TreeDone {
         if self.made.next_fails(TreeCall::Sync) {
             return TreeDone::Failed;
@@ -175,28 +199,44 @@ impl HostTree for MemoryTree {
 #[derive(Drop)]
 pub struct QuietTree {
     alloc: Global,
-    began: Files,
-    files: Files,
+    began: HeldFiles,
+    files: HeldFiles,
     made: u64,
 }
 
 impl Model for QuietTree {
+    ghost use Rattle.std.specs.Prelude.{◌≡◌, []};
     ghost use Rattle.host_tree.specs.Devices.{QuietState};
 
     ghost Value = { QuietState };
 
-    ghost view = { λ t. record { began = t.began; files = t.files; made = t.made } };
+    ghost view = { λ t. record {
+      began = t.began.present;
+      files = t.files.present;
+      began_hidden = t.began.hidden;
+      hidden = t.files.hidden;
+      made = t.made;
+    } };
+
+    // Only a call hides a file.
+    ghost invariant = { λ t. t.made ≡ 0 → (t.files.hidden ≡ []) × (t.began.hidden ≡ []) };
 }
 
 impl QuietTree {
     /// A tree without files.
     pub fn new(alloc: Global) -> QuietTree
-        ensures { result ≡ record { began = []; files = []; made = 0 } }
+        ensures { result ≡ record {
+          began = [];
+          files = [];
+          began_hidden = [];
+          hidden = [];
+          made = 0;
+        } }
     {
         QuietTree {
             alloc,
-            began: Files::new(alloc),
-            files: Files::new(alloc),
+            began: HeldFiles::new(alloc),
+            files: HeldFiles::new(alloc),
             made: 0,
         }
     }
@@ -268,6 +308,16 @@ impl HostTree for QuietTree {
         self.files.create(self.alloc, path, now)
     }
 
+    fn fresh(&mut self, name: &FileName, now: u64) -> TreeDone {
+        self.made = self.made.saturating_add(1);
+        self.files.fresh(self.alloc, name, now)
+    }
+
+    fn turn(&mut self, name: &FileName) -> TreeDone {
+        self.made = self.made.saturating_add(1);
+        self.files.turn(self.alloc, name)
+    }
+
     fn sync(&mut self, name: &FileName) -> TreeDone {
         self.made = self.made.saturating_add(1);
         rest(&self.files, name)
@@ -284,24 +334,26 @@ impl HostTree for QuietTree {
     }
 }
 
-ghost use Rattle.std.specs.Prelude.{IfOk, MatchOption, true};
+ghost use Rattle.std.specs.Prelude.{◌++◌, IfOk, MatchOption, true};
 ghost use Rattle.portal_base.specs.Content.{is_folder};
 ghost use Rattle.host_tree.specs.FolderNames.{AreInOrder, names_in};
-ghost use Rattle.host_tree.specs.Trees.{Attrs, Gets, Lists, Does, has_file, as_before, is_attr_fault, is_list_fault, is_read_fault, is_done_fault};
+ghost use Rattle.host_tree.specs.Devices.{put_present};
+ghost use Rattle.host_tree.specs.Trees.{Attrs, Gets, Lists, Does, all_of, has_file, as_before, is_attr_fault, is_list_fault, is_read_fault, is_done_fault};
 
 /// Adds a file to two lists of files, or to none of them.
 fn add_to_both(
     alloc: Global,
-    began: &mut Files,
-    files: &mut Files,
+    began: &mut HeldFiles,
+    files: &mut HeldFiles,
     path: HostPath,
     content: ByteList,
     moment: u64,
 ) -> Result<(), WantOfMemory>
-    requires began { ArePlaced (paths_of (put_file (file_with path content moment) began.old)) }
-    requires files { ArePlaced (paths_of (put_file (file_with path content moment) files.old)) }
-    ensures ok { OnOk result ((began.new ≡ put_file (file_with path content moment) began.old)
-        × (files.new ≡ put_file (file_with path content moment) files.old)) }
+    requires began { ArePlaced (paths_of (put_file (file_with path content moment) began.old.present)) }
+    requires files { ArePlaced (paths_of (put_file (file_with path content moment) files.old.present)) }
+    requires alone { (files.old.hidden ≡ []) × (began.old.hidden ≡ []) }
+    ensures ok { OnOk result ((began.new ≡ put_present (file_with path content moment) began.old)
+        × (files.new ≡ put_present (file_with path content moment) files.old)) }
     ensures err { OnErr result ((began.new ≡ began.old) × (files.new ≡ files.old)) }
 {
     let first_path = path.replica(alloc)?;
@@ -317,8 +369,8 @@ fn add_to_both(
 }
 
 /// The length and the moment of a file.
-fn attributes(files: &Files, name: &FileName) -> AttrAnswer
-    ensures attrs { Attrs (Some files.now) name.now result }
+fn attributes(files: &HeldFiles, name: &FileName) -> AttrAnswer
+    ensures attrs { Attrs (Some (all_of files.now)) name.now result }
     ensures no_fault { is_attr_fault result ≡ false }
 {
     match files.named(name) {
@@ -331,8 +383,8 @@ fn attributes(files: &Files, name: &FileName) -> AttrAnswer
 }
 
 /// The names in a folder.
-fn listed(alloc: Global, files: &Files, path: &HostPath) -> ListAnswer
-    ensures lists { Lists (Some files.now) path.now result }
+fn listed(alloc: Global, files: &HeldFiles, path: &HostPath) -> ListAnswer
+    ensures lists { Lists (Some files.now.present) path.now result }
     ensures no_fault { is_list_fault result ≡ false }
 {
     match names_in(alloc, files, path) {
@@ -345,12 +397,12 @@ fn listed(alloc: Global, files: &Files, path: &HostPath) -> ListAnswer
 /// The names in a folder; none where there is no folder.
 fn names_in(
     alloc: Global,
-    files: &Files,
+    files: &HeldFiles,
     path: &HostPath,
 ) -> Result<Option<List<ChildName>>, WantOfMemory>
-    ensures { IfOk result (λ found. MatchOption found (is_folder files.now path.now ≡ false)
-        (λ names. AreInOrder names × (is_folder files.now path.now ≡ true)
-        × (names ≡ names_in files.now path.now))) }
+    ensures { IfOk result (λ found. MatchOption found (is_folder files.now.present path.now ≡ false)
+        (λ names. AreInOrder names × (is_folder files.now.present path.now ≡ true)
+        × (names ≡ names_in files.now.present path.now))) }
 {
     if !files.is_folder(path) {
         return Ok(None);
@@ -360,8 +412,8 @@ fn names_in(
 }
 
 /// Bytes of a file.
-fn content(alloc: Global, files: &Files, name: &FileName, offset: u64, size: u32) -> TreeRead
-    ensures gets { Gets (Some files.now) name.now offset size result }
+fn content(alloc: Global, files: &HeldFiles, name: &FileName, offset: u64, size: u32) -> TreeRead
+    ensures gets { Gets (Some (all_of files.now)) name.now offset size result }
     ensures no_fault { is_read_fault result ≡ false }
 {
     let Some(stored) = files.named(name) else {
@@ -374,8 +426,9 @@ fn content(alloc: Global, files: &Files, name: &FileName, offset: u64, size: u32
 }
 
 /// Bytes in memory are at rest.
-fn rest(files: &Files, name: &FileName) -> TreeDone
-    ensures does { Does (has_file name.now) as_before (Some files.now) result (Some files.now) }
+fn rest(files: &HeldFiles, name: &FileName) -> TreeDone
+    ensures does { Does (λ present. has_file name.now (present ++ files.now.hidden)) as_before
+        (Some files.now.present) result (Some files.now.present) }
     ensures no_fault { is_done_fault result ≡ false }
 {
     if files.named(name).is_some() {
