@@ -5,13 +5,17 @@ ghost use Rattle.std.specs.Prelude.{◌≤◌, length, IfOk};
 use crate::error::TreeError;
 use portal_base::list::{ByteList, List};
 use std::alloc::Global;
-use std::fs::{File, FileTimes};
+use std::fs::{File, FileTimes, Metadata, Permissions};
 use std::io::ErrorKind;
-use std::os::unix::fs::FileExt;
+use std::os::fd::AsFd;
+use std::os::unix::fs::{FileExt, MetadataExt, PermissionsExt, fchown};
 use std::time::{Duration, UNIX_EPOCH};
 
 /// The most bytes that room is made for ahead of reading them.
 const MOST_AT_ONCE: usize = 131_072;
+
+/// The bits of a mode that say who may read, write and run a file.
+const MODE_BITS: u32 = 0o777;
 
 /// The bytes from an offset on, at most `size`.
 pub fn read(alloc: Global, file: &File, offset: u64, size: u32) -> Result<ByteList, TreeError>
@@ -92,6 +96,33 @@ pub fn set_len(file: &File, size: u64, now: u64) -> Result<(), TreeError> {
     }
     set_moment(file, now);
     Ok(())
+}
+
+/// Writes the bytes of a file into another, which is empty.
+pub fn copy(alloc: Global, from: &File, into: &File) -> Result<(), TreeError> {
+    let mut at = 0u64;
+    for _ in 0..u64::MAX {
+        let bytes = read(alloc, from, at, MOST_AT_ONCE as u32)?;
+        if bytes.is_empty() {
+            break;
+        }
+        if let Err(error) = into.write_all_at(bytes.as_slice(), at) {
+            return Err(fault(error.kind()));
+        }
+        at = at.saturating_add(bytes.len() as u64);
+    }
+    Ok(())
+}
+
+/// Gives a file the mode and, where the system allows it, the owner that another had. Bits by
+/// which it would run as its owner stay out, as they do where a file is written.
+pub fn dress(file: &File, former: &Metadata) {
+    let same_owner = file.metadata().is_ok_and(|own| own.uid() == former.uid()
+        && own.gid() == former.gid());
+    if !same_owner {
+        let _ = fchown(file.as_fd(), Some(former.uid()), Some(former.gid()));
+    }
+    let _ = file.set_permissions(Permissions::from_mode(former.mode() & MODE_BITS));
 }
 
 /// Brings a file to rest.

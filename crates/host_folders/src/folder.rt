@@ -46,6 +46,11 @@ impl Folder {
         at(self.number, name)
     }
 
+    /// Removes a file of it; a link isn't followed. Where the system refuses, it stays.
+    pub fn remove(&self, name: &[u8]) {
+        os::unlink_at(self.number, name);
+    }
+
     /// Brings its names to rest.
     pub fn sync(&self) -> io::Result<()> {
         if libc::fsync(self.number) < 0 {

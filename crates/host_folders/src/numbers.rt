@@ -9,6 +9,11 @@ use std::random::RandomSource;
 /// What the generation of each look has. Generations that are counted up from 1 don't.
 const LOOKED_AT: u64 = 1 << 63;
 
+/// Says whether a generation is that of a look, and not one that was counted.
+pub fn is_looked_at(generation: u64) -> bool {
+    generation >= LOOKED_AT
+}
+
 /// Numbers that nobody can find two of the same of: the keys are this tree's own.
 #[derive(Clone, Copy)]
 pub struct Numbers {

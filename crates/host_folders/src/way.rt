@@ -8,7 +8,7 @@ use libc::PATH_MAX;
 use portal_base::list::List;
 use portal_base::names::HostPath;
 use std::alloc::{AllocError, Global};
-use std::fs::File;
+use std::fs::{File, Metadata};
 use std::io::ErrorKind;
 use std::os::fd::AsRawFd;
 use std::os::unix::fs::MetadataExt;
@@ -145,10 +145,20 @@ impl Way {
     /// What stands at a place; a link at its end isn't followed. Where the place isn't
     /// direct, another may have led elsewhere.
     pub fn sight(&mut self, place: &Place<'_>) -> io::Result<Sight> {
+        Ok(Sight::of(&self.metadata(place)?))
+    }
+
+    /// All that the system tells of it.
+    pub fn metadata(&mut self, place: &Place<'_>) -> io::Result<Metadata> {
         if self.link_to(place.folder.number(), place.name).is_err() {
             return Err(io::Error::from(ErrorKind::OutOfMemory));
         }
-        Ok(Sight::of(&fs::symlink_metadata(&self.system, self.link.as_str())?))
+        fs::symlink_metadata(&self.system, self.link.as_str())
+    }
+
+    /// The root, open.
+    pub fn root_folder(&self) -> io::Result<Folder> {
+        Folder::open(self.root.as_str())
     }
 
     /// Says whether a device is one of the kernel's own.

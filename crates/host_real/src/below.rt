@@ -3,15 +3,16 @@
 ghost use Rattle.std.specs.Prelude.{◌≤◌, length, IfOk, IfSome};
 ghost use Rattle.host_tree.specs.FolderNames.{AreInOrder};
 
+use crate::aside::{Aside, is_own};
 use crate::kept::KeptFiles;
-use crate::listing;
-use crate::made::MadeFiles;
+use crate::made::{MadeFiles, Name};
 use crate::opener::{Opener, Purpose};
 use crate::system::{System, Waiter};
 use crate::writing::LastWritten;
+use crate::{aside, listing};
 use host_folders::content;
 use host_folders::error::{OpenError, TreeError, is_missing, is_refused};
-use host_folders::numbers::Numbers;
+use host_folders::numbers::{Numbers, is_looked_at};
 use host_folders::sight::{Kind, Sight, seen};
 use host_folders::way::{Place, Way, text_of};
 use host_tree::ChildName;
@@ -19,10 +20,10 @@ use portal_base::files::{FileName, Look};
 use portal_base::list::{ByteList, List};
 use portal_base::names::HostPath;
 use std::alloc::Global;
-use std::fs::File;
-use std::io;
+use std::fs::{File, Metadata};
 use std::io::ErrorKind;
 use std::os::fd::AsRawFd;
+use std::{fs, io};
 
 /// What the system shows of a file.
 #[derive(Clone, Copy, PartialEq, Eq)]
@@ -53,6 +54,8 @@ pub struct FilesBelow<R: Waiter> {
     kept: KeptFiles,
     made: MadeFiles,
     written: LastWritten<R>,
+    /// Where it can be had.
+    aside: Option<Aside>,
 }
 
 impl<R: Waiter> FilesBelow<R> {
@@ -71,20 +74,29 @@ impl<R: Waiter> FilesBelow<R> {
             Ok(numbers) => numbers,
             Err(error) => return Err(OpenError::System(error)),
         };
+        let mut way = Way::open(system, alloc, root)?;
+        let aside = Aside::open(&system, alloc, &mut way)?;
+        if aside.is_none() {
+            aside::tell(&system);
+        }
         Ok(FilesBelow {
             system,
             alloc,
-            way: Way::open(system, alloc, root)?,
+            way,
             opener: Opener::new(rt, system, alloc)?,
             numbers,
             kept: KeptFiles::new(alloc, kept)?,
             made: MadeFiles::new(alloc)?,
             written: LastWritten::new(rt, alloc)?,
+            aside,
         })
     }
 
     /// What stands at a path.
     pub fn look(&mut self, path: &HostPath) -> Result<Look, TreeError> {
+        if is_own(path)? {
+            return Ok(Look::Missing);
+        }
         let Some(place) = self.way.to(path)? else {
             return Ok(Look::Missing);
         };
@@ -109,6 +121,9 @@ impl<R: Waiter> FilesBelow<R> {
     pub fn list(&mut self, path: &HostPath) -> Result<Option<List<ChildName>>, TreeError>
         ensures { IfOk result (λ found. IfSome found AreInOrder) }
     {
+        if is_own(path)? {
+            return Ok(None);
+        }
         let Some(folder) = self.way.folder_at(path)? else {
             return Ok(None);
         };
@@ -180,7 +195,7 @@ impl<R: Waiter> FilesBelow<R> {
             Some(file) => content::sync(file)?,
             None => return Err(TreeError::System),
         }
-        if name.generation == 0 {
+        if !is_looked_at(name.generation) {
             if let Some(place) = self.way.to(&name.path)? {
                 if place.is_direct() && place.folder.sync().is_err() {
                     return Err(TreeError::System);
@@ -193,6 +208,9 @@ impl<R: Waiter> FilesBelow<R> {
     /// Makes an empty file where nothing stands and the parent is a folder. A link stands
     /// there all the same. A folder that can't be read takes no file.
     pub fn create(&mut self, path: &HostPath, now: u64) -> Result<(), TreeError> {
+        if is_own(path)? {
+            return Err(TreeError::NotFile);
+        }
         let Some(place) = self.way.to(path)? else {
             return Err(TreeError::NotFile);
         };
@@ -219,15 +237,169 @@ impl<R: Waiter> FilesBelow<R> {
         content::set_moment(&file, now);
         // It is made, whatever comes; where it can't be known which it is, its name is of the
         // regular file at the path.
-        let _ = self.add_made(path, &file);
+        let _ = self.add_made(path, 0, &file);
         Ok(())
     }
 
-    /// Knows from now on which file was made at a path, and keeps it open to read.
-    fn add_made(&mut self, path: &HostPath, file: &File) -> Result<(), TreeError> {
+    /// Makes an empty file that isn't present, where the parent is a folder.
+    pub fn fresh(&mut self, name: &FileName, now: u64) -> Result<(), TreeError> {
+        if is_own(&name.path)? || self.made.at(self.name_of(name)).is_some() {
+            return Err(TreeError::NotFile);
+        }
+        let Some(place) = self.way.to(&name.path)? else {
+            return Err(TreeError::NotFile);
+        };
+        if place.name.is_empty() {
+            return Err(TreeError::NotFile);
+        }
+        if !place.is_direct() {
+            return Err(TreeError::System);
+        }
+        let path = self.numbers.path(name.path.as_bytes());
+        let Some(aside) = &mut self.aside else {
+            return Err(TreeError::System);
+        };
+        let link = aside.link_to(path, name.generation)?;
+        let file = match File::create_new(&self.system, link) {
+            Ok(file) => file,
+            Err(error) if error.kind() == ErrorKind::AlreadyExists => {
+                return Err(TreeError::NotFile);
+            }
+            Err(error) if error.kind() == ErrorKind::OutOfMemory => return Err(TreeError::Memory),
+            Err(_) => return Err(TreeError::System),
+        };
+        content::set_moment(&file, now);
+        // It is made, whatever comes: it is found by its name in the folder.
+        let _ = self.add_made(&name.path, name.generation, &file);
+        Ok(())
+    }
+
+    /// Makes a file its path's present one, by one rename. The file that stood there keeps
+    /// nothing but its descriptor, where it is open.
+    pub fn turn(&mut self, name: &FileName) -> Result<(), TreeError> {
+        let generation = match self.named(name)? {
+            Named::Kept(generation) => generation,
+            Named::Shown(sight) => self.numbers.generation(&sight.identity),
+        };
+        let Some(place) = self.way.to(&name.path)? else {
+            return Err(TreeError::NotFile);
+        };
+        if place.name.is_empty() {
+            return Err(TreeError::NotFile);
+        }
+        if !place.is_direct() {
+            return Err(TreeError::System);
+        }
+        let former = self.replaceable(&place)?;
+        if let Some(former) = &former {
+            if self.numbers.generation(&Sight::of(former).identity) == generation {
+                return Ok(());
+            }
+            if let Some(file) = self.kept.get(generation) {
+                content::dress(file, former);
+            }
+        }
+        self.rename_to(name, generation, &place, former.as_ref())
+    }
+
+    /// What the system tells of the file at a place that a file may take: none, where nothing
+    /// stands there. A folder, a link, and what is no file isn't replaced.
+    fn replaceable(&mut self, place: &Place<'_>) -> Result<Option<Metadata>, TreeError> {
+        match self.way.metadata(place) {
+            Ok(former) => {
+                let sight = Sight::of(&former);
+                if sight.kind != Kind::File || self.way.is_kernels_own(sight.identity.device) {
+                    return Err(TreeError::NotFile);
+                }
+                Ok(Some(former))
+            }
+            Err(error) if error.kind() == ErrorKind::NotFound => Ok(None),
+            Err(error) if error.kind() == ErrorKind::OutOfMemory => Err(TreeError::Memory),
+            Err(_) => Err(TreeError::System),
+        }
+    }
+
+    /// Renames a file that isn't present to a place.
+    fn rename_to(
+        &mut self,
+        name: &FileName,
+        generation: u64,
+        place: &Place<'_>,
+        former: Option<&Metadata>,
+    ) -> Result<(), TreeError> {
+        let path = self.numbers.path(name.path.as_bytes());
+        let Some(aside) = &mut self.aside else {
+            return Err(TreeError::System);
+        };
+        let from = aside.link_to(path, name.generation)?;
+        let to = self.way.link_to(place.folder.number(), place.name)?;
+        match fs::rename(&self.system, from, to) {
+            Ok(()) => Ok(()),
+            Err(error) if error.raw_os_error() == Some(libc::EXDEV) => {
+                self.copy_to(name, generation, place, former)
+            }
+            Err(error) if error.kind() == ErrorKind::IsADirectory => Err(TreeError::NotFile),
+            Err(error) if error.kind() == ErrorKind::OutOfMemory => Err(TreeError::Memory),
+            Err(_) => Err(TreeError::System),
+        }
+    }
+
+    /// Takes a file that isn't present to a place on another mount: copied beside it, brought
+    /// to rest there, and renamed.
+    fn copy_to(
+        &mut self,
+        name: &FileName,
+        generation: u64,
+        place: &Place<'_>,
+        former: Option<&Metadata>,
+    ) -> Result<(), TreeError> {
+        let path = self.numbers.path(name.path.as_bytes());
+        let Some(aside) = &mut self.aside else {
+            return Err(TreeError::System);
+        };
+        let beside = aside.link_beside(&place.folder, path, name.generation)?;
+        // One that a service left which was cut off.
+        let _ = fs::remove_file(&self.system, beside);
+        let copy = match File::create_new(&self.system, beside) {
+            Ok(copy) => copy,
+            Err(_) => return Err(TreeError::System),
+        };
+        let outcome = match self.kept.get(generation) {
+            Some(file) => copied(self.alloc, file, &copy, former),
+            None => Err(TreeError::System),
+        };
+        let to = self.way.link_to(place.folder.number(), place.name)?;
+        let renamed = match outcome {
+            Ok(()) => fs::rename(&self.system, beside, to).is_ok(),
+            Err(_) => false,
+        };
+        if !renamed {
+            let _ = fs::remove_file(&self.system, beside);
+            return Err(outcome.err().unwrap_or(TreeError::System));
+        }
+        let former_link = aside.link_to(path, name.generation)?;
+        let _ = fs::remove_file(&self.system, former_link);
+        // The copy is another file: from now on the name is its.
+        let _ = self.add_made(&name.path, name.generation, &copy);
+        Ok(())
+    }
+
+    /// The name by which a file was made.
+    fn name_of(&self, name: &FileName) -> Name {
+        Name {
+            path: self.numbers.path(name.path.as_bytes()),
+            generation: name.generation,
+        }
+    }
+
+    /// Knows from now on which file was made by a name, and keeps it open to read.
+    fn add_made(&mut self, path: &HostPath, counted: u64, file: &File) -> Result<(), TreeError> {
         let generation = self.numbers.generation(&seen(file)?.identity);
-        self.made
-            .add(self.numbers.path(path.as_bytes()), generation)?;
+        let name = Name {
+            path: self.numbers.path(path.as_bytes()),
+            generation: counted,
+        };
+        self.made.add(name, generation)?;
         let owner = self.numbers.owner(path);
         let link = self.way.link_to(file.as_raw_fd(), "")?;
         let kept = self.opener.open(link, Purpose::Read, owner)?;
@@ -237,13 +409,23 @@ impl<R: Waiter> FilesBelow<R> {
 
     /// The file of a name, which is kept open from now on where it can be opened to read.
     fn named(&mut self, name: &FileName) -> Result<Named, TreeError> {
-        let wanted = match name.generation {
-            0 => self.made.at(self.numbers.path(name.path.as_bytes())),
-            generation => Some(generation),
+        let wanted = if is_looked_at(name.generation) {
+            Some(name.generation)
+        } else {
+            self.made.at(self.name_of(name))
         };
         if let Some(generation) = wanted {
             if self.kept.looks_at(generation) {
                 return Ok(Named::Kept(generation));
+            }
+        }
+        if name.generation > 0 && !is_looked_at(name.generation) {
+            if let Some(generation) = self.found_aside(name, wanted)? {
+                return Ok(Named::Kept(generation));
+            }
+            // It was turned or not, but which file it is nobody knows any more.
+            if wanted.is_none() {
+                return Err(TreeError::NotFile);
             }
         }
         let Some(place) = self.way.to(&name.path)? else {
@@ -261,6 +443,33 @@ impl<R: Waiter> FilesBelow<R> {
             return Ok(Named::Kept(generation));
         }
         Ok(Named::Shown(sight))
+    }
+
+    /// The generation of a file that isn't present, which is kept open from now on; nothing
+    /// where it isn't there.
+    fn found_aside(
+        &mut self,
+        name: &FileName,
+        wanted: Option<u64>,
+    ) -> Result<Option<u64>, TreeError> {
+        let made = self.name_of(name);
+        let owner = self.numbers.owner(&name.path);
+        let Some(aside) = &mut self.aside else {
+            return Ok(None);
+        };
+        let link = aside.link_to(made.path, made.generation)?;
+        let file = match self.opener.open(link, Purpose::Read, owner) {
+            Ok(file) => file,
+            Err(error) if is_missing(&error) => return Ok(None),
+            Err(_) => return Err(TreeError::System),
+        };
+        let generation = self.numbers.generation(&seen(&file)?.identity);
+        if wanted.is_some_and(|wanted| wanted != generation) {
+            return Ok(None);
+        }
+        self.kept.keep(generation, file)?;
+        self.made.add(made, generation)?;
+        Ok(Some(generation))
     }
 
     /// What stands at a place. A file is kept open from then on, where it can be opened to
@@ -362,4 +571,20 @@ impl<R: Waiter> FilesBelow<R> {
             Err(_) => Err(io::Error::from(ErrorKind::OutOfMemory)),
         }
     }
+}
+
+/// Writes a file's bytes into another, and gives it what the file had that stands in its
+/// place; brings it to rest.
+fn copied(
+    alloc: Global,
+    from: &File,
+    into: &File,
+    former: Option<&Metadata>,
+) -> Result<(), TreeError> {
+    content::copy(alloc, from, into)?;
+    content::set_moment(into, seen(from)?.moment);
+    if let Some(former) = former {
+        content::dress(into, former);
+    }
+    content::sync(into)
 }

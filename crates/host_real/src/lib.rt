@@ -9,6 +9,7 @@
 //! |---|---|
 //! | `tree` | [`RealTree`], and its calls as a tree of files |
 //! | `below` | the calls on files below the root |
+//! | `aside` | the folder of the files that aren't present yet |
 //! | `listing` | the names in a folder |
 //! | `opener` | opens that don't hold up the one who asks |
 //! | `kept`, `made` | the files that are kept open, and those that were made here |
@@ -22,6 +23,7 @@
 //! ```
 #![tactic(auto)]
 
+mod aside;
 mod below;
 mod descriptors;
 mod kept;

@@ -1,5 +1,6 @@
 //! The names in a folder of the system.
 
+use crate::aside::OWN;
 use host_folders::error::{TreeError, is_missing};
 use host_folders::folder::Folder;
 use host_folders::sight::Kind;
@@ -47,6 +48,9 @@ fn put(
     let Ok(text) = str::from_utf8(name) else {
         return Ok(());
     };
+    if text.starts_with(OWN) {
+        return Ok(());
+    }
     let sight = match folder.sight_of(text) {
         Ok(sight) => sight,
         // It went since.

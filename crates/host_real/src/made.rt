@@ -6,19 +6,29 @@ use std::alloc::{AllocError, Global};
 /// The most of them that are known.
 const MOST: usize = 1_024;
 
+/// A file by its name: the number of its path, and the generation that it was made as.
+#[derive(Clone, Copy, PartialEq, Eq, Hash)]
+pub struct Name {
+    /// The number of its path.
+    pub path: u64,
+    /// 0, or a generation that was counted.
+    pub generation: u64,
+}
+
 /// A file that was made.
 #[derive(Clone, Copy)]
 struct Made {
+    /// The generation by which it is found.
     generation: u64,
     /// The turn in which it was made or asked for last.
     turn: u64,
 }
 
-/// The files that were made here, by the numbers of their paths: the last at each.
+/// The files that were made here, by their names: the last of each.
 #[derive(Drop)]
 pub struct MadeFiles {
     /// There is room for all from the start.
-    files: IndexMap<u64, Made>,
+    files: IndexMap<Name, Made>,
     turn: u64,
 }
 
@@ -31,26 +41,26 @@ impl MadeFiles {
         })
     }
 
-    /// The generation of the file that was made at the path of a number.
-    pub fn at(&mut self, path: u64) -> Option<u64> {
+    /// The generation by which the file that was made by a name is found.
+    pub fn at(&mut self, name: Name) -> Option<u64> {
         self.turn = self.turn.saturating_add(1);
-        let made = self.files.get_mut(&path)?;
+        let made = self.files.get_mut(&name)?;
         made.turn = self.turn;
         Some(made.generation)
     }
 
-    /// A file was made at the path of a number. Where there is no room for it, the one that
+    /// A file was made by a name. Where there is no room for it, the one that
     /// wasn't asked for the longest time isn't known any more.
-    pub fn add(&mut self, path: u64, generation: u64) -> Result<(), AllocError> {
+    pub fn add(&mut self, name: Name, generation: u64) -> Result<(), AllocError> {
         self.turn = self.turn.saturating_add(1);
-        if self.files.len() >= MOST && self.files.get(&path).is_none() {
+        if self.files.len() >= MOST && self.files.get(&name).is_none() {
             self.forget_one();
         }
         let made = Made {
             generation,
             turn: self.turn,
         };
-        self.files.insert(path, made)?;
+        self.files.insert(name, made)?;
         Ok(())
     }
 

@@ -21,7 +21,12 @@ use std::marker::Model;
 /// link below the root, and what is neither a file nor a folder, is answered as nothing
 /// there, and no file is made in its place. The generation of a look is a number of the
 /// file, and never 0; by it the file is reached whatever stands at its path since. By the
-/// generation 0 the file is reached that was made here at the path last. A call that the
+/// generation 0 the file is reached that was made here at the path last; by one that is
+/// counted from 1 on, that which was made by it and isn't, or wasn't, present. These lie in
+/// a folder `.docportal` below the root until they are turned, which is emptied when the
+/// tree is opened; names that begin so are never shown. Where that folder can't be made,
+/// `fresh` is a fault. A file that is turned gets the mode of the one that it replaces, and
+/// keeps its own times; that one is reached as long as it is kept open. A call that the
 /// system interrupts is made again; each other error of the system is a fault, but for
 /// those that say that no file is there.
 #[derive(Drop)]
@@ -83,12 +88,14 @@ impl<R: Waiter> RealTree<R> {
 }
 
 impl<R: Waiter> HostTree for RealTree<R> {
-    ghost use Rattle.std.specs.Prelude.{None};
+    ghost use Rattle.std.specs.Prelude.{None, []};
     ghost use Rattle.host_tree.specs.Trees.{unnoted};
 
     ghost is = { λ count. record {
       began = None;
       told = None;
+      began_hidden = [];
+      hidden = [];
       faults = count;
       calls = None;
       noted = unnoted;
@@ -151,6 +158,16 @@ impl<R: Waiter> HostTree for RealTree<R> {
 
     fn create(&mut self, path: &HostPath, now: u64) -> TreeDone {
         let outcome = self.below.create(path, now);
+        self.done(outcome)
+    }
+
+    fn fresh(&mut self, file: &FileName, now: u64) -> TreeDone {
+        let outcome = self.below.fresh(file, now);
+        self.done(outcome)
+    }
+
+    fn turn(&mut self, file: &FileName) -> TreeDone {
+        let outcome = self.below.turn(file);
         self.done(outcome)
     }
 
