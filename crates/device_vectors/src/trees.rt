@@ -3,7 +3,7 @@
 ghost use Rattle.std.specs.Prelude.{◌≡◌, ◌≢◌};
 ghost use Rattle.portal_base.specs.Names.{root};
 
-use host_tree::{HostTree, MemoryTree, QuietTree, TreeRead};
+use host_tree::{HostTree, ListAnswer, MemoryTree, QuietTree, TreeRead};
 use portal_base::files::FileName;
 use portal_base::names::HostPath;
 use std::alloc::Global;
@@ -72,17 +72,27 @@ fn put_step<T: HostTree>(
     path: &str,
     rest: &str,
 ) -> Result<(), VectorError> {
+    let (path, generation) = named(path)?;
     let path = given(alloc, HostPath::read(alloc, path.as_bytes()))?;
-    let generation = u64::from(kind == "later");
+    let generation = if kind == "later" { 1 } else { generation };
     let file = FileName { path, generation };
     let put = put_answer(alloc, out, tree, kind, &file, rest);
     drop(file);
     put
 }
 
-/// `look PATH`, `create PATH NOW`, `settle PATH`; and of the file of a path `attr PATH`,
-/// `read PATH OFFSET SIZE`, `write PATH OFFSET NOW BYTES`, `len PATH SIZE NOW`,
-/// `sync PATH`, `later PATH`, which asks for its generation 1.
+/// A path, and behind a `#` the generation of a file of it, which is 0 where none is written.
+fn named(word: &str) -> Result<(&str, u64), VectorError> {
+    match word.split_once('#') {
+        Some((path, generation)) => Ok((path, number(generation)?)),
+        None => Ok((word, 0)),
+    }
+}
+
+/// `look PATH`, `list PATH`, `create PATH NOW`, `settle PATH`; and of the file of a path, or of
+/// one of its generations `PATH#G`, `attr PATH`, `read PATH OFFSET SIZE`,
+/// `write PATH OFFSET NOW BYTES`, `len PATH SIZE NOW`, `sync PATH`, `fresh PATH#G NOW`,
+/// `turn PATH#G`, `later PATH`, which asks for its generation 1.
 fn put_answer<T: HostTree>(
     alloc: Global,
     out: &mut String,
@@ -109,9 +119,57 @@ fn put_answer<T: HostTree>(
             let answer = tree.settle();
             Ok(write!(out, "{answer:?}")?)
         }
+        "list" => put_list(alloc, out, tree, &file.path),
+        "fresh" | "turn" => put_turn(out, tree, kind, file, first),
         "read" => put_read(alloc, out, tree, file, first, rest),
         _ => put_change(alloc, out, tree, kind, file, first, rest),
     }
+}
+
+/// The names in a folder, those of folders with a slash behind them, or why none came.
+fn put_list<T: HostTree>(
+    alloc: Global,
+    out: &mut String,
+    tree: &mut T,
+    path: &HostPath,
+) -> Result<(), VectorError> {
+    match tree.list(path) {
+        ListAnswer::Names(names) => {
+            out.push_str("Names(")?;
+            for (index, child) in names.iter().enumerate() {
+                if index > 0 {
+                    out.push(' ')?;
+                }
+                out.push_str(String::from_utf8_lossy(alloc, child.name.as_slice())?.as_str())?;
+                if child.folder {
+                    out.push('/')?;
+                }
+            }
+            out.push(')')?;
+        }
+        ListAnswer::NotFolder => out.push_str("NotFolder")?,
+        ListAnswer::Failed => out.push_str("Failed")?,
+        ListAnswer::Memory => out.push_str("Memory")?,
+    }
+    Ok(())
+}
+
+/// What it answers to make a file that isn't present, or to make it its path's present one.
+fn put_turn<T: HostTree>(
+    out: &mut String,
+    tree: &mut T,
+    kind: &str,
+    file: &FileName,
+    now: &str,
+) -> Result<(), VectorError> {
+    let answer = if kind == "turn" {
+        tree.turn(file)
+    } else if file.generation > 0 {
+        tree.fresh(file, number(now)?)
+    } else {
+        return bad();
+    };
+    Ok(write!(out, "{answer:?}")?)
 }
 
 /// The bytes that are read, as digits, or why none came.
