@@ -44,12 +44,13 @@ pub struct Aside {
 }
 
 impl Aside {
-    /// The folder below a root, made where it isn't there, locked and emptied: where another
-    /// service has it, one beside it. Nothing where none can be had.
+    /// The folder below a root, locked and emptied: where another service has it, one beside
+    /// it. Where it isn't there it may be made. Nothing where none can be had.
     pub fn open(
         system: &HostRuntime,
         alloc: Global,
         way: &mut Way,
+        may_make: bool,
     ) -> Result<Option<Aside>, AllocError> {
         let link = String::with_capacity(alloc, MOST_LINK)?;
         let Ok(root) = way.root_folder() else {
@@ -61,7 +62,10 @@ impl Aside {
             } else {
                 format!(in alloc; "{OWN}-{other}")?
             };
-            let Some(folder) = made(system, way, &root, name.as_str())? else {
+            if may_make {
+                make(system, way, &root, name.as_str())?;
+            }
+            let Ok(folder) = root.below(name.as_str()) else {
                 return Ok(None);
             };
             if let Some(lock) = locked(system, way, &folder)? {
@@ -108,25 +112,18 @@ pub fn is_own(path: &HostPath) -> Result<bool, TreeError> {
 
 /// Tells that no file is kept that isn't present.
 pub fn tell(system: &HostRuntime) {
-    let _ = system.eprintln("docportal: no folder can be made in the root; nobody saves by rename");
+    let _ = system.eprintln(
+        "docportal: no folder can be made below the root; nobody saves by rename",
+    );
 }
 
-/// The folder of a name in another; nothing where it can't be made and isn't there.
-fn made(
-    system: &HostRuntime,
-    way: &mut Way,
-    root: &Folder,
-    name: &str,
-) -> Result<Option<Folder>, AllocError> {
+/// Makes a folder of a name in another. Whether it is there is seen when it is opened.
+fn make(system: &HostRuntime, way: &mut Way, root: &Folder, name: &str) -> Result<(), AllocError> {
     let link = way.link_to(root.number(), name)?;
     let mut how = DirBuilder::new();
     how.mode(MODE);
-    // Where it is there it is opened: whether it is a folder is seen then.
     let _ = how.create(system, link);
-    match root.below(name) {
-        Ok(folder) => Ok(Some(folder)),
-        Err(_) => Ok(None),
-    }
+    Ok(())
 }
 
 /// The lock of a folder, where nobody else holds it.

@@ -54,8 +54,10 @@ pub struct FilesBelow<R: Waiter> {
     kept: KeptFiles,
     made: MadeFiles,
     written: LastWritten<R>,
-    /// Where it can be had.
+    /// Where it is there; it is made for the first file.
     aside: Option<Aside>,
+    /// Whether it was told that it can't be made.
+    was_told: bool,
 }
 
 impl<R: Waiter> FilesBelow<R> {
@@ -75,10 +77,8 @@ impl<R: Waiter> FilesBelow<R> {
             Err(error) => return Err(OpenError::System(error)),
         };
         let mut way = Way::open(system, alloc, root)?;
-        let aside = Aside::open(&system, alloc, &mut way)?;
-        if aside.is_none() {
-            aside::tell(&system);
-        }
+        // What a service left that was cut off is removed.
+        let aside = Aside::open(&system, alloc, &mut way, false)?;
         Ok(FilesBelow {
             system,
             alloc,
@@ -89,6 +89,7 @@ impl<R: Waiter> FilesBelow<R> {
             made: MadeFiles::new(alloc)?,
             written: LastWritten::new(rt, alloc)?,
             aside,
+            was_told: false,
         })
     }
 
@@ -256,6 +257,7 @@ impl<R: Waiter> FilesBelow<R> {
             return Err(TreeError::System);
         }
         let path = self.numbers.path(name.path.as_bytes());
+        self.need_aside()?;
         let Some(aside) = &mut self.aside else {
             return Err(TreeError::System);
         };
@@ -271,6 +273,20 @@ impl<R: Waiter> FilesBelow<R> {
         content::set_moment(&file, now);
         // It is made, whatever comes: it is found by its name in the folder.
         let _ = self.add_made(&name.path, name.generation, &file);
+        Ok(())
+    }
+
+    /// Makes the folder of the files that aren't present, where it can be made; tells once
+    /// where it can't.
+    fn need_aside(&mut self) -> Result<(), TreeError> {
+        if self.aside.is_some() {
+            return Ok(());
+        }
+        self.aside = Aside::open(&self.system, self.alloc, &mut self.way, true)?;
+        if self.aside.is_none() && !self.was_told {
+            self.was_told = true;
+            aside::tell(&self.system);
+        }
         Ok(())
     }
 

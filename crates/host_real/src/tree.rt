@@ -23,9 +23,9 @@ use std::marker::Model;
 /// file, and never 0; by it the file is reached whatever stands at its path since. By the
 /// generation 0 the file is reached that was made here at the path last; by one that is
 /// counted from 1 on, that which was made by it and isn't, or wasn't, present. These lie in
-/// a folder `.docportal` below the root until they are turned, which is emptied when the
-/// tree is opened; names that begin so are never shown. Where that folder can't be made,
-/// `fresh` is a fault. A file that is turned gets the mode of the one that it replaces, and
+/// a folder `.docportal` below the root until they are turned, which is made for the first
+/// and emptied when the tree is opened; names that begin so are never shown. Where that
+/// folder can't be made, `fresh` is a fault. A file that is turned gets the mode of the one that it replaces, and
 /// keeps its own times; that one is reached as long as it is kept open. A call that the
 /// system interrupts is made again; each other error of the system is a fault, but for
 /// those that say that no file is there.
