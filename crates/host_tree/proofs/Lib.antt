@@ -1,5 +1,7 @@
 pub mod Bytes
 pub mod Entries
 pub mod FileCreated
+pub mod HeldChanges
+pub mod HiddenEntries
 pub mod NamesFound
 pub mod PathsBelow

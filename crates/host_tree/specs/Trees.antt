@@ -1,6 +1,6 @@
 -- What a tree of files answers, and what each call leaves of it.
-use Rattle.std.specs.Prelude.{◌≡◌, ℕ, ◌≤◌, ◌==◌, min, nat_lt, List, [], ◌∷◌, ◌++◌, length, map, Bool, true, false, not, ◌&&◌, cond, Option, Some, None, is_some, option_map, IfSome}
-use Rattle.std.specs.List.{filter, list_all, list_any}
+use Rattle.std.specs.Prelude.{◌≡◌, ℕ, ◌≤◌, min, nat_lt, List, [], ◌∷◌, ◌++◌, length, map, Bool, true, false, not, ◌&&◌, ◌||◌, cond, Option, Some, None, is_some, option_map, IfSome}
+use Rattle.std.specs.List.{filter}
 use Rattle.portal_base.specs.Calls.{Calls, next_call, FailsAsTold}
 use Rattle.portal_base.specs.Devices.{count_after}
 use Rattle.portal_base.specs.Names.{is_same}
@@ -54,10 +54,6 @@ pub record Held : Type 0 where
 abbrev pub held_with : List File → List File → Held
 held_with present hidden = record { present = present; hidden = hidden }
 
--- all of them
-abbrev pub all_of : Held → List File
-all_of held = held.present ++ held.hidden
-
 -- the files of a tree that tells them
 abbrev pub held_of : TreeIs → Option Held
 held_of tree = option_map (λ present. held_with present tree.hidden) tree.told
@@ -70,28 +66,6 @@ all_files tree = option_map (λ present. present ++ tree.hidden) tree.told
 abbrev pub with_held : TreeIs → Option Held → TreeIs
 with_held tree None = tree
 with_held tree (Some held) = record tree { told = Some held.present; hidden = held.hidden }
-
-abbrev pub name_of_file : File → FileName
-name_of_file f = record { path = f.path; generation = f.generation }
-
--- the file isn't the present one of its path; where there is none, it isn't the first of its path
-abbrev pub is_other : File → Option File → Bool
-is_other f None = not (f.generation == 0)
-is_other f (Some present) = not (f.generation == present.generation)
-
--- it lies in a folder, beside the present file of its path
-abbrev pub is_beside : List File → File → Bool
-is_beside present f = has_room present f.path && is_other f (file_at present f.path)
-
-abbrev pub names_differ : List File → Bool
-names_differ [] = true
-names_differ (f ∷ fs) = not (list_any (is_named (name_of_file f)) fs) && names_differ fs
-
--- What the files beside the present ones are: each lies in a folder, and no two files have one
--- name; a path whose first file is there has a present one.
-pub record AreBeside (held : Held) : Type 0 where
-  pub beside : list_all (is_beside held.present) held.hidden ≡ true
-  pub differ : names_differ held.hidden ≡ true
 
 -- ---- calls and faults
 
@@ -221,12 +195,24 @@ as_before files = files
 -- ---- changes of files, present or not
 
 abbrev pub has_named : FileName → Held → Bool
-has_named name held = has_file name (all_of held)
+has_named name held = has_file name held.present || has_file name held.hidden
 
--- the file of a name changed, be it present or not
+-- the first file of a name changed
+abbrev pub change_first : FileName → (File → File) → List File → List File
+change_first name change [] = []
+change_first name change (f ∷ fs) =
+    cond (is_named name f) (change f ∷ fs) (f ∷ change_first name change fs)
+
+-- the files but the first of a name
+abbrev pub without_first : FileName → List File → List File
+without_first name [] = []
+without_first name (f ∷ fs) = cond (is_named name f) fs (f ∷ without_first name fs)
+
+-- the file of a name changed: the present one, where it has the name, and else one beside
 abbrev pub change_held : FileName → (File → File) → Held → Held
-change_held name change held =
-    held_with (change_named name change held.present) (change_named name change held.hidden)
+change_held name change held = cond (has_file name held.present)
+    (held_with (change_named name change held.present) held.hidden)
+    (held_with held.present (change_first name change held.hidden))
 
 -- whether the parent is a folder and no file has the name
 abbrev pub may_add : FileName → Held → Bool
@@ -241,9 +227,14 @@ added name moment held = held_with held.present (held.hidden ++ record {
   moment = moment;
 } ∷ [])
 
--- whether the file is there and its path is no folder
+-- whether a file may be its path's present one: the path is no folder, and lies in one
+abbrev pub may_be_present : List File → List ℕ → Bool
+may_be_present files path = not (is_folder files path) && has_room files path
+
+-- whether the file is present, or is there and may be
 abbrev pub may_turn : FileName → Held → Bool
-may_turn name held = has_named name held && not (is_folder held.present name.path)
+may_turn name held = has_file name held.present
+    || (has_file name held.hidden && may_be_present held.present name.path)
 
 -- a file in the place of that of a path
 abbrev pub replaced : List ℕ → File → List File → List File
@@ -254,14 +245,14 @@ replaced path f files = map (λ g. cond (is_same g.path path) f g) files
 abbrev pub turned_to : FileName → Option File → Option File → Held → Held
 turned_to name None former held = held
 turned_to name (Some f) None held =
-    held_with (put_file f held.present) (filter (λ g. not (is_named name g)) held.hidden)
+    held_with (put_file f held.present) (without_first name held.hidden)
 turned_to name (Some f) (Some former) held =
-    held_with (replaced name.path f held.present)
-    (map (λ g. cond (is_named name g) former g) held.hidden)
+    held_with (replaced name.path f held.present) (change_first name (λ g. former) held.hidden)
 
+-- what is present already stays
 abbrev pub turned : FileName → Held → Held
-turned name held =
-    turned_to name (file_named held.hidden name) (file_at held.present name.path) held
+turned name held = cond (has_file name held.present) held
+    (turned_to name (file_named held.hidden name) (file_at held.present name.path) held)
 
 -- ---- one call
 

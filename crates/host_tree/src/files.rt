@@ -28,7 +28,7 @@ pub(crate) struct Stored {
 }
 
 impl Stored {
-    ghost use Rattle.host_tree.specs.Stored.{DoesStored, blank, stored_written, stored_resized};
+    ghost use Rattle.host_tree.specs.Stored.{DoesStored, blank, of_generation, stored_written, stored_resized};
 
     /// An empty one.
     pub(crate) fn blank(alloc: Global) -> Stored
@@ -38,6 +38,17 @@ impl Stored {
             generation: 0,
             bytes: List::new(alloc),
             moment: 0,
+        }
+    }
+
+    /// It, where it is of this generation.
+    pub(crate) fn of_generation(&self, generation: u64) -> Option<&Stored>
+        ensures { option_copied result ≡ of_generation generation (Some self.now) }
+    {
+        if self.generation == generation {
+            Some(self)
+        } else {
+            None
         }
     }
 
@@ -155,7 +166,7 @@ impl Model for Files {
 
 impl Files {
     ghost use Rattle.host_tree.specs.Stored.{file_of, stored_of};
-    ghost use Rattle.host_tree.specs.Trees.{replaced};
+    ghost use Rattle.host_tree.specs.Trees.{may_be_present, replaced};
 
     /// No files.
     pub(crate) fn new(alloc: Global) -> Files
@@ -203,8 +214,8 @@ impl Files {
         ensures { option_copied result ≡ option_map stored_of (file_named self.now name.now) }
     {
         match self.map.get(&name.path) {
-            Some(stored) if stored.generation == name.generation => Some(stored),
-            _ => None,
+            Some(stored) => stored.of_generation(name.generation),
+            None => None,
         }
     }
 
@@ -315,7 +326,8 @@ impl Files {
         if self.map.contains_key(path) || self.is_folder(path) {
             return Ok(false);
         }
-        self.has_room(alloc, path)
+        let room = self.has_room(alloc, path)?;
+        Ok(room)
     }
 
     /// Says whether the parent of a path is a folder.
@@ -323,6 +335,17 @@ impl Files {
         ensures { IfOk result (λ room. room ≡ has_room self.now path.now) }
     {
         Ok(self.is_folder(&path.parent(alloc)?))
+    }
+
+    /// Says whether a file may have the path: it is no folder, and lies in one.
+    pub(crate) fn may_have(&self, alloc: Global, path: &HostPath) -> Result<bool, WantOfMemory>
+        ensures { IfOk result (λ may. may ≡ may_be_present self.now path.now) }
+    {
+        if self.is_folder(path) {
+            return Ok(false);
+        }
+        let room = self.has_room(alloc, path)?;
+        Ok(room)
     }
 
     /// Says whether a file has the path.

@@ -1,11 +1,11 @@
 //! The files of a tree in memory, present or not.
 
-ghost use Rattle.std.specs.Prelude.{◌≡◌, ◌<◌, [], Some, false, true, IfOk, OnOk, OnErr, option_map, option_copied};
-ghost use Rattle.portal_base.specs.Content.{look_at, is_folder, file_named, IsTree, ArePlaced, paths_of};
+ghost use Rattle.std.specs.Prelude.{◌≡◌, ◌++◌, Some, false, true, IfOk, OnOk, OnErr, option_map, option_copied};
+ghost use Rattle.portal_base.specs.Content.{look_at, is_folder, file_at, file_named, IsTree, ArePlaced, paths_of};
 ghost use Rattle.host_tree.specs.Devices.{no_files, put_present};
 ghost use Rattle.host_tree.specs.FolderNames.{names_in};
 ghost use Rattle.host_tree.specs.Stored.{stored_of};
-ghost use Rattle.host_tree.specs.Trees.{AreBeside, Does, DoesHeld, all_of, held_with, has_file, has_named, put_file, without, change_held, written, resized, may_create, may_add, may_turn, added, turned, new_file, file_with, is_done_fault};
+ghost use Rattle.host_tree.specs.Trees.{Does, DoesHeld, held_with, may_be_present, turned_to, has_file, has_named, put_file, without, change_held, written, resized, may_create, may_add, may_turn, added, turned, new_file, file_with, is_done_fault};
 
 use crate::files::{Files, Stored, done};
 use crate::hidden::HiddenFiles;
@@ -26,13 +26,11 @@ pub(crate) struct HeldFiles {
 }
 
 impl Model for HeldFiles {
-    ghost use Rattle.host_tree.specs.Trees.{AreBeside, Held, held_with};
+    ghost use Rattle.host_tree.specs.Trees.{Held, held_with};
 
     ghost Value = { Held };
 
     ghost view = { λ h. held_with h.present h.hidden };
-
-    ghost invariant = { λ h. AreBeside (held_with h.present h.hidden) };
 }
 
 impl HeldFiles {
@@ -48,8 +46,7 @@ impl HeldFiles {
 
     /// What is true at each moment.
     pub(crate) fn known(&self)
-        ensures placed { IsTree self.now.present }
-        ensures beside { AreBeside self.now }
+        ensures { IsTree self.now.present }
     {
         self.present.known();
     }
@@ -82,7 +79,7 @@ impl HeldFiles {
     /// The file of a name.
     pub(crate) fn named(&self, name: &FileName) -> Option<&Stored>
         ensures { option_copied result
-            ≡ option_map stored_of (file_named (all_of self.now) name.now) }
+            ≡ option_map stored_of (file_named (self.now.present ++ self.now.hidden) name.now) }
     {
         match self.present.named(name) {
             Some(stored) => Some(stored),
@@ -90,8 +87,7 @@ impl HeldFiles {
         }
     }
 
-    /// Adds a present file where the paths then are those of a tree and none is
-    /// hidden.
+    /// Adds a present file where the paths then are those of a tree.
     pub(crate) fn add(
         &mut self,
         path: HostPath,
@@ -99,7 +95,6 @@ impl HeldFiles {
         moment: u64,
     ) -> Result<(), WantOfMemory>
         requires { ArePlaced (paths_of (put_file (file_with path bytes moment) self.old.present)) }
-        requires alone { self.old.hidden ≡ [] }
         ensures ok { OnOk result
             (self.new ≡ put_present (file_with path bytes moment) self.old) }
         ensures err { OnErr result (self.new ≡ self.old) }
@@ -110,7 +105,6 @@ impl HeldFiles {
     /// Takes the present file of a path out, which was added last.
     pub(crate) fn take_back(&mut self, path: &HostPath)
         requires { IsTree (without path.now self.old.present) }
-        requires alone { self.old.hidden ≡ [] }
         ensures { self.new ≡ held_with (without path.now self.old.present) self.old.hidden }
     {
         self.present.take_back(path);
@@ -159,7 +153,6 @@ impl HeldFiles {
     /// Makes an empty file that isn't present, where the parent is a folder and no
     /// file has the name.
     pub(crate) fn fresh(&mut self, alloc: Global, name: &FileName, now: u64) -> TreeDone
-        requires { 0 < name.now.generation }
         ensures does { DoesHeld (may_add name.now) (added name.now now) self.old result self.new }
         ensures no_fault { is_done_fault result ≡ false }
     {
@@ -178,16 +171,16 @@ impl HeldFiles {
         ensures does { DoesHeld (may_turn name.now) (turned name.now) self.old result self.new }
         ensures no_fault { is_done_fault result ≡ false }
     {
-        if self.present.is_folder(&name.path) {
+        if self.present.named(name).is_some() {
+            return TreeDone::Done;
+        }
+        if self.hidden.named(name).is_none() {
             return TreeDone::NotFile;
         }
-        if self.hidden.named(name).is_some() {
-            return done(turn_hidden(alloc, &mut self.present, &mut self.hidden, name));
-        }
-        // It may be the present one already.
-        match self.present.named(name) {
-            Some(_) => TreeDone::Done,
-            None => TreeDone::NotFile,
+        match self.present.may_have(alloc, &name.path) {
+            Ok(true) => done(turn_hidden(alloc, &mut self.present, &mut self.hidden, name)),
+            Ok(false) => TreeDone::NotFile,
+            Err(_) => TreeDone::Memory,
         }
     }
 }
@@ -210,10 +203,10 @@ fn turn_hidden(
     name: &FileName,
 ) -> Result<(), WantOfMemory>
     requires there { has_file name.now hidden.old ≡ true }
-    requires beside { AreBeside (held_with present.old hidden.old) }
-    requires no_folder { is_folder present.old name.now.path ≡ false }
+    requires place { may_be_present present.old name.now.path ≡ true }
     ensures ok { OnOk result (held_with present.new hidden.new
-        ≡ turned name.now (held_with present.old hidden.old)) }
+        ≡ turned_to name.now (file_named hidden.old name.now) (file_at present.old name.now.path)
+        (held_with present.old hidden.old)) }
     ensures err { OnErr result (held_with present.new hidden.new
         ≡ held_with present.old hidden.old) }
 {

@@ -1,10 +1,10 @@
 //! The files of a tree in memory that aren't present.
 
-ghost use Rattle.std.specs.Prelude.{◌≡◌, ◌<◌, [], ◌∷◌, ◌++◌, Some, None, false, true, IfOk, OnOk, OnErr, not, filter, map, cond, option_map, option_copied, length};
+ghost use Rattle.std.specs.Prelude.{◌≡◌, [], ◌∷◌, ◌++◌, Some, false, true, OnOk, OnErr, option_map, option_copied};
 ghost use Rattle.std.specs.List.{position_or_len};
-ghost use Rattle.portal_base.specs.Content.{file_named, is_named};
+ghost use Rattle.portal_base.specs.Content.{file_named};
 ghost use Rattle.host_tree.specs.Stored.{file_of, files_of, is_stored, stored_of};
-ghost use Rattle.host_tree.specs.Trees.{Does, has_file, change_named, written, resized, names_differ, is_done_fault};
+ghost use Rattle.host_tree.specs.Trees.{Does, has_file, change_first, without_first, written, resized, is_done_fault};
 
 use crate::files::Stored;
 use crate::tree::TreeDone;
@@ -62,9 +62,8 @@ impl HiddenFiles {
         content: &[u8],
         now: u64,
     ) -> TreeDone
-        requires { names_differ self.old ≡ true }
         ensures does { Does (has_file name.now)
-            (change_named name.now (written offset content.now now)) (Some self.old) result
+            (change_first name.now (written offset content.now now)) (Some self.old) result
             (Some self.new) }
         ensures no_fault { is_done_fault result ≡ false }
     {
@@ -73,8 +72,7 @@ impl HiddenFiles {
 
     /// Cuts or fills a file to a length.
     pub(crate) fn set_len(&mut self, name: &FileName, size: u64, now: u64) -> TreeDone
-        requires { names_differ self.old ≡ true }
-        ensures does { Does (has_file name.now) (change_named name.now (resized size now))
+        ensures does { Does (has_file name.now) (change_first name.now (resized size now))
             (Some self.old) result (Some self.new) }
         ensures no_fault { is_done_fault result ≡ false }
     {
@@ -108,10 +106,9 @@ impl HiddenFiles {
     /// Puts a file in the place of the one of a name, and gives that one.
     pub(crate) fn exchange(&mut self, name: &FileName, former: Stored) -> Stored
         requires { has_file name.now self.old ≡ true }
-        requires differ { names_differ self.old ≡ true }
         ensures given { Some result ≡ option_map stored_of (file_named self.old name.now) }
         ensures rest { self.new
-            ≡ map (λ g. cond (is_named name.now g) (file_of (name.now.path, former)) g) self.old }
+            ≡ change_first name.now (λ g. file_of (name.now.path, former)) self.old }
     {
         exchange_in(&mut self.files, name, former)
     }
@@ -119,9 +116,8 @@ impl HiddenFiles {
     /// Takes the file of a name out.
     pub(crate) fn take(&mut self, name: &FileName) -> Stored
         requires { has_file name.now self.old ≡ true }
-        requires differ { names_differ self.old ≡ true }
         ensures given { Some result ≡ option_map stored_of (file_named self.old name.now) }
-        ensures rest { self.new ≡ filter (λ g. not (is_named name.now g)) self.old }
+        ensures rest { self.new ≡ without_first name.now self.old }
     {
         let place = place_of(self.files.as_slice(), name);
         let (_, stored) = self.files.remove(place);
@@ -157,8 +153,7 @@ fn write_in(
     content: &[u8],
     now: u64,
 ) -> TreeDone
-    requires { names_differ (files_of files.old.items) ≡ true }
-    ensures does { Does (has_file name.now) (change_named name.now (written offset content.now now))
+    ensures does { Does (has_file name.now) (change_first name.now (written offset content.now now))
         (Some (files_of files.old.items)) result (Some (files_of files.new.items)) }
     ensures no_fault { is_done_fault result ≡ false }
 {
@@ -171,8 +166,7 @@ fn write_in(
 
 /// Cuts or fills a file to a length.
 fn set_len_in(files: &mut Vec<(HostPath, Stored)>, name: &FileName, size: u64, now: u64) -> TreeDone
-    requires { names_differ (files_of files.old.items) ≡ true }
-    ensures does { Does (has_file name.now) (change_named name.now (resized size now))
+    ensures does { Does (has_file name.now) (change_first name.now (resized size now))
         (Some (files_of files.old.items)) result (Some (files_of files.new.items)) }
     ensures no_fault { is_done_fault result ≡ false }
 {
@@ -185,12 +179,10 @@ fn set_len_in(files: &mut Vec<(HostPath, Stored)>, name: &FileName, size: u64, n
 
 /// Puts what is stored of a file in the place of another.
 fn exchange_in(files: &mut Vec<(HostPath, Stored)>, name: &FileName, former: Stored) -> Stored
-    requires there { has_file name.now (files_of files.old.items) ≡ true }
-    requires differ { names_differ (files_of files.old.items) ≡ true }
+    requires { has_file name.now (files_of files.old.items) ≡ true }
     ensures given { Some result ≡ option_map stored_of (file_named (files_of files.old.items) name.now) }
     ensures rest { files_of files.new.items
-        ≡ map (λ g. cond (is_named name.now g) (file_of (name.now.path, former)) g)
-        (files_of files.old.items) }
+        ≡ change_first name.now (λ g. file_of (name.now.path, former)) (files_of files.old.items) }
 {
     let place = place_of(files.as_slice(), name);
     let (_, stored) = &mut files[place];

@@ -30,7 +30,6 @@ pub struct MemoryTree {
 }
 
 impl Model for MemoryTree {
-    ghost use Rattle.std.specs.Prelude.{◌≡◌, []};
     ghost use Rattle.host_tree.specs.Devices.{TreeState};
 
     ghost Value = { TreeState };
@@ -43,10 +42,6 @@ impl Model for MemoryTree {
       count = t.made.count;
       noted = t.made.noted;
     } };
-
-    // Only a call hides a file.
-    ghost invariant = { λ t. t.made.count.calls.made ≡ 0
-        → (t.files.hidden ≡ []) × (t.began.hidden ≡ []) };
 }
 
 impl MemoryTree {
@@ -205,7 +200,6 @@ pub struct QuietTree {
 }
 
 impl Model for QuietTree {
-    ghost use Rattle.std.specs.Prelude.{◌≡◌, []};
     ghost use Rattle.host_tree.specs.Devices.{QuietState};
 
     ghost Value = { QuietState };
@@ -217,9 +211,6 @@ impl Model for QuietTree {
       hidden = t.files.hidden;
       made = t.made;
     } };
-
-    // Only a call hides a file.
-    ghost invariant = { λ t. t.made ≡ 0 → (t.files.hidden ≡ []) × (t.began.hidden ≡ []) };
 }
 
 impl QuietTree {
@@ -334,11 +325,11 @@ impl HostTree for QuietTree {
     }
 }
 
-ghost use Rattle.std.specs.Prelude.{◌++◌, IfOk, MatchOption, true};
+ghost use Rattle.std.specs.Prelude.{◌++◌, ◌||◌, IfOk, MatchOption, true};
 ghost use Rattle.portal_base.specs.Content.{is_folder};
 ghost use Rattle.host_tree.specs.FolderNames.{AreInOrder, names_in};
 ghost use Rattle.host_tree.specs.Devices.{put_present};
-ghost use Rattle.host_tree.specs.Trees.{Attrs, Gets, Lists, Does, all_of, has_file, as_before, is_attr_fault, is_list_fault, is_read_fault, is_done_fault};
+ghost use Rattle.host_tree.specs.Trees.{Attrs, Gets, Lists, Does, has_file, as_before, is_attr_fault, is_list_fault, is_read_fault, is_done_fault};
 
 /// Adds a file to two lists of files, or to none of them.
 fn add_to_both(
@@ -351,7 +342,6 @@ fn add_to_both(
 ) -> Result<(), WantOfMemory>
     requires began { ArePlaced (paths_of (put_file (file_with path content moment) began.old.present)) }
     requires files { ArePlaced (paths_of (put_file (file_with path content moment) files.old.present)) }
-    requires alone { (files.old.hidden ≡ []) × (began.old.hidden ≡ []) }
     ensures ok { OnOk result ((began.new ≡ put_present (file_with path content moment) began.old)
         × (files.new ≡ put_present (file_with path content moment) files.old)) }
     ensures err { OnErr result ((began.new ≡ began.old) × (files.new ≡ files.old)) }
@@ -370,7 +360,7 @@ fn add_to_both(
 
 /// The length and the moment of a file.
 fn attributes(files: &HeldFiles, name: &FileName) -> AttrAnswer
-    ensures attrs { Attrs (Some (all_of files.now)) name.now result }
+    ensures attrs { Attrs (Some (files.now.present ++ files.now.hidden)) name.now result }
     ensures no_fault { is_attr_fault result ≡ false }
 {
     match files.named(name) {
@@ -413,7 +403,7 @@ fn names_in(
 
 /// Bytes of a file.
 fn content(alloc: Global, files: &HeldFiles, name: &FileName, offset: u64, size: u32) -> TreeRead
-    ensures gets { Gets (Some (all_of files.now)) name.now offset size result }
+    ensures gets { Gets (Some (files.now.present ++ files.now.hidden)) name.now offset size result }
     ensures no_fault { is_read_fault result ≡ false }
 {
     let Some(stored) = files.named(name) else {
@@ -427,8 +417,8 @@ fn content(alloc: Global, files: &HeldFiles, name: &FileName, offset: u64, size:
 
 /// Bytes in memory are at rest.
 fn rest(files: &HeldFiles, name: &FileName) -> TreeDone
-    ensures does { Does (λ present. has_file name.now (present ++ files.now.hidden)) as_before
-        (Some files.now.present) result (Some files.now.present) }
+    ensures does { Does (λ present. has_file name.now present || has_file name.now files.now.hidden)
+        as_before (Some files.now.present) result (Some files.now.present) }
     ensures no_fault { is_done_fault result ≡ false }
 {
     if files.named(name).is_some() {

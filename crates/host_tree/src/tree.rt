@@ -112,8 +112,8 @@ pub enum TreeCall {
 
 /// A tree of files.
 pub trait HostTree {
-    ghost use Rattle.std.specs.Prelude.{◌<◌, ◌++◌};
-    ghost use Rattle.host_tree.specs.Trees.{TreeIs, Asks, AreNoted, Changes, ChangesHeld, Looks, Attrs, Lists, Gets, is_look_fault, is_attr_fault, is_list_fault, is_read_fault, has_file, has_named, change_held, written, resized, may_create, may_add, may_turn, put_file, new_file, added, turned, as_before, settled, all_files, held_of, AreBeside};
+    ghost use Rattle.std.specs.Prelude.{◌||◌};
+    ghost use Rattle.host_tree.specs.Trees.{TreeIs, Asks, AreNoted, Changes, ChangesHeld, Looks, Attrs, Lists, Gets, is_look_fault, is_attr_fault, is_list_fault, is_read_fault, has_file, has_named, change_held, written, resized, may_create, may_add, may_turn, put_file, new_file, added, turned, as_before, settled, all_files};
 
     /// What the tree means.
     ghost is: { Self → TreeIs };
@@ -159,23 +159,22 @@ pub trait HostTree {
         ensures { Changes TreeCall.Create (λ files. may_create files path.now)
             (put_file (new_file path.now now)) (is self.old) result (is self.new) };
 
-    /// Makes an empty file of a further generation, where the parent is a folder
-    /// and no file has the name. It isn't present.
+    /// Makes an empty file of a name, where the parent is a folder and no file has
+    /// it. It isn't present.
     fn fresh(&mut self, file: &FileName, now: u64) -> TreeDone
-        requires { 0 < file.now.generation }
         ensures { ChangesHeld TreeCall.Fresh (may_add file.now) (added file.now now) (is self.old)
             result (is self.new) };
 
     /// Makes a file its path's present one, in the place of another. That one
-    /// stays, and is reached by its name.
+    /// stays, and is reached by its name. What is present already stays.
     fn turn(&mut self, file: &FileName) -> TreeDone
         ensures { ChangesHeld TreeCall.Turn (may_turn file.now) (turned file.now) (is self.old)
             result (is self.new) };
 
     /// Brings a file's bytes to rest.
     fn sync(&mut self, file: &FileName) -> TreeDone
-        ensures { Changes TreeCall.Sync (λ files. has_file file.now (files ++ (is self.old).hidden))
-            as_before (is self.old) result (is self.new) };
+        ensures { Changes TreeCall.Sync (λ files. has_file file.now files
+            || has_file file.now (is self.old).hidden) as_before (is self.old) result (is self.new) };
 
     /// Takes the files as they are for those that the tree began with; it is no
     /// call of the tree. One that doesn't tell its files answers `Ok`.
@@ -186,11 +185,10 @@ pub trait HostTree {
 
     // No law of a trait can say this of every value, so it is a method, which costs no call.
     /// What is true at each moment: the present files that are told are those of
-    /// a tree, each other file lies beside them, and as many kinds are noted as
-    /// calls were made, up to the room. It is no call of the tree.
+    /// a tree, and as many kinds are noted as calls were made, up to the room. It
+    /// is no call of the tree.
     fn known(&self)
         ensures told { IfSome (is self.now).told IsTree }
-        ensures beside { IfSome (held_of (is self.now)) AreBeside }
         ensures began { IfSome (is self.now).began IsTree }
         ensures noted { IfSome (is self.now).calls (AreNoted (is self.now).noted) };
 }
