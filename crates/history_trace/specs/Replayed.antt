@@ -21,7 +21,13 @@ use Rattle.portal_steps.specs.Story.{PortalIs, Story, cost_with, limit_of, state
 
 -- a tree that has these files, of which no call came
 abbrev pub tree_with : List File → QuietState
-tree_with files = record { began = files; files = files; made = 0 }
+tree_with files = record {
+  began = files;
+  files = files;
+  began_hidden = [];
+  hidden = [];
+  made = 0;
+}
 
 -- the opening state without its list of files
 abbrev pub without_files : OpeningState → OpeningState

@@ -27,8 +27,14 @@ tree_files lines = with_files [] (files_of lines)
 
 -- a tree with these files, before its first call, and with the numbers of the calls that fail
 abbrev pub tree_with : List File → List ℕ → TreeState
-tree_with files fails =
-    record { began = files; files = files; count = uncalled fails; noted = unnoted }
+tree_with files fails = record {
+  began = files;
+  files = files;
+  began_hidden = [];
+  hidden = [];
+  count = uncalled fails;
+  noted = unnoted;
+}
 
 abbrev pub script_tree : List ScriptLine → TreeState
 script_tree lines = tree_with (tree_files lines) (each tree_call_in lines)
