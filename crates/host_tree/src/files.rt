@@ -423,8 +423,10 @@ fn put_paths(
 ) -> Result<(), WantOfMemory>
     ensures { OnOk result (names.new ≡ fold (put_path folder.now) names.old (keys map.now)) }
 {
+    let above = folder.as_bytes();
     for path in map.keys() {
-        put_path(alloc, folder.as_bytes(), path.as_bytes(), names)?;
+        let bytes = path.as_bytes();
+        put_path(alloc, above, bytes, names)?;
     }
     Ok(())
 }
@@ -454,10 +456,10 @@ fn behind_folder<'a>(folder: &[u8], path: &'a [u8]) -> Option<&'a [u8]>
     if is_root(folder) {
         return Some(behind(path, 1));
     }
-    if !lies_above(folder, path) {
-        return None;
+    if lies_above(folder, path) {
+        return Some(behind(path, folder.len() + 1));
     }
-    Some(behind(path, folder.len() + 1))
+    None
 }
 
 /// The bytes from a place on.

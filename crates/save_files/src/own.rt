@@ -71,12 +71,7 @@ impl SeatTemps {
     pub(crate) fn find(&self, view: u32, document: DocId, name: &[u8]) -> Option<u32>
         ensures { result ≡ found_in (Some self.now) view document.number name.now }
     {
-        for (k, temp) in self.temps.iter() {
-            if is_called(temp, view, document, name) {
-                return Some(*k);
-            }
-        }
-        None
+        first_called(&self.temps, view, document, name)
     }
 
     /// The number of the temporary at a place, from 0.
@@ -153,15 +148,27 @@ impl SeatTemps {
     }
 }
 
-ghost use Rattle.std.specs.Prelude.{option_map};
+ghost use Rattle.std.specs.Prelude.{find, option_map};
 ghost use Rattle.std.specs.Map.{lookup};
 ghost use Rattle.indexmap.specs.IndexMap.{keys, spare, Updates};
 ghost use Rattle.std.specs.Prelude.{nat_eq, ◌==◌, ◌&&◌};
 ghost use Rattle.portal_base.specs.Names.{is_same};
-ghost use Rattle.save_files.specs.Own.{with_name};
+ghost use Rattle.save_files.specs.Own.{is_called, number_in, with_name};
+
+/// The number of the first temporary in a view, of a document and of a name.
+fn first_called(temps: &IndexMap<u32, Temp>, view: u32, document: DocId, name: &[u8]) -> Option<u32>
+    ensures { result ≡ number_in (find (is_called view document.number name.now) temps.now.entries) }
+{
+    for (k, temp) in temps.iter() {
+        if has_name(temp, view, document, name) {
+            return Some(*k);
+        }
+    }
+    None
+}
 
 /// Says whether a temporary is in a view, of a document, and has a name.
-fn is_called(temp: &Temp, view: u32, document: DocId, name: &[u8]) -> bool
+fn has_name(temp: &Temp, view: u32, document: DocId, name: &[u8]) -> bool
     ensures { result ≡ (temp.now.view == view && temp.now.document.number == document.number
         && is_same temp.now.name name.now) }
 {
