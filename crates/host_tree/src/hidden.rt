@@ -1,7 +1,7 @@
 //! The files of a tree in memory that aren't present.
 
 ghost use Rattle.std.specs.Prelude.{◌≡◌, [], ◌∷◌, ◌++◌, Some, false, true, OnOk, OnErr, option_map, option_copied};
-ghost use Rattle.std.specs.List.{position_or_len};
+ghost use Rattle.std.specs.List.{find, position_or_len};
 ghost use Rattle.portal_base.specs.Content.{file_named};
 ghost use Rattle.host_tree.specs.Stored.{file_of, files_of, is_stored, stored_of};
 ghost use Rattle.host_tree.specs.Trees.{Does, has_file, change_first, without_first, written, resized, is_done_fault};
@@ -48,8 +48,8 @@ impl HiddenFiles {
     pub(crate) fn named(&self, name: &FileName) -> Option<&Stored>
         ensures { option_copied result ≡ option_map stored_of (file_named self.now name.now) }
     {
-        match self.files.get(place_of(self.files.as_slice(), name)) {
-            Some((_, stored)) => Some(stored),
+        match find_named(self.files.as_slice(), name) {
+            Some(entry) => Some(&entry.1),
             None => None,
         }
     }
@@ -135,13 +135,30 @@ impl Replica for HiddenFiles {
     }
 }
 
+/// Says whether it is the file of a name.
+fn has_name(entry: &(HostPath, Stored), name: &FileName) -> bool
+    ensures { result ≡ is_stored name.now entry.now }
+{
+    entry.0 == name.path && entry.1.generation == name.generation
+}
+
+/// The file of a name.
+fn find_named<'a>(
+    files: &'a [(HostPath, Stored)],
+    name: &FileName,
+) -> Option<&'a (HostPath, Stored)>
+    ensures { option_copied result ≡ find (is_stored name.now) files.now }
+{
+    files.iter().find(|entry| has_name(entry, name))
+}
+
 /// The place of the file of a name, or the number of files where none has it.
 fn place_of(files: &[(HostPath, Stored)], name: &FileName) -> usize
     ensures { result ≡ position_or_len (is_stored name.now) files.now }
 {
     files
         .iter()
-        .position(|(path, stored)| stored.generation == name.generation && *path == name.path)
+        .position(|entry| has_name(entry, name))
         .unwrap_or(files.len())
 }
 
@@ -158,10 +175,11 @@ fn write_in(
     ensures no_fault { is_done_fault result ≡ false }
 {
     let place = place_of(files.as_slice(), name);
-    match files.get_mut(place) {
-        Some((_, stored)) => stored.write_as(name.generation, offset, content, now),
-        None => TreeDone::NotFile,
+    if place >= files.len() {
+        return TreeDone::NotFile;
     }
+    let entry = &mut files[place];
+    entry.1.write_as(name.generation, offset, content, now)
 }
 
 /// Cuts or fills a file to a length.
@@ -171,10 +189,11 @@ fn set_len_in(files: &mut Vec<(HostPath, Stored)>, name: &FileName, size: u64, n
     ensures no_fault { is_done_fault result ≡ false }
 {
     let place = place_of(files.as_slice(), name);
-    match files.get_mut(place) {
-        Some((_, stored)) => stored.set_len_as(name.generation, size, now),
-        None => TreeDone::NotFile,
+    if place >= files.len() {
+        return TreeDone::NotFile;
     }
+    let entry = &mut files[place];
+    entry.1.set_len_as(name.generation, size, now)
 }
 
 /// Puts what is stored of a file in the place of another.
@@ -185,6 +204,6 @@ fn exchange_in(files: &mut Vec<(HostPath, Stored)>, name: &FileName, former: Sto
         ≡ change_first name.now (λ g. file_of (name.now.path, former)) (files_of files.old.items) }
 {
     let place = place_of(files.as_slice(), name);
-    let (_, stored) = &mut files[place];
-    mem::replace(stored, former)
+    let entry = &mut files[place];
+    mem::replace(&mut entry.1, former)
 }
