@@ -1,4 +1,4 @@
-use Rattle.std.proofs.Common.{◌≡◌, sym, ap, ◌∙◌, true, false, None, Option}
+use Rattle.std.proofs.Common.{◌≡◌, sym, ap, ◌∙◌, true, false, None, Some, Option}
 use Rattle.std.specs.Option.{is_some}
 use Rattle.portal_base.specs.Content.{file_at}
 use Rattle.portal_base.specs.declared.files.File.{File}
@@ -10,7 +10,8 @@ use Rattle.host_tree.proofs.HeldTurned.{has-put-file, has-replaced, turned-new, 
 use Rattle.host_tree.proofs.held.turn_hidden.Goals as goal
 
 none-is : (o : Option File) → is_some o ≡ false → o ≡ None
-none-is o e = cc
+none-is None e = refl
+none-is (Some f) e = absurd (cc)
 
 pub insert_new-requires : goal.insert_new-requires
 insert_new-requires c = may-create c.args.present.now c.args.name.now.path (sym c.has_file.ensures ∙ c.if-has_file.false) c.requires.place
