@@ -1,5 +1,5 @@
 -- What the trees in memory are.
-use Rattle.std.specs.Prelude.{ℕ, List, [], Bool, Some}
+use Rattle.std.specs.Prelude.{ℕ, List, [], ◌∷◌, ◌++◌, Bool, Some}
 use Rattle.portal_base.specs.Calls.{Counted, counted, uncalled}
 use Rattle.portal_base.specs.declared.files.File.{File}
 use Rattle.host_tree.specs.Trees.{Held, Noted, TreeIs, held_with, note, put_file, unnoted}
@@ -73,3 +73,12 @@ with_file f s = record s { began = put_file f s.began; files = put_file f s.file
 
 abbrev pub quiet_with_file : File → QuietState → QuietState
 quiet_with_file f s = record s { began = put_file f s.began; files = put_file f s.files }
+
+-- the same of one that isn't present
+abbrev pub with_hidden : File → TreeState → TreeState
+with_hidden f s =
+    record s { began_hidden = s.began_hidden ++ f ∷ []; hidden = s.hidden ++ f ∷ [] }
+
+abbrev pub quiet_with_hidden : File → QuietState → QuietState
+quiet_with_hidden f s =
+    record s { began_hidden = s.began_hidden ++ f ∷ []; hidden = s.hidden ++ f ∷ [] }

@@ -218,14 +218,22 @@ change_held name change held = cond (has_file name held.present)
 abbrev pub may_add : FileName → Held → Bool
 may_add name held = not (has_named name held) && has_room held.present name.path
 
--- an empty file more, which isn't present
-abbrev pub added : FileName → ℕ → Held → Held
-added name moment held = held_with held.present (held.hidden ++ record {
+-- the file of a name
+abbrev pub file_as : FileName → List ℕ → ℕ → File
+file_as name bytes moment = record {
   path = name.path;
   generation = name.generation;
-  bytes = [];
+  bytes = bytes;
   moment = moment;
-} ∷ [])
+}
+
+-- one file more, which isn't present
+abbrev pub put_hidden : File → Held → Held
+put_hidden f held = held_with held.present (held.hidden ++ f ∷ [])
+
+-- an empty file more, which isn't present
+abbrev pub added : FileName → ℕ → Held → Held
+added name moment held = put_hidden (file_as name [] moment) held
 
 -- whether a file may be its path's present one: the path is no folder, and lies in one
 abbrev pub may_be_present : List File → List ℕ → Bool

@@ -4,7 +4,7 @@ ghost use Rattle.std.specs.Prelude.{◌≡◌, ◌≤◌, ◌+◌, ◌-◌, [], 
 ghost use Rattle.std.specs.List.{list_any, list_all};
 ghost use Rattle.portal_base.specs.Content.{look_at, is_folder, has_room, is_above, file_named, file_at, IsTree, ArePlaced, paths_of};
 ghost use Rattle.host_tree.specs.FolderNames.{names_in};
-ghost use Rattle.host_tree.specs.Trees.{overlaid, cut_to, bytes_from, Does, has_file, change_named, written, resized, may_create, put_file, file_with, without, new_file, is_done_fault};
+ghost use Rattle.host_tree.specs.Trees.{overlaid, cut_to, bytes_from, Does, has_file, change_named, written, resized, may_create, put_file, file_as, without, new_file, is_done_fault};
 
 use crate::names::FolderNames;
 use crate::tree::TreeDone;
@@ -255,17 +255,18 @@ impl Files {
     /// Adds a file where the paths then are those of a tree.
     pub(crate) fn add(
         &mut self,
-        path: HostPath,
+        name: FileName,
         bytes: ByteList,
         moment: u64,
     ) -> Result<(), WantOfMemory>
-        requires { ArePlaced (paths_of (put_file (file_with path bytes moment) self.old)) }
-        ensures ok { OnOk result (self.new ≡ put_file (file_with path bytes moment) self.old) }
+        requires { ArePlaced (paths_of (put_file (file_as name bytes moment) self.old)) }
+        ensures ok { OnOk result (self.new ≡ put_file (file_as name bytes moment) self.old) }
         ensures err { OnErr result (self.new ≡ self.old) }
     {
+        let FileName { path, generation } = name;
         let _ = path.as_bytes();
         let stored = Stored {
-            generation: 0,
+            generation,
             bytes,
             moment,
         };

@@ -5,7 +5,7 @@ ghost use Rattle.portal_base.specs.Content.{look_at, is_folder, file_at, file_na
 ghost use Rattle.host_tree.specs.Devices.{no_files, put_present};
 ghost use Rattle.host_tree.specs.FolderNames.{names_in};
 ghost use Rattle.host_tree.specs.Stored.{stored_of};
-ghost use Rattle.host_tree.specs.Trees.{Does, DoesHeld, held_with, may_be_present, turned_to, has_file, has_named, put_file, without, change_held, written, resized, may_create, may_add, may_turn, added, turned, new_file, file_with, is_done_fault};
+ghost use Rattle.host_tree.specs.Trees.{Does, DoesHeld, held_with, may_be_present, turned_to, has_file, has_named, put_file, without, change_held, written, resized, may_create, may_add, may_turn, added, turned, new_file, file_as, put_hidden, is_done_fault};
 
 use crate::files::{Files, Stored, done};
 use crate::hidden::HiddenFiles;
@@ -90,16 +90,15 @@ impl HeldFiles {
     /// Adds a present file where the paths then are those of a tree.
     pub(crate) fn add(
         &mut self,
-        path: HostPath,
+        name: FileName,
         bytes: ByteList,
         moment: u64,
     ) -> Result<(), WantOfMemory>
-        requires { ArePlaced (paths_of (put_file (file_with path bytes moment) self.old.present)) }
-        ensures ok { OnOk result
-            (self.new ≡ put_present (file_with path bytes moment) self.old) }
+        requires { ArePlaced (paths_of (put_file (file_as name bytes moment) self.old.present)) }
+        ensures ok { OnOk result (self.new ≡ put_present (file_as name bytes moment) self.old) }
         ensures err { OnErr result (self.new ≡ self.old) }
     {
-        self.present.add(path, bytes, moment)
+        self.present.add(name, bytes, moment)
     }
 
     /// Takes the present file of a path out, which was added last.
@@ -160,7 +159,7 @@ impl HeldFiles {
             return TreeDone::NotFile;
         }
         match self.present.has_room(alloc, &name.path) {
-            Ok(true) => done(self.hidden.add(alloc, name, now)),
+            Ok(true) => done(self.hidden.add_empty(alloc, name, now)),
             Ok(false) => TreeDone::NotFile,
             Err(_) => TreeDone::Memory,
         }
@@ -192,6 +191,26 @@ impl Replica for HeldFiles {
             hidden: self.hidden.replica(alloc)?,
         })
     }
+}
+
+/// Adds a file that isn't present to two trees, or to none of them.
+pub(crate) fn add_hidden_to_both(
+    alloc: Global,
+    began: &mut HeldFiles,
+    files: &mut HeldFiles,
+    name: FileName,
+    content: ByteList,
+    moment: u64,
+) -> Result<(), WantOfMemory>
+    ensures ok { OnOk result ((began.new ≡ put_hidden (file_as name content moment) began.old)
+        × (files.new ≡ put_hidden (file_as name content moment) files.old)) }
+    ensures err { OnErr result ((began.new ≡ began.old) × (files.new ≡ files.old)) }
+{
+    let mut first = began.hidden.replica(alloc)?;
+    first.add(name.replica(alloc)?, content.replica(alloc)?, moment)?;
+    files.hidden.add(name, content, moment)?;
+    began.hidden = first;
+    Ok(())
 }
 
 /// Makes a file that isn't present its path's present one, in the place of the former,

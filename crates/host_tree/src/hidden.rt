@@ -4,12 +4,12 @@ ghost use Rattle.std.specs.Prelude.{◌≡◌, [], ◌∷◌, ◌++◌, Some, fa
 ghost use Rattle.std.specs.List.{find, position_or_len};
 ghost use Rattle.portal_base.specs.Content.{file_named};
 ghost use Rattle.host_tree.specs.Stored.{file_of, files_of, is_stored, stored_of};
-ghost use Rattle.host_tree.specs.Trees.{Does, has_file, change_first, without_first, written, resized, is_done_fault};
+ghost use Rattle.host_tree.specs.Trees.{Does, has_file, file_as, change_first, without_first, written, resized, is_done_fault};
 
 use crate::files::Stored;
 use crate::tree::TreeDone;
 use portal_base::files::FileName;
-use portal_base::list::List;
+use portal_base::list::{ByteList, List};
 use portal_base::memory::{Replica, WantOfMemory};
 use portal_base::names::HostPath;
 use std::alloc::Global;
@@ -79,28 +79,38 @@ impl HiddenFiles {
         set_len_in(&mut self.files, name, size, now)
     }
 
-    /// Puts an empty file behind the others.
+    /// Puts a file behind the others.
     pub(crate) fn add(
+        &mut self,
+        name: FileName,
+        bytes: ByteList,
+        moment: u64,
+    ) -> Result<(), WantOfMemory>
+        ensures ok { OnOk result (self.new ≡ self.old ++ file_as name bytes moment ∷ []) }
+        ensures err { OnErr result (self.new ≡ self.old) }
+    {
+        let FileName { path, generation } = name;
+        let stored = Stored {
+            generation,
+            bytes,
+            moment,
+        };
+        self.files.push((path, stored))?;
+        Ok(())
+    }
+
+    /// Puts an empty file behind the others.
+    pub(crate) fn add_empty(
         &mut self,
         alloc: Global,
         name: &FileName,
         now: u64,
     ) -> Result<(), WantOfMemory>
-        ensures ok { OnOk result (self.new ≡ self.old ++ record {
-          path = name.now.path;
-          generation = name.now.generation;
-          bytes = [];
-          moment = now;
-        } ∷ []) }
+        ensures ok { OnOk result (self.new ≡ self.old ++ file_as name.now [] now ∷ []) }
         ensures err { OnErr result (self.new ≡ self.old) }
     {
-        let stored = Stored {
-            generation: name.generation,
-            bytes: List::new(alloc),
-            moment: now,
-        };
-        self.files.push((name.path.replica(alloc)?, stored))?;
-        Ok(())
+        let name = name.replica(alloc)?;
+        self.add(name, List::new(alloc), now)
     }
 
     /// Puts a file in the place of the one of a name, and gives that one.

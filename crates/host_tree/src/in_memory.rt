@@ -3,12 +3,12 @@
 ghost use Rattle.std.specs.Prelude.{◌≡◌, [], OnOk, OnErr, Some, false};
 ghost use Rattle.portal_base.specs.Content.{IsTree, ArePlaced, paths_of};
 ghost use Rattle.portal_base.specs.Calls.{uncalled};
-ghost use Rattle.host_tree.specs.Trees.{put_file, file_with};
-ghost use Rattle.host_tree.specs.Devices.{with_file, quiet_with_file};
+ghost use Rattle.host_tree.specs.Trees.{put_file, file_as, file_with};
+ghost use Rattle.host_tree.specs.Devices.{with_file, quiet_with_file, with_hidden, quiet_with_hidden};
 ghost use Rattle.host_tree.specs.Trees.{unnoted};
 
 use crate::files::bytes_from;
-use crate::held::HeldFiles;
+use crate::held::{HeldFiles, add_hidden_to_both};
 use crate::made::CallsMade;
 use crate::names::ChildName;
 use crate::tree::{AttrAnswer, HostTree, ListAnswer, LookAnswer, TreeCall, TreeDone, TreeRead};
@@ -65,7 +65,8 @@ impl MemoryTree {
         }
     }
 
-    /// Adds a file to those that the tree began with, before its first call.
+    /// Adds the first file of a path to those that the tree began with, before its first
+    /// call.
     pub fn add_file(
         &mut self,
         path: HostPath,
@@ -80,11 +81,55 @@ impl MemoryTree {
         ensures ok { OnOk result (self.new ≡ with_file (file_with path content moment) self.old) }
         ensures err { OnErr result (self.new ≡ self.old) }
     {
+        let name = FileName {
+            path,
+            generation: 0,
+        };
+        self.add_present(name, content, moment)
+    }
+
+    /// Adds a present file to those that the tree began with, before its first call.
+    pub fn add_present(
+        &mut self,
+        name: FileName,
+        content: ByteList,
+        moment: u64,
+    ) -> Result<(), WantOfMemory>
+        requires fresh { self.old.count.calls.made ≡ 0 }
+        requires began { ArePlaced
+            (paths_of (put_file (file_as name content moment) self.old.began)) }
+        requires files { ArePlaced
+            (paths_of (put_file (file_as name content moment) self.old.files)) }
+        ensures ok { OnOk result (self.new ≡ with_file (file_as name content moment) self.old) }
+        ensures err { OnErr result (self.new ≡ self.old) }
+    {
         add_to_both(
             self.alloc,
             &mut self.began,
             &mut self.files,
-            path,
+            name,
+            content,
+            moment,
+        )
+    }
+
+    /// Adds a file that isn't present to those that the tree began with, before its first
+    /// call.
+    pub fn add_hidden(
+        &mut self,
+        name: FileName,
+        content: ByteList,
+        moment: u64,
+    ) -> Result<(), WantOfMemory>
+        requires { self.old.count.calls.made ≡ 0 }
+        ensures ok { OnOk result (self.new ≡ with_hidden (file_as name content moment) self.old) }
+        ensures err { OnErr result (self.new ≡ self.old) }
+    {
+        add_hidden_to_both(
+            self.alloc,
+            &mut self.began,
+            &mut self.files,
+            name,
             content,
             moment,
         )
@@ -232,7 +277,8 @@ impl QuietTree {
         }
     }
 
-    /// Adds a file to those that the tree began with, before its first call.
+    /// Adds the first file of a path to those that the tree began with, before its first
+    /// call.
     pub fn add_file(
         &mut self,
         path: HostPath,
@@ -248,11 +294,55 @@ impl QuietTree {
             (self.new ≡ quiet_with_file (file_with path content moment) self.old) }
         ensures err { OnErr result (self.new ≡ self.old) }
     {
+        let name = FileName {
+            path,
+            generation: 0,
+        };
+        self.add_present(name, content, moment)
+    }
+
+    /// Adds a present file to those that the tree began with, before its first call.
+    pub fn add_present(
+        &mut self,
+        name: FileName,
+        content: ByteList,
+        moment: u64,
+    ) -> Result<(), WantOfMemory>
+        requires fresh { self.old.made ≡ 0 }
+        requires began { ArePlaced
+            (paths_of (put_file (file_as name content moment) self.old.began)) }
+        requires files { ArePlaced
+            (paths_of (put_file (file_as name content moment) self.old.files)) }
+        ensures ok { OnOk result (self.new ≡ quiet_with_file (file_as name content moment) self.old) }
+        ensures err { OnErr result (self.new ≡ self.old) }
+    {
         add_to_both(
             self.alloc,
             &mut self.began,
             &mut self.files,
-            path,
+            name,
+            content,
+            moment,
+        )
+    }
+
+    /// Adds a file that isn't present to those that the tree began with, before its first
+    /// call.
+    pub fn add_hidden(
+        &mut self,
+        name: FileName,
+        content: ByteList,
+        moment: u64,
+    ) -> Result<(), WantOfMemory>
+        requires { self.old.made ≡ 0 }
+        ensures ok { OnOk result (self.new ≡ quiet_with_hidden (file_as name content moment) self.old) }
+        ensures err { OnErr result (self.new ≡ self.old) }
+    {
+        add_hidden_to_both(
+            self.alloc,
+            &mut self.began,
+            &mut self.files,
+            name,
             content,
             moment,
         )
@@ -336,23 +426,23 @@ fn add_to_both(
     alloc: Global,
     began: &mut HeldFiles,
     files: &mut HeldFiles,
-    path: HostPath,
+    name: FileName,
     content: ByteList,
     moment: u64,
 ) -> Result<(), WantOfMemory>
-    requires began { ArePlaced (paths_of (put_file (file_with path content moment) began.old.present)) }
-    requires files { ArePlaced (paths_of (put_file (file_with path content moment) files.old.present)) }
-    ensures ok { OnOk result ((began.new ≡ put_present (file_with path content moment) began.old)
-        × (files.new ≡ put_present (file_with path content moment) files.old)) }
+    requires began { ArePlaced (paths_of (put_file (file_as name content moment) began.old.present)) }
+    requires files { ArePlaced (paths_of (put_file (file_as name content moment) files.old.present)) }
+    ensures ok { OnOk result ((began.new ≡ put_present (file_as name content moment) began.old)
+        × (files.new ≡ put_present (file_as name content moment) files.old)) }
     ensures err { OnErr result ((began.new ≡ began.old) × (files.new ≡ files.old)) }
 {
-    let first_path = path.replica(alloc)?;
-    let second_path = path.replica(alloc)?;
+    let first_name = name.replica(alloc)?;
+    let second_name = name.replica(alloc)?;
     let first_content = content.replica(alloc)?;
     began.known();
-    began.add(first_path, first_content, moment)?;
-    if files.add(second_path, content, moment).is_err() {
-        began.take_back(&path);
+    began.add(first_name, first_content, moment)?;
+    if files.add(second_name, content, moment).is_err() {
+        began.take_back(&name.path);
         return Err(WantOfMemory);
     }
     Ok(())
