@@ -5,4 +5,5 @@ pub mod HeldChanges
 pub mod HeldTurned
 pub mod HiddenEntries
 pub mod NamesFound
+pub mod NoHidden
 pub mod PathsBelow
