@@ -47,6 +47,7 @@ fn put_answer(alloc: Global, out: &mut String, line: &str) -> Result<(), VectorE
         "words" => devices::words(alloc, out, rest),
         "tree" => trees::tree(alloc, out, rest),
         "quiet" => trees::quiet(alloc, out, rest),
+        "beside" => trees::beside(alloc, out, rest),
         "keeper" => keepers::keeper(alloc, out, rest),
         "records" => kept::records(alloc, out, rest),
         "store" => store::store(alloc, out, rest),

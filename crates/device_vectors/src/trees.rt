@@ -38,6 +38,31 @@ fn tree_of(alloc: Global, fails: &str, file: &str) -> Result<MemoryTree, VectorE
     Ok(tree)
 }
 
+/// `beside FAILS | PATH#G MOMENT BYTES | STEP, STEP ..`: the same over a tree that has this
+/// file, which isn't present.
+pub fn beside(alloc: Global, out: &mut String, rest: &str) -> Result<(), VectorError> {
+    let mut parts = rest.split('|');
+    let fails = parts.next().unwrap_or("");
+    let file = parts.next().unwrap_or("");
+    let mut tree = tree_beside(alloc, fails, file.trim())?;
+    let put = put_answers(alloc, out, &mut tree, parts.next().unwrap_or(""));
+    drop(tree);
+    put
+}
+
+fn tree_beside(alloc: Global, fails: &str, file: &str) -> Result<MemoryTree, VectorError> {
+    let (name, rest) = cut(file);
+    let (moment, content) = cut(rest);
+    let (path, generation) = named(name)?;
+    let path = given(alloc, HostPath::read(alloc, path.as_bytes()))?;
+    let content = bytes(alloc, content)?;
+    let moment = number(moment)?;
+    let fails = numbers(alloc, fails)?;
+    let mut tree = MemoryTree::new(alloc, fails);
+    tree.add_hidden(FileName { path, generation }, content, moment)?;
+    Ok(tree)
+}
+
 /// `quiet STEP, STEP ..`: what each step answers over an empty tree that never
 /// fails.
 pub fn quiet(alloc: Global, out: &mut String, rest: &str) -> Result<(), VectorError> {
