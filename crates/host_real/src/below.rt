@@ -1,7 +1,7 @@
 //! The calls on files below a root folder.
 
 ghost use Rattle.std.specs.Prelude.{◌≤◌, length, IfOk, IfSome};
-ghost use Rattle.host_tree.specs.FolderNames.{AreInOrder};
+ghost use Rattle.portal_base.specs.FolderNames.{AreInOrder};
 
 use crate::aside::{Aside, is_own};
 use crate::kept::KeptFiles;
@@ -15,8 +15,7 @@ use host_folders::error::{OpenError, TreeError, is_missing, is_refused};
 use host_folders::numbers::{Numbers, is_looked_at};
 use host_folders::sight::{Kind, Sight, seen};
 use host_folders::way::{Place, Way, text_of};
-use host_tree::ChildName;
-use portal_base::files::{FileName, Look};
+use portal_base::files::{ChildName, FileName, Look};
 use portal_base::list::{ByteList, List};
 use portal_base::names::HostPath;
 use std::alloc::Global;

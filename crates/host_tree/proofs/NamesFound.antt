@@ -11,10 +11,10 @@ use Rattle.std.specs.Map.{keys_of}
 use Rattle.std.specs.Ordering.{match_ordering}
 use Rattle.std.specs.declared.cmp.Ordering.{Ordering}
 use Rattle.std.specs.declared.cmp.Ordering.TheVariants.{Less, Equal, Greater}
-use Rattle.host_tree.specs.NameOrder.{name_order}
-use Rattle.host_tree.specs.FolderNames.{AreInOrder, first_part, is_below, length_above, name_below, put_name, put_path}
+use Rattle.portal_base.specs.NameOrder.{name_order}
+use Rattle.portal_base.specs.FolderNames.{AreInOrder, first_part, is_below, length_above, name_below, put_name, put_path}
 use Rattle.host_tree.specs.Children.{children_of, child_of_entry}
-use Rattle.host_tree.specs.declared.names.ChildName.{ChildName}
+use Rattle.portal_base.specs.declared.files.ChildName.{ChildName}
 
 pub put-child : (k : List ℕ) (v : Bool) (es : List (List ℕ × Bool)) → children_of (insert_entry name_order es k v) ≡ put_name (record { name = k; folder = v }) (children_of es)
 put-child k v [] = refl

@@ -5,7 +5,7 @@ use Rattle.std.specs.Ordering.{eq_by_cmp, nat_cmp}
 use Rattle.std.specs.Cmp.{IsTotalOrder, nat_cmp_total}
 use Rattle.std.specs.Cmp.Lexicographic.{lists_total, lists_ties}
 use Rattle.portal_base.specs.Names.{is_same}
-use Rattle.host_tree.specs.NameOrder.{name_order}
+use Rattle.portal_base.specs.NameOrder.{name_order}
 
 pub name_order_total : IsTotalOrder name_order
 name_order_total = lists_total nat_cmp_total

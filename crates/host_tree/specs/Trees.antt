@@ -8,7 +8,7 @@ use Rattle.portal_base.specs.Content.{file_at, file_named, is_folder, is_named, 
 pub use Rattle.portal_base.specs.FileChanges.{bytes_from, cut_to, overlaid, with_bytes, written, resized, change_named, put_file, file_with, new_file}
 use Rattle.portal_base.specs.declared.files.File.{File}
 use Rattle.portal_base.specs.declared.files.FileName.{FileName}
-use Rattle.host_tree.specs.FolderNames.{AreInOrder, names_in}
+use Rattle.portal_base.specs.FolderNames.{AreInOrder, names_in}
 use Rattle.host_tree.specs.declared.tree.AttrAnswer.{AttrAnswer}
 use Rattle.host_tree.specs.declared.tree.AttrAnswer.TheVariants as attr
 use Rattle.host_tree.specs.declared.tree.ListAnswer.{ListAnswer}

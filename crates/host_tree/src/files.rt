@@ -3,7 +3,7 @@
 ghost use Rattle.std.specs.Prelude.{◌≡◌, ◌≤◌, ◌+◌, ◌-◌, [], Some, None, false, true, is_some, IfOk, OnOk, OnErr, length, take, drop, ◌++◌, map, option_map, option_copied};
 ghost use Rattle.std.specs.List.{list_any, list_all};
 ghost use Rattle.portal_base.specs.Content.{look_at, is_folder, has_room, is_above, file_named, file_at, IsTree, ArePlaced, paths_of};
-ghost use Rattle.host_tree.specs.FolderNames.{names_in};
+ghost use Rattle.portal_base.specs.FolderNames.{names_in};
 ghost use Rattle.host_tree.specs.Trees.{overlaid, cut_to, bytes_from, Does, has_file, change_named, written, resized, may_create, put_file, file_as, without, new_file, is_done_fault};
 
 use crate::names::FolderNames;
@@ -413,7 +413,7 @@ fn replica_of(
 }
 
 ghost use Rattle.std.specs.Prelude.{fold, MatchOption};
-ghost use Rattle.host_tree.specs.FolderNames.{is_below, length_above, put_path};
+ghost use Rattle.portal_base.specs.FolderNames.{is_below, length_above, put_path};
 
 /// Puts the names by which the paths in a map go on below a folder among others.
 fn put_paths(

@@ -3,7 +3,7 @@
 ghost use Rattle.std.specs.Prelude.{◌≡◌, ◌++◌, Some, false, true, IfOk, OnOk, OnErr, option_map, option_copied};
 ghost use Rattle.portal_base.specs.Content.{look_at, is_folder, file_at, file_named, IsTree, ArePlaced, paths_of};
 ghost use Rattle.host_tree.specs.Devices.{no_files, put_present};
-ghost use Rattle.host_tree.specs.FolderNames.{names_in};
+ghost use Rattle.portal_base.specs.FolderNames.{names_in};
 ghost use Rattle.host_tree.specs.Stored.{stored_of};
 ghost use Rattle.host_tree.specs.Trees.{Does, DoesHeld, held_with, may_be_present, turned_to, has_file, has_named, put_file, without, change_held, written, resized, may_create, may_add, may_turn, added, turned, new_file, file_as, put_hidden, is_done_fault};
 

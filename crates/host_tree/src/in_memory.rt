@@ -10,9 +10,8 @@ ghost use Rattle.host_tree.specs.Trees.{unnoted};
 use crate::files::bytes_from;
 use crate::held::{HeldFiles, add_hidden_to_both};
 use crate::made::CallsMade;
-use crate::names::ChildName;
 use crate::tree::{AttrAnswer, HostTree, ListAnswer, LookAnswer, TreeCall, TreeDone, TreeRead};
-use portal_base::files::FileName;
+use portal_base::files::{ChildName, FileName};
 use portal_base::list::{ByteList, List};
 use portal_base::memory::{Replica, WantOfMemory};
 use portal_base::names::HostPath;
@@ -417,7 +416,7 @@ impl HostTree for QuietTree {
 
 ghost use Rattle.std.specs.Prelude.{◌++◌, ◌||◌, IfOk, MatchOption, true};
 ghost use Rattle.portal_base.specs.Content.{is_folder};
-ghost use Rattle.host_tree.specs.FolderNames.{AreInOrder, names_in};
+ghost use Rattle.portal_base.specs.FolderNames.{AreInOrder, names_in};
 ghost use Rattle.host_tree.specs.Devices.{put_present};
 ghost use Rattle.host_tree.specs.Trees.{Attrs, Gets, Lists, Does, has_file, as_before, is_attr_fault, is_list_fault, is_read_fault, is_done_fault};
 

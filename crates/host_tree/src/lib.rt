@@ -12,7 +12,7 @@
 //! |---|---|
 //! | `tree` | the trait [`HostTree`] and its answers |
 //! | `in_memory` | [`MemoryTree`], whose told calls fail, and [`QuietTree`], which never fails |
-//! | `names` | [`ChildName`], and the names in a folder as they are found |
+//! | `names` | the names in a folder as they are found |
 //! | `held`, `files`, `hidden` | the files of a tree in memory: the present ones by path, and those beside them |
 //! | `made` | the calls of a tree in memory |
 //!
@@ -31,5 +31,5 @@ pub mod names;
 mod tree;
 
 pub use in_memory::{MemoryTree, QuietTree};
-pub use names::ChildName;
+pub use portal_base::files::ChildName;
 pub use tree::{AttrAnswer, HostTree, ListAnswer, LookAnswer, TreeCall, TreeDone, TreeRead};

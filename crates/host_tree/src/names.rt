@@ -1,32 +1,15 @@
 //! The names in a folder.
 
 ghost use Rattle.std.specs.Prelude.{◌≡◌, [], IfOk, OnOk, OnErr};
-ghost use Rattle.host_tree.specs.FolderNames.{AreInOrder, first_part, put_name};
+ghost use Rattle.portal_base.specs.FolderNames.{AreInOrder, first_part, put_name};
 
+use portal_base::files::ChildName;
 use portal_base::list::{ByteList, List};
-use portal_base::memory::{Replica, WantOfMemory};
+use portal_base::memory::WantOfMemory;
 use std::alloc::Global;
 use std::cmp::Ordering;
 use std::collections::BTreeMap;
 use std::marker::Model;
-
-/// A name in a folder, and what stands there.
-#[derive(Drop)]
-pub struct ChildName {
-    /// The name.
-    pub name: ByteList,
-    /// Whether it is a folder, and else a file.
-    pub folder: bool,
-}
-
-impl Replica for ChildName {
-    fn replica(&self, alloc: Global) -> Result<ChildName, WantOfMemory> {
-        Ok(ChildName {
-            name: self.name.replica(alloc)?,
-            folder: self.folder,
-        })
-    }
-}
 
 /// A name, which is ordered byte by byte.
 #[derive(Drop)]
@@ -67,7 +50,7 @@ impl Eq for Name {
 impl PartialOrd for Name {
     ghost use Rattle.std.specs.Prelude.{Some, refl};
     ghost use Rattle.std.specs.Cmp.{partial_order_from_agreeing_total};
-    ghost use Rattle.host_tree.specs.NameOrder.{name_order};
+    ghost use Rattle.portal_base.specs.NameOrder.{name_order};
     ghost use Rattle.host_tree.specs.NameOrders.{name_order_total, name_order_ties};
 
     ghost partial_cmp = { λ a b. Some (name_order a b) };
@@ -82,7 +65,7 @@ impl PartialOrd for Name {
 
 impl Ord for Name {
     ghost use Rattle.std.specs.Prelude.{refl};
-    ghost use Rattle.host_tree.specs.NameOrder.{name_order};
+    ghost use Rattle.portal_base.specs.NameOrder.{name_order};
     ghost use Rattle.host_tree.specs.NameOrders.{name_order_total, name_order_ties};
 
     ghost cmp = { name_order };
@@ -107,7 +90,7 @@ pub struct FolderNames {
 
 impl Model for FolderNames {
     ghost use Rattle.std.specs.Prelude.{List};
-    ghost use Rattle.host_tree.specs.declared.names.ChildName.{ChildName};
+    ghost use Rattle.portal_base.specs.declared.files.ChildName.{ChildName};
     ghost use Rattle.host_tree.specs.Children.{children_of};
 
     ghost Value = { List ChildName };

@@ -14,8 +14,7 @@
 ghost use Rattle.std.specs.Prelude.{◌≡◌, IfSome, IsOk, None, OnErr, OnOk};
 ghost use Rattle.portal_base.specs.Content.{IsTree};
 
-use crate::names::ChildName;
-use portal_base::files::{FileName, Look};
+use portal_base::files::{ChildName, FileName, Look};
 use portal_base::list::{ByteList, List};
 use portal_base::memory::WantOfMemory;
 use portal_base::names::HostPath;

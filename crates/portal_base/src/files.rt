@@ -1,4 +1,5 @@
-//! The files of a tree, what it shows at a path, and how it names a file.
+//! The files of a tree, what it shows at a path, the names in its folders, and how it names
+//! a file.
 
 use crate::list::ByteList;
 use crate::memory::{Replica, WantOfMemory};
@@ -68,6 +69,25 @@ impl Replica for File {
             generation: self.generation,
             bytes: self.bytes.replica(alloc)?,
             moment: self.moment,
+        })
+    }
+}
+
+// It stands in this crate so that trees and what was given of them speak of the same names.
+/// A name in a folder of a tree, and what stands there.
+#[derive(Drop)]
+pub struct ChildName {
+    /// The name.
+    pub name: ByteList,
+    /// Whether it is a folder, and else a file.
+    pub folder: bool,
+}
+
+impl Replica for ChildName {
+    fn replica(&self, alloc: Global) -> Result<ChildName, WantOfMemory> {
+        Ok(ChildName {
+            name: self.name.replica(alloc)?,
+            folder: self.folder,
         })
     }
 }

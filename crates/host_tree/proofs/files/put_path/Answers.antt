@@ -1,5 +1,5 @@
 use Rattle.std.proofs.Common.{◌≡◌, ◌∙◌}
-use Rattle.host_tree.specs.FolderNames.{first_part, put_name, put_path}
+use Rattle.portal_base.specs.FolderNames.{first_part, put_name, put_path}
 use Rattle.host_tree.proofs.NamesFound.{ok-then, put-below, put-beside}
 use Rattle.host_tree.proofs.files.put_path.Goals as goal
 

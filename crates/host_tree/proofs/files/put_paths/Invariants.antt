@@ -1,6 +1,6 @@
 use Rattle.std.proofs.Common.{◌≡◌, fold}
 use Rattle.std.specs.BTreeMap.{keys}
-use Rattle.host_tree.specs.FolderNames.{put_path}
+use Rattle.portal_base.specs.FolderNames.{put_path}
 use Rattle.host_tree.proofs.files.put_paths.Given as goal
 
 -- what is left, put among those so far, is what all come to

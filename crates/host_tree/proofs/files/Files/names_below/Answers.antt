@@ -1,8 +1,8 @@
 use Rattle.std.proofs.Common.{sym, ap, ◌∙◌, List, ℕ, [], fold}
 use Rattle.std.specs.Map.{keys_of}
 use Rattle.portal_base.specs.declared.files.File.{File}
-use Rattle.host_tree.specs.FolderNames.{names_in, put_path}
-use Rattle.host_tree.specs.declared.names.ChildName.{ChildName}
+use Rattle.portal_base.specs.FolderNames.{names_in, put_path}
+use Rattle.portal_base.specs.declared.files.ChildName.{ChildName}
 use Rattle.host_tree.proofs.Entries.{paths-are}
 use Rattle.host_tree.proofs.files.Files.names_below.Goals as goal
 

@@ -1,7 +1,7 @@
 use Rattle.std.proofs.Common.{ap, ◌∙◌, List}
 use Rattle.host_tree.specs.Children.{children_of}
-use Rattle.host_tree.specs.FolderNames.{put_name}
-use Rattle.host_tree.specs.declared.names.ChildName.{ChildName}
+use Rattle.portal_base.specs.FolderNames.{put_name}
+use Rattle.portal_base.specs.declared.files.ChildName.{ChildName}
 use Rattle.host_tree.proofs.NamesFound.{put-child}
 use Rattle.host_tree.proofs.names.FolderNames.put.Goals as goal
 

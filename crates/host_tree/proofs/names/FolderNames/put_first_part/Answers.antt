@@ -1,6 +1,6 @@
 use Rattle.std.proofs.Common.{◌≡◌, ap, sym, ◌∙◌, take, true, false}
-use Rattle.host_tree.specs.FolderNames.{first_part, put_name}
-use Rattle.host_tree.specs.declared.names.ChildName.{ChildName}
+use Rattle.portal_base.specs.FolderNames.{first_part, put_name}
+use Rattle.portal_base.specs.declared.files.ChildName.{ChildName}
 use Rattle.host_tree.proofs.NamesFound.{first-slash, no-slash, ok-then}
 use Rattle.host_tree.proofs.names.FolderNames.put_first_part.Goals as goal
 

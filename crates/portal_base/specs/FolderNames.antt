@@ -6,8 +6,8 @@ use Rattle.std.specs.Ordering.{match_ordering}
 use Rattle.portal_base.specs.Names.{is_same, is_slash, root}
 use Rattle.portal_base.specs.Content.{is_above, paths_of}
 use Rattle.portal_base.specs.declared.files.File.{File}
-use Rattle.host_tree.specs.NameOrder.{name_order}
-use Rattle.host_tree.specs.declared.names.ChildName.{ChildName}
+use Rattle.portal_base.specs.NameOrder.{name_order}
+use Rattle.portal_base.specs.declared.files.ChildName.{ChildName}
 
 -- names in byte order, each once
 abbrev pub AreInOrder : List ChildName → Type 0
