@@ -1,12 +1,13 @@
 -- What becomes of the boxes, one after another.
-use Rattle.std.proofs.Common.{◌≡◌, ℕ, zero, suc, ◌+◌, ◌-◌, ◌<◌, ◌≤◌, nat_eq, List, [], ◌∷◌, ◌++◌, length, map, take, slice_get, cond, option_map, Option, Some, None, IfSome, Result, Ok, Err, OnErr, refl, sym, ap, subst, ◌∙◌, arith}
+use Rattle.std.proofs.Common.{◌≡◌, ℕ, zero, suc, ◌+◌, ◌-◌, ◌<◌, ◌≤◌, nat_eq, Bool, true, false, List, [], ◌∷◌, ◌++◌, length, map, take, slice_get, cond, option_map, Option, Some, None, IfSome, Result, Ok, Err, OnErr, refl, sym, ap, subst, ◌∙◌, arith}
+use Rattle.std.specs.Prelude.{◌≢◌, ◌↔◌, IsTrue, not, unwrap_or}
 use Rattle.std.specs.Map.{lookup, values_of}
 use Rattle.std.proofs.lemmas.List.{length-append}
 use Rattle.std.proofs.Math.Seq.{take-append_seam}
 use Rattle.std.proofs.lemmas.Map.Made.{lookup-map_values}
 use Rattle.indexmap.specs.IndexMap.{set_value_at}
 use Rattle.portal_model.specs.declared.reply.Change.{Change}
-use Rattle.change_signals.specs.Unsent.{Boxes, unsent_on, entered, told, untold, with_last, without_last, on_box, first_become, AtSeat, AtEach, IsSame}
+use Rattle.change_signals.specs.Unsent.{Boxes, unsent_on, entered, told, untold, with_last, without_last, on_box, first_become, AtSeat, AtEach, IsSame, IsWaiting}
 
 -- ---- one box
 
@@ -90,6 +91,28 @@ taken-back change boxes cur new i e h = h ∙ (ap (λ (bs : Boxes). first_become
 pub entered-as : (old new shown : Boxes) (seat : ℕ) (signals : List Change) → signals ≡ [] → old ≡ shown → ((q : ℕ) → lookup (nat_eq q) new ≡ cond (nat_eq seat q) (Some signals) (lookup (nat_eq q) old)) → AtSeat entered shown new seat
 entered-as old new shown seat signals none same updates =
     subst (λ (bs : Boxes). AtSeat entered bs new seat) same (subst (λ (xs : List Change). (q : ℕ) → lookup (nat_eq q) new ≡ cond (nat_eq seat q) (Some xs) (lookup (nat_eq q) old)) none updates)
+
+-- ---- whether signals are unsent
+
+pub is-false : (b : Bool) → b ≡ false → IsTrue b → ⊥
+is-false true e t = cc
+is-false false e t = cc
+
+pub front-nil : (a b : List Change) → a ++ b ≡ [] → a ≡ []
+front-nil [] b e = refl
+front-nil (c ∷ a) b e = absurd (cc)
+
+not-true : (b : Bool) (P : Type 0) → (IsTrue b ↔ P) → (IsTrue (not b) ↔ (P → ⊥))
+not-true true P h = (λ t. absurd (cc), λ n. absurd (n (h.0 refl)))
+not-true false P h = (λ t p. let no : false ≡ true = h.1 p in absurd (cc), λ n. refl)
+
+pub some-waiting : (boxes shown : Boxes) (seat : ℕ) (signals : List Change) (b : Bool) → boxes ≡ shown → unsent_on boxes seat ≡ Some signals → (IsTrue b ↔ (signals ≡ [])) → (IsTrue (not b) ↔ IsWaiting shown seat)
+some-waiting boxes shown seat signals b same found h =
+    subst (λ (xs : List Change). IsTrue (not b) ↔ (xs ≢ [])) (ap (λ (o : Option (List Change)). unwrap_or o []) (sym found ∙ ap (λ (bs : Boxes). unsent_on bs seat) same)) (not-true b (signals ≡ []) h)
+
+pub none-waiting : (boxes shown : Boxes) (seat : ℕ) → boxes ≡ shown → unsent_on boxes seat ≡ None → (IsTrue false ↔ IsWaiting shown seat)
+none-waiting boxes shown seat same none =
+    (λ t. absurd (cc), λ waits. absurd (waits (ap (λ (o : Option (List Change)). unwrap_or o []) (sym (ap (λ (bs : Boxes). unsent_on bs seat) same) ∙ none))))
 
 -- ---- an error
 

@@ -1,7 +1,7 @@
 -- Signals that aren't sent yet. Each open connection of a host to the bus has its own, in the
 -- order in which they came: a change of the permission store is told to all of them (the signal
 -- Changed of org.freedesktop.impl.portal.PermissionStore, XDG Desktop Portal documentation).
-use Rattle.std.specs.Prelude.{◌≡◌, ℕ, ◌==◌, ◌-◌, List, [], ◌∷◌, ◌++◌, Option, Some, None, cond, map, take, drop, length, option_map}
+use Rattle.std.specs.Prelude.{◌≡◌, ◌≢◌, ℕ, ◌==◌, ◌-◌, List, [], ◌∷◌, ◌++◌, Option, Some, None, cond, map, take, drop, length, option_map, unwrap_or}
 use Rattle.std.specs.Map.{lookup}
 use Rattle.portal_model.specs.declared.reply.Change.{Change}
 
@@ -12,6 +12,10 @@ Boxes = List (ℕ × List Change)
 -- the unsent signals of a connection, or none where it wasn't entered or was left
 abbrev pub unsent_on : Boxes → ℕ → Option (List Change)
 unsent_on boxes seat = lookup (λ s. seat == s) boxes
+
+-- some signals of a connection are unsent
+abbrev pub IsWaiting : Boxes → ℕ → Type 0
+IsWaiting boxes seat = unwrap_or (unsent_on boxes seat) [] ≢ []
 
 -- ---- what becomes of one connection's signals
 

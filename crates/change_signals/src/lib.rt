@@ -6,7 +6,8 @@
 //! that is posted stands last on all connections, or on none where there was no
 //! memory; taking the last post back leaves all as they were before it, and takes
 //! no memory. Where there is none to copy what a connection takes, that stays
-//! unsent. Only the host hears of changes, on its connections to the bus.
+//! unsent. Only the host hears of changes, on its connections to the bus. Whether
+//! some are unsent is told exactly.
 //!
 //! | Room | Holds |
 //! |---|---|

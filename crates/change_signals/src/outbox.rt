@@ -1,6 +1,6 @@
 //! The unsent signals of one connection.
 
-ghost use Rattle.std.specs.Prelude.{◌≡◌, [], IfOk, OnOk, OnErr};
+ghost use Rattle.std.specs.Prelude.{◌≡◌, ◌↔◌, [], IfOk, OnOk, OnErr, IsTrue};
 ghost use Rattle.change_signals.specs.Unsent.{with_last, without_last};
 
 use dbus_types::shared::Shared;
@@ -44,6 +44,13 @@ impl Outbox {
             returned: List::new(alloc),
             posted: List::new(alloc),
         }
+    }
+
+    /// Whether nothing is unsent.
+    pub(crate) fn is_empty(&self) -> bool
+        ensures { IsTrue result ↔ (self.now ≡ []) }
+    {
+        self.returned.is_empty() && self.posted.is_empty()
     }
 
     /// A change is told behind what is unsent.

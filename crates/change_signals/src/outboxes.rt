@@ -1,9 +1,9 @@
 //! The unsent signals of all connections.
 
-ghost use Rattle.std.specs.Prelude.{◌≡◌, ℕ, ◌≤◌, [], None, IfOk, OnOk, OnErr, IfSome, unwrap_or, length, slice_get};
+ghost use Rattle.std.specs.Prelude.{◌≡◌, ◌↔◌, ℕ, ◌≤◌, [], None, IfOk, OnOk, OnErr, IfSome, IsTrue, unwrap_or, length, slice_get};
 ghost use Rattle.indexmap.specs.IndexMap.{set_value_at};
 ghost use Rattle.std.specs.Map.{values_of};
-ghost use Rattle.change_signals.specs.Unsent.{Boxes, unsent_on, entered, left, told, untold, holding, with_last, without_last, first_become, AtSeat, AtEach, IsSame};
+ghost use Rattle.change_signals.specs.Unsent.{Boxes, unsent_on, entered, left, told, untold, holding, with_last, without_last, first_become, AtSeat, AtEach, IsSame, IsWaiting};
 ghost use Rattle.portal_model.specs.declared.reply.Change.{Change};
 
 use crate::outbox::Outbox;
@@ -74,6 +74,17 @@ impl Outboxes {
         ensures err { OnErr result (self.new ≡ self.old) }
     {
         take_at(&mut self.boxes, seat, self.alloc)
+    }
+
+    /// Whether some signals of a connection are unsent; none are where it wasn't
+    /// entered.
+    pub fn waiting(&self, seat: u32) -> bool
+        ensures { IsTrue result ↔ IsWaiting self.now seat }
+    {
+        match self.boxes.get(&seat) {
+            Some(outbox) => !outbox.is_empty(),
+            None => false,
+        }
     }
 
     /// A connection ends, and its signals go.

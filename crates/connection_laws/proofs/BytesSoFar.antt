@@ -109,7 +109,7 @@ as_many_kept (Denied request why ∷ os) (Denied other how ∷ us) e =
     as_many_kept os us behind
 
 -- the first of two lists, in so many of both
-firsts : {X : Type 0} (fs bs more rest : List X) (n : ℕ) → length fs ≡ length bs → length fs ≤ n → take n (fs ++ more) ≡ take n (bs ++ rest) → fs ≡ bs
+pub firsts : {X : Type 0} (fs bs more rest : List X) (n : ℕ) → length fs ≡ length bs → length fs ≤ n → take n (fs ++ more) ≡ take n (bs ++ rest) → fs ≡ bs
 firsts [] [] more rest n e l h = refl
 firsts [] (b ∷ bs) more rest n e l h = absurd (cc)
 firsts (a ∷ fs) [] more rest n e l h = absurd (cc)

@@ -14,10 +14,10 @@ use Rattle.connection_laws.proofs.Places.{at_seat-append, own_seats-append}
 
 -- ---- the machine
 
-abbrev BeginsSo : List Reply → List Reply → Type 0
+abbrev pub BeginsSo : List Reply → List Reply → Type 0
 BeginsSo whole front = (more : List Reply) × (whole ≡ front ++ more)
 
-more_first : (r : Reply) (whole front : List Reply) → BeginsSo whole front → BeginsSo (r ∷ whole) (r ∷ front)
+pub more_first : (r : Reply) (whole front : List Reply) → BeginsSo whole front → BeginsSo (r ∷ whole) (r ∷ front)
 more_first r whole front h = (h.0, ap (λ (z : List Reply). r ∷ z) h.1)
 
 machine_first : (xs ys : List TraceItem) (v : AppView) → BeginsSo (own_replies v (xs ++ ys)) (own_replies v xs)

@@ -15,6 +15,8 @@ pub mod ServedBytes
 pub mod ServedStreams
 pub mod RepliesSoFar
 pub mod BytesSoFar
+mod ServedFronts
+pub mod ServedSoFar
 mod BlindedViews
 mod BlindedNodes
 mod BlindedBuses

@@ -4,10 +4,10 @@ use Rattle.std.specs.Prelude.{codes}
 use Rattle.portal_model.specs.declared.reply.NodeAnswer.{NodeAnswer}
 use Rattle.portal_model.specs.Examples.{replied as one_reply}
 use Rattle.portal_model.specs.FileExamples.{told}
-use Rattle.served_world.specs.Examples.{asks_length, length_told, reads_it}
+use Rattle.served_world.specs.Examples.{asks_length, five_bytes, length_told, own_item, reads_it}
 use Rattle.session.specs.Answers.{Made, Outcome}
 use Rattle.session.specs.Frames.{frames_of}
-use Rattle.connection_laws.specs.ReadExamples.{AreAnswered, IsSameFront, ReadsShowContents, asks, became, frame_with, said_with}
+use Rattle.connection_laws.specs.ReadExamples.{AreAnswered, IsSameFront, ReadsShowContents, TracesGoOn, asks, became, frame_with, said_with}
 use Rattle.connection_laws.proofs.SaidAlike.{items-alike}
 
 abbrev read_with : List ℕ → Outcome
@@ -54,6 +54,14 @@ shown = record {
   contents = refl;
   alike = λ c.
       items-alike asks c 0 0 0 (became (codes "hello")) (became (codes "Hello")) (said_with (codes "hello")).pieces (said_with (codes "Hello")).pieces refl (hello_answered c) (other_answered c);
+}
+
+pub goes_on : TracesGoOn
+goes_on = record {
+  own = refl;
+  others = refl;
+  goes = (refl, (own_item asks_length.request five_bytes ∷ [], refl));
+  by = refl;
 }
 
 pub front_is : IsSameFront 16

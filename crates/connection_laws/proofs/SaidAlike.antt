@@ -111,7 +111,7 @@ as_many_pieces c (Node unique request) s os us e = many_frames unique request.op
 as_many_pieces c (Local unique told) s os us e = refl
 
 -- an item that is answered is one of items
-alone : (c : Client) (asks : Act) (s n : ℕ) (os : List Outcome) (ps : List (List ℕ)) → Gives c asks s os ps n → Answers c s (asks ∷ []) os ps n
+pub alone : (c : Client) (asks : Act) (s n : ℕ) (os : List Outcome) (ps : List (List ℕ)) → Gives c asks s os ps n → Answers c s (asks ∷ []) os ps n
 alone c asks s n os ps g = (os, [], ps, [], n, sym (append-nil os), sym (append-nil ps), g, (refl, refl, refl))
 
 module _ (c : Client) (s m n : ℕ) (os us : List Outcome) (ps qs : List (List ℕ)) (e : map told_but os ≡ map told_but us) where

@@ -22,10 +22,10 @@ use Rattle.connection_laws.proofs.ServedReplies.{served-replies}
 use Rattle.connection_laws.proofs.Told.{as-many-kept, between-replied}
 
 -- the replies that were given, but for contents
-abbrev given : List Outcome → List Reply
+abbrev pub given : List Outcome → List Reply
 given outcomes = but_contents (replied (kept outcomes))
 
-between-given : (entered leaving : Exchange) (os : List Outcome) → given (between entered os leaving) ≡ but_content entered.reply ∷ (given os ++ but_content leaving.reply ∷ [])
+pub between-given : (entered leaving : Exchange) (os : List Outcome) → given (between entered os leaving) ≡ but_content entered.reply ∷ (given os ++ but_content leaving.reply ∷ [])
 between-given entered leaving os =
     ap but_contents (between-replied entered leaving os)
     ∙ ap (λ (rs : List Reply). but_content entered.reply ∷ rs) (map-append but_content (replied (kept os)) (leaving.reply ∷ []))

@@ -25,12 +25,12 @@ use Rattle.connection_laws.proofs.Places.{AllMade, seats_made, steps-grow}
 
 -- ---- the seats of the trace are those of what the application makes
 
-seats-append : (xs ys : List ServedItem) → served_seats (xs ++ ys) ≡ served_seats xs ++ served_seats ys
-seats-append [] ys = refl
-seats-append (item.Own own ∷ xs) ys = ap (λ (ns : List ℕ). own.seat ∷ ns) (seats-append xs ys)
-seats-append (item.Gained d rights ∷ xs) ys = seats-append xs ys
-seats-append (item.Lost id rights ∷ xs) ys = seats-append xs ys
-seats-append (item.Gone id ∷ xs) ys = seats-append xs ys
+pub served_seats-append : (xs ys : List ServedItem) → served_seats (xs ++ ys) ≡ served_seats xs ++ served_seats ys
+served_seats-append [] ys = refl
+served_seats-append (item.Own own ∷ xs) ys = ap (λ (ns : List ℕ). own.seat ∷ ns) (served_seats-append xs ys)
+served_seats-append (item.Gained d rights ∷ xs) ys = served_seats-append xs ys
+served_seats-append (item.Lost id rights ∷ xs) ys = served_seats-append xs ys
+served_seats-append (item.Gone id ∷ xs) ys = served_seats-append xs ys
 
 effects_none : (fs : List Effect) → served_seats (flat_map items_of_effect fs) ≡ []
 effects_none [] = refl
@@ -46,7 +46,7 @@ seats_of_one app s e false = effects_none (touch app s e)
 seats_are : (h : List Entry) (app : List ℕ) (s : State) → served_seats (served_items app s h) ≡ seats_made app s h
 seats_are [] app s = refl
 seats_are (e ∷ es) app s =
-    seats-append (served_items_of app s e) (served_items app (after s e) es)
+    served_seats-append (served_items_of app s e) (served_items app (after s e) es)
     ∙ (λ i. seats_of_one app s e (makes app s e) i ++ seats_are es app (after s e) i)
 
 -- ---- of a seat, but for contents

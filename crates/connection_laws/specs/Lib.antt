@@ -2,6 +2,7 @@ pub mod OwnPlaces
 pub mod Served
 pub mod ServedBytes
 pub mod SoFar
+pub mod ServedSoFar
 pub mod Blinded
 pub mod BlindedTrace
 pub mod Unread

@@ -2,13 +2,15 @@
 -- in the histories of the examples of `served_world`, reads five bytes at two portals that hold
 -- others of its file, and asks for the length. What is expected is worked out by hand from struct
 -- fuse_out_header in include/uapi/linux/fuse.h.
-use Rattle.std.specs.Prelude.{◌≡◌, ℕ, suc, ◌==◌, List, [], ◌∷◌, codes, drop, if◌then◌else◌}
+use Rattle.std.specs.Prelude.{◌≡◌, ℕ, suc, ◌==◌, List, [], ◌∷◌, codes, drop, length, take}
+use Rattle.std.specs.Prelude.{if◌then◌else◌}
 use Rattle.portal_model.specs.declared.reply.NodeAnswer.{NodeAnswer}
 use Rattle.portal_model.specs.declared.request.NodeOp.{NodeOp}
 use Rattle.portal_model.specs.Examples.{editor, replied as one_reply}
 use Rattle.portal_model.specs.FileExamples.{a_node, request_on, told}
-use Rattle.served_world.specs.Examples.{among, among_history, asks_length, length_told, reads_it}
-use Rattle.served_world.specs.ServedWorld.{served_run, served_trace}
+use Rattle.served_world.specs.Examples.{among, among_history, asks_length, five_bytes, length_told}
+use Rattle.served_world.specs.Examples.{own_item, reads_it}
+use Rattle.served_world.specs.ServedWorld.{ServedTrace, served_run, served_trace}
 use Rattle.session.specs.declared.act.Act.{Act}
 use Rattle.session.specs.declared.act.Act.TheVariants as act
 use Rattle.session.specs.declared.act.Client.{Client}
@@ -16,6 +18,8 @@ use Rattle.session.specs.Answers.{Answers, Made, Outcome, kept}
 use Rattle.session.specs.Frames.{frames_of}
 use Rattle.connection_laws.specs.Served.{replied}
 use Rattle.connection_laws.specs.ServedBytes.{ItemsAreAlike, Said, but_contents, contents_in}
+use Rattle.connection_laws.specs.ServedBytes.{served_to}
+use Rattle.connection_laws.specs.ServedSoFar.{ServedGoesOn}
 
 -- what the two frames ask, which have the numbers 2 and 3
 abbrev pub asks : List Act
@@ -62,6 +66,20 @@ pub record ReadsShowContents : Type 0 where
   pub alike :
       (c : Client) →
       ItemsAreAlike c 0 asks (said_with (codes "hello")) (said_with (codes "Hello"))
+
+-- ---- up to a moment
+
+-- the editor's trace up to its READ
+abbrev pub up_to_the_read : ServedTrace
+up_to_the_read = served_trace editor among (take 6 among_history)
+
+-- It has the replies to Enter, to the OPEN and to the READ, and none to the seat of the other. The
+-- whole trace goes on from it by the GETATTR.
+pub record TracesGoOn : Type 0 where
+  pub own : length (served_to 1 up_to_the_read) ≡ 3
+  pub others : served_to 2 up_to_the_read ≡ []
+  pub goes : ServedGoesOn (served_trace editor among among_history) up_to_the_read
+  pub by : goes.1.0 ≡ own_item asks_length.request five_bytes ∷ []
 
 -- ---- a part that code gives
 

@@ -5,7 +5,7 @@
 //! is worked out by hand, so that a wrong definition does not meet it. The last ones
 //! give a part of an example by code: a byte, or a length.
 
-ghost use Rattle.connection_laws.specs.ReadExamples.{IsSameFront, ReadsShowContents};
+ghost use Rattle.connection_laws.specs.ReadExamples.{IsSameFront, ReadsShowContents, TracesGoOn};
 ghost use Rattle.connection_laws.specs.SightExamples.{
   BytesComeWithTheRight,
   IsFirstOfOpen,
@@ -53,6 +53,12 @@ pub fn length_to_a_writer() -> u64
 /// these, and answered by the same frames but for the READ's.
 pub fn reads_show_contents()
     ensures { ReadsShowContents }
+{}
+
+/// The front of a trace up to a READ has the replies up to the READ's, and the trace
+/// goes on from it by what the application asks then.
+pub fn traces_go_on()
+    ensures { TracesGoOn }
 {}
 
 /// How many bytes at the front of the two frames that answer the READ are the same: of

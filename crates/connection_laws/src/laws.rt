@@ -10,6 +10,11 @@ ghost use Rattle.connection_laws.specs.ServedBytes.{
   RepliesAreOfTheServedTrace,
   ServedConnectionsAreIsolated,
 };
+ghost use Rattle.connection_laws.specs.ServedSoFar.{
+  AnswersComeFirst,
+  ServedBytesSoFar,
+  ServedRepliesSoFar,
+};
 ghost use Rattle.connection_laws.specs.SoFar.{BytesSoFar, ItemsAreAskedFirst, RepliesSoFar};
 ghost use Rattle.connection_laws.specs.Unread.{
   BlindedStepsAreSeen,
@@ -78,6 +83,27 @@ pub fn items_are_asked_first()
 /// a write that failed or by want of memory. Of the answer that is cut nothing is said.
 pub fn bytes_so_far_are_of_the_trace_so_far()
     ensures { BytesSoFar }
+{}
+
+/// Over any tree, two connections of an application whose traces begin alike are given
+/// the same replies so far, but for the contents of READs, however the traces go on.
+pub fn replies_so_far_are_of_the_served_trace()
+    ensures { ServedRepliesSoFar }
+{}
+
+/// However a connection ended, whole answers were written first to what its items asked
+/// first. Where a write that failed or want of memory cut the last answer, a front of it
+/// was written behind them, or nothing.
+pub fn answers_come_first()
+    ensures { AnswersComeFirst }
+{}
+
+/// Over any tree, two connections of an application whose traces begin alike, and that
+/// ask the same first, are answered alike so far: by the same bytes on a bus, and on a
+/// mount but for the frames of READs that show a content. So it is with the answer that
+/// a write that failed or want of memory cut, of which the client is written a front.
+pub fn bytes_so_far_are_of_the_served_trace()
+    ensures { ServedBytesSoFar }
 {}
 
 /// The bytes of a file are in no reply to an application that has neither the right

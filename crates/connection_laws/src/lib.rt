@@ -10,10 +10,11 @@
 //! tree it holds of those of a bus; and of those of a mount but for the frames of READs
 //! that show a content, and of these too where the contents are the same.
 //!
-//! Over a tree that tells, as far as two traces are the same, so are the replies, and
-//! the bytes of each item that is answered whole. And there what an application **may
-//! not read** is in no reply to it, and in no byte that its client is written: of such
-//! a file the length and the moment of the last change alone are in sight.
+//! As far as two traces are the same, so are the replies, and the bytes of each item that
+//! is answered: over a tree that tells all bytes of each that is answered whole, and over
+//! any but for contents, also of an answer that is cut. And over a tree that tells what an
+//! application **may not read** is in no reply to it, and in no byte that its client is
+//! written: of such a file the length and the moment of the last change alone are in sight.
 //!
 //! | Room | Holds |
 //! |---|---|
@@ -21,7 +22,8 @@
 //! | `specs/OwnPlaces` | what the application's own machine replies to one of its seats |
 //! | `specs/Served` | a connection that was served, as `serve_connection` says of it; its replies and bytes over a tree that tells |
 //! | `specs/ServedBytes` | the same over any tree, but for the contents of READs |
-//! | `specs/SoFar` | what was told up to a moment |
+//! | `specs/SoFar` | what was told up to a moment, over a tree that tells |
+//! | `specs/ServedSoFar` | the same over any tree, but for the contents of READs |
 //! | `specs/Blinded` | which files an application may read now, and a view without the bytes of all others |
 //! | `specs/BlindedTrace` | a trace without bytes, but of what is in sight |
 //! | `specs/Unread` | what an application may not read |

@@ -1,5 +1,5 @@
 -- A request for which the tree was asked once.
-use Rattle.std.proofs.Common.{◌≡◌, ℕ, List, [], ◌∷◌, Bool, true, false, Option, Some, None, refl, sym, ap, subst, ◌∙◌}
+use Rattle.std.proofs.Common.{◌≡◌, ℕ, List, [], ◌∷◌, Bool, true, false, Option, Some, None, refl, sym, ap, subst, arith, ◌∙◌}
 use Rattle.std.specs.Option.{option_map}
 use Rattle.portal_base.specs.declared.files.File.{File}
 use Rattle.portal_base.specs.declared.files.Look.{Look}
@@ -15,7 +15,7 @@ use Rattle.portal_model.specs.NodeVerdict.{FileChange, FilesStay, HandleChange, 
 use Rattle.portal_model.specs.Walk.{Answers, AtPath, Ends, Gives, IsShown, Looks, Walk, reads_clock, walked}
 use Rattle.node_looks.specs.Done.{DoneBy, answer_of, done_with, file_change, handle_change}
 use Rattle.node_looks.specs.OpenHandles.{Handled}
-use Rattle.node_looks.specs.TreeCalls.{Calling, WasCalled, calls_of, unfailed, with_files}
+use Rattle.node_looks.specs.TreeCalls.{Calling, WasCalledUpTo, calls_of, unfailed, with_files}
 use Rattle.node_looks.specs.Walks.{ComesTo, ComesToBehind}
 use Rattle.node_looks.proofs.DoneLemmas.{IsExact, handles-stay, same-answer, told-still}
 
@@ -28,8 +28,8 @@ asked-once old failed new a = record {
 }
 
 -- a call that didn't fail
-pub called-once : (old new : TreeIs) → Asks TreeCall.Look old false new → WasCalled old new
-called-once old new a = (TreeCall.Look ∷ [], subst (λ (files : Option (List File)). Calling old (unfailed TreeCall.Look ∷ []) files new) (ap (λ (t : TreeIs). t.told) a.goes) (asked-once old false new a))
+pub called-once : (old new : TreeIs) → Asks TreeCall.Look old false new → WasCalledUpTo 1 old new
+called-once old new a = (TreeCall.Look ∷ [], subst (λ (files : Option (List File)). Calling old (unfailed TreeCall.Look ∷ []) files new) (ap (λ (t : TreeIs). t.told) a.goes) (asked-once old false new a), omega arith)
 
 as-shown : (told : Option (List File)) (path : List ℕ) (shown : Look) → Answered told path (look.Is shown) → IsShown told (AtPath path) shown
 as-shown None path shown h = tt

@@ -26,7 +26,7 @@ use Rattle.app_view.specs.Entries.{behind_look, opened_with}
 use Rattle.node_looks.specs.Done.{Does, DoneBy, Wants, done_with, room_in}
 use Rattle.node_looks.specs.OpenHandles.{Handled}
 use Rattle.file_ops.specs.OpenedFolders.{ListsBehind, path_in}
-use Rattle.node_looks.specs.TreeCalls.{WasCalled}
+use Rattle.node_looks.specs.TreeCalls.{WasCalledUpTo}
 use Rattle.node_looks.specs.declared.asked.Asked.{Asked}
 use Rattle.node_looks.specs.declared.served.FileBook.{FileBook}
 use Rattle.node_looks.specs.declared.served.NodeCall.{NodeCall}
@@ -79,7 +79,7 @@ on-err (Ok a) X x = tt
 on-err (Err e) X x = x
 
 -- room was taken, and no more came of it
-pub still-wants : (seat : ℕ) (table mid after : HandleTable) (old new : TreeIs) → Handled seat HandlesStay table mid → after ≡ mid → WasCalled old new → Wants table old after new
+pub still-wants : (seat : ℕ) (table mid after : HandleTable) (old new : TreeIs) → Handled seat HandlesStay table mid → after ≡ mid → WasCalledUpTo 1 old new → Wants 1 table old after new
 still-wants seat table mid after old new kept e called = record {
   handles = λ s a. stay-open s seat table after a (subst (λ (t : HandleTable). Handled seat HandlesStay table t) (sym e) kept);
   calls = called;

@@ -43,8 +43,8 @@ pub opens-after : (walk : Walk NodeVerdict) (seat : ℕ) (table mid : HandleTabl
     Opening walk seat mid old done after new → Opening walk seat table old done after new
 opens-after walk seat table mid old done after new k g = record { change = g.change; goes = g.goes; handled = handled-after seat g.change table mid after k g.handled }
 
-pub wants-after : (seat : ℕ) (table mid : HandleTable) (old : TreeIs) (after : HandleTable) (new : TreeIs) → Handled seat HandlesStay table mid → Wants mid old after new → Wants table old after new
-wants-after seat table mid old after new k w = record { handles = λ s a. w.handles s (stay-open s seat table mid a k); calls = w.calls }
+pub wants-after : (most seat : ℕ) (table mid : HandleTable) (old : TreeIs) (after : HandleTable) (new : TreeIs) → Handled seat HandlesStay table mid → Wants most mid old after new → Wants most table old after new
+wants-after most seat table mid old after new k w = record { handles = λ s a. w.handles s (stay-open s seat table mid a k); calls = w.calls }
 
 -- ---- the checks of an OPEN, behind its look
 
@@ -112,7 +112,7 @@ behind-look path next look.Failed seat table old mid ended after new a l g = rec
   handled = g.1;
 }
 
-pub wants-behind : {kind : TreeCall} (table : HandleTable) (old mid : TreeIs) (failed : Bool) (after : HandleTable) (new : TreeIs) → failed ≡ false → Asks kind old failed mid → Wants table mid after new → Wants table old after new
+pub wants-behind : {kind : TreeCall} (table : HandleTable) (old mid : TreeIs) (failed : Bool) (after : HandleTable) (new : TreeIs) → failed ≡ false → Asks kind old failed mid → Wants 1 table mid after new → Wants 2 table old after new
 wants-behind table old mid failed after new f a w = record { handles = w.handles; calls = called-behind old mid new failed f a w.calls }
 
 -- ---- the request

@@ -29,7 +29,7 @@ use Rattle.portal_model.specs.declared.state.Document.{Document}
 use Rattle.portal_model.specs.Place.{Folder, Sight, SightOfFolder, place_of, reach_at}
 use Rattle.portal_model.specs.Walk.{AtPath, Ends, Gives, IsFound, IsShown, LastCall, Looks, Named, Target, Walk, changes_file, is_found, look_of_file}
 use Rattle.app_view.specs.declared.book.ViewBook.{ViewBook}
-use Rattle.node_looks.specs.TreeCalls.{Call, Calling, CallsAsTold, WasCalled, WasCalledOnce, after_calls, call_at, call_doing, unfailed, with_files}
+use Rattle.node_looks.specs.TreeCalls.{Call, Calling, CallsAsTold, WasCalledOnce, WasCalledUpTo, after_calls, call_at, call_doing, unfailed, with_files}
 use Rattle.open_handles.specs.Opened.{HandleTable, handle_of as handle_in, opened_on}
 use Rattle.portal_model.specs.declared.handle.Handle.{Handle}
 use Rattle.portal_model.specs.declared.request.NodeOp.{NodeOp}
@@ -48,6 +48,7 @@ use Rattle.node_looks.specs.Opened.{IsAllowed, by_open_file, file_of}
 use Rattle.node_looks.specs.OpenHandles.{Handled}
 use Rattle.node_looks.proofs.DoneLemmas.{IsExact, done-in, handle-is, handles-stay, same-answer, walk-is}
 use Rattle.node_looks.specs.Sights.{sight_of}
+use Rattle.file_ops.specs.Wanting.{calls_in_vain}
 use Rattle.file_ops.specs.Tries.{Goes, GoesBehind, ShowsAt, done_behind, done_of_ended, ended_by, fault_of_call, found_nothing, refuses, says, shown_behind, tree_done}
 use Rattle.node_looks.specs.declared.served.NodeDone.{NodeDone}
 use Rattle.node_looks.specs.declared.sight.SeenPlace.{SeenPlace}
@@ -259,26 +260,38 @@ pub on-err : {A : Type 0} (r : Result A WantOfMemory) (P : Type 0) → P → OnE
 on-err (Ok x) P p = tt
 on-err (Err e) P p = p
 
-pub called-behind : {kind : TreeCall} (old mid new : TreeIs) (failed : Bool) → failed ≡ false → Asks kind old failed mid → WasCalled mid new → WasCalled old new
+pub called-behind : {kind : TreeCall} (old mid new : TreeIs) (failed : Bool) → failed ≡ false → Asks kind old failed mid → WasCalledUpTo 1 mid new → WasCalledUpTo 2 old new
 called-behind {kind} old mid new failed f a w =
     let asked : Asks kind old false mid = subst (λ (b : Bool). Asks kind old b mid) f a in (
       kind ∷ w.0,
       more-calls old false mid (map unfailed w.0) old.told new asked
           (subst (λ (t : Option (List File)). Calling mid (map unfailed w.0) t new) (told-stays old false mid asked) w.1),
+      omega (arith, w.2),
     )
 
 -- a call that wanted memory
-pub wanted-memory : {kind : TreeCall} (allows : List File → Bool) (change : List File → List File) (d : TreeDone) (old new : TreeIs) → d ≡ done.Memory → ChangesFiles kind allows change old d new → WasCalled old new
+pub wanted-memory : {kind : TreeCall} (allows : List File → Bool) (change : List File → List File) (d : TreeDone) (old new : TreeIs) → d ≡ done.Memory → ChangesFiles kind allows change old d new → WasCalledUpTo 1 old new
 wanted-memory {kind} allows change d old new e c =
     let h : ChangesFiles kind allows change old done.Memory new = subst (λ (x : TreeDone). ChangesFiles kind allows change old x new) e c in (
       kind ∷ [],
       record { goes = h.goes ∙ ap (λ (t : Option (List File)). after_call old kind false t) h.does; fails = (h.fails, tt) },
+      omega arith,
     )
 
 -- of one that was called once at most
-pub once-wants : (table : HandleTable) (old new : TreeIs) → WasCalledOnce old new → Wants table old table new
-once-wants table old new (inl e) = record { handles = λ s h. h; calls = ([], record { goes = e; fails = tt }) }
-once-wants table old new (inr k) = record { handles = λ s h. h; calls = (k.0 ∷ [], k.1) }
+once-wants : (table : HandleTable) (old new : TreeIs) → WasCalledOnce old new → Wants 1 table old table new
+once-wants table old new (inl e) = record { handles = λ s h. h; calls = ([], record { goes = e; fails = tt }, omega arith) }
+once-wants table old new (inr k) = record { handles = λ s h. h; calls = (k.0 ∷ [], k.1, omega arith) }
+
+-- so often at most as requests of its kind call the tree
+pub wants-so : (op kind : NodeOp) (table : HandleTable) (old : TreeIs) (after : HandleTable) (new : TreeIs) → op ≡ kind → Wants (calls_in_vain kind) table old after new → Wants (calls_in_vain op) table old after new
+wants-so op kind table old after new e w = subst (λ (o : NodeOp). Wants (calls_in_vain o) table old after new) (sym e) w
+
+pub called-so : (op kind : NodeOp) (table : HandleTable) (old new : TreeIs) → op ≡ kind → WasCalledUpTo (calls_in_vain kind) old new → Wants (calls_in_vain op) table old table new
+called-so op kind table old new e w = wants-so op kind table old table new e (record { handles = λ s h. h; calls = w })
+
+pub once-so : (op kind : NodeOp) (table : HandleTable) (old new : TreeIs) → op ≡ kind → calls_in_vain kind ≡ 1 → WasCalledOnce old new → Wants (calls_in_vain op) table old table new
+once-so op kind table old new e one w = wants-so op kind table old table new e (subst (λ (n : ℕ). Wants n table old table new) (sym one) (once-wants table old new w))
 
 -- ---- parts of a walk
 

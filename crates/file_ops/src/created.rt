@@ -19,7 +19,7 @@ ghost use Rattle.file_ops.specs.Creates.{Opening, OpeningBehind, made_walk, targ
 ghost use Rattle.node_looks.specs.Done.{Does, MayRead, Reads, Wants, room_in};
 ghost use Rattle.node_looks.specs.OpenHandles.{Handled};
 ghost use Rattle.node_looks.specs.Sights.{sight_of, view_of};
-ghost use Rattle.node_looks.specs.TreeCalls.{WasCalled};
+ghost use Rattle.node_looks.specs.TreeCalls.{WasCalledUpTo};
 ghost use Rattle.file_ops.specs.Tries.{done_of_ended, done_of_tried, moment_of};
 
 use crate::tried::{Came, Ended, Tried, came_of, room_for_looks};
@@ -87,7 +87,8 @@ pub fn create<T: HostTree, C: Clock>(
     ensures ok { call.now.request.now.op ≡ NodeOp.Create name.now flags → IfOk result (λ done.
         Does book.now call.now handles.old (T.is tree.old) done handles.new (T.is tree.new)) }
     ensures clock { IfOk result (λ done. Reads C.reads clock.old done.now clock.new) }
-    ensures err { OnErr result (Wants handles.old (T.is tree.old) handles.new (T.is tree.new)) }
+    ensures err { OnErr result
+        (Wants 2 handles.old (T.is tree.old) handles.new (T.is tree.new)) }
     ensures clock_err { OnErr result (MayRead C.reads clock.old clock.new) }
 {
     let room = room_for_looks(alloc)?;
@@ -176,7 +177,7 @@ fn make<T: HostTree, C: Clock>(
         (T.is tree.new)) }
     ensures clock { IfOk result (λ tried.
         Reads C.reads clock.old (moment_of tried.ended.call) clock.new) }
-    ensures err { OnErr result (WasCalled (T.is tree.old) (T.is tree.new)) }
+    ensures err { OnErr result (WasCalledUpTo 2 (T.is tree.old) (T.is tree.new)) }
     ensures handles_err { OnErr result
         (Handled call.now.seat HandlesStay handles.old handles.new) }
     ensures clock_err { OnErr result (MayRead C.reads clock.old clock.new) }
@@ -215,7 +216,7 @@ fn make_new<T: HostTree, C: Clock>(
         (T.is tree.new)) }
     ensures clock { IfOk result (λ tried.
         Reads C.reads clock.old (moment_of tried.ended.call) clock.new) }
-    ensures err { OnErr result (WasCalled (T.is tree.old) (T.is tree.new)) }
+    ensures err { OnErr result (WasCalledUpTo 2 (T.is tree.old) (T.is tree.new)) }
     ensures handles_err { OnErr result
         (Handled call.now.seat HandlesStay handles.old handles.new) }
     ensures clock_err { OnErr result (MayRead C.reads clock.old clock.new) }
@@ -255,7 +256,7 @@ fn make_looked<T: HostTree, C: Clock>(
         ended handles.new (T.is tree.new)) }
     ensures clock { IfOk result (λ ended. Reads C.reads clock.old
         (moment_of ended.call) clock.new) }
-    ensures err { OnErr result (WasCalled (T.is tree.old) (T.is tree.new)) }
+    ensures err { OnErr result (WasCalledUpTo 1 (T.is tree.old) (T.is tree.new)) }
     ensures shown { OnErr result (is_look_fault look ≡ false) }
     ensures handles_err { OnErr result
         (Handled call.now.seat HandlesStay handles.old handles.new) }
@@ -290,7 +291,7 @@ fn make_file<T: HostTree, C: Clock>(
         (T.is tree.old) (done_of_ended ended) handles.new (T.is tree.new)) }
     ensures clock { IfOk result (λ ended. Reads C.reads clock.old
         (moment_of ended.call) clock.new) }
-    ensures err { OnErr result (WasCalled (T.is tree.old) (T.is tree.new)) }
+    ensures err { OnErr result (WasCalledUpTo 1 (T.is tree.old) (T.is tree.new)) }
     ensures handles_err { OnErr result
         (Handled call.now.seat HandlesStay handles.old handles.new) }
     ensures clock_err { OnErr result (MayRead C.reads clock.old clock.new) }

@@ -50,7 +50,8 @@ pub fn open_dir<T: HostTree>(
     ensures ok { call.now.request.now.op ≡ NodeOp.OpenDir → IfOk result (λ done.
         Does book.now call.now handles.old (T.is tree.old) done handles.new (T.is tree.new)) }
     ensures unclocked { IfOk result (λ done. done.now ≡ None) }
-    ensures err { OnErr result (Wants handles.old (T.is tree.old) handles.new (T.is tree.new)) }
+    ensures err { OnErr result
+        (Wants 1 handles.old (T.is tree.old) handles.new (T.is tree.new)) }
 {
     let room = room_for_look(alloc)?;
     let asked = opened(alloc, &book.view, handles, tree, call)?;
@@ -70,7 +71,8 @@ fn opened<T: HostTree>(
         (open_dir call.now.request.now (place_of s call.now.who.now call.now.request.now.node)
         (room_in handles.old call.now.seat)) NodeOp.OpenDir call.now.seat
         handles.old (T.is tree.old) (done_with asked) handles.new (T.is tree.new)) }
-    ensures err { OnErr result (Wants handles.old (T.is tree.old) handles.new (T.is tree.new)) }
+    ensures err { OnErr result
+        (Wants 1 handles.old (T.is tree.old) handles.new (T.is tree.new)) }
 {
     match place_of(call.request.node) {
         None => Ok(unlooked(refusal(ENOENT))),
@@ -93,7 +95,8 @@ fn at_place<T: HostTree>(
         (open_dir call.now.request.now (sight_of_place s call.now.who.now place)
         (room_in handles.old call.now.seat)) NodeOp.OpenDir call.now.seat
         handles.old (T.is tree.old) (done_with asked) handles.new (T.is tree.new)) }
-    ensures err { OnErr result (Wants handles.old (T.is tree.old) handles.new (T.is tree.new)) }
+    ensures err { OnErr result
+        (Wants 1 handles.old (T.is tree.old) handles.new (T.is tree.new)) }
 {
     match seen_at(book, call.who, place) {
         None => Ok(unlooked(refusal(ENOENT))),
@@ -133,7 +136,8 @@ fn in_folder<T: HostTree>(
         (open_dir call.now.request.now (sight_of_place s call.now.who.now place)
         (room_in handles.old call.now.seat)) NodeOp.OpenDir call.now.seat
         handles.old (T.is tree.old) (done_with asked) handles.new (T.is tree.new)) }
-    ensures err { OnErr result (Wants handles.old (T.is tree.old) handles.new (T.is tree.new)) }
+    ensures err { OnErr result
+        (Wants 1 handles.old (T.is tree.old) handles.new (T.is tree.new)) }
 {
     if !take_room(handles, call.seat)? {
         return Ok(unlooked(refusal(EMFILE)));

@@ -5,7 +5,9 @@
 //! in every valid state with these lists and over every connection of this caller;
 //! that what it took from the outside is what such a request takes, with the fault
 //! at its place where a call of the tree fails, which is EIO; that the tree was
-//! called for nothing else; and that want of memory changes no file and no handle.
+//! called for nothing else; and that want of memory changes no file and no handle, and
+//! doesn't come to a LOOKUP, GETATTR, ACCESS, FLUSH, RELEASE, RELEASEDIR, FORGET or
+//! BATCH_FORGET for which room was taken ahead.
 //!
 //! Served are FUSE_LOOKUP, FUSE_ACCESS, FUSE_GETATTR, FUSE_READ, FUSE_FLUSH,
 //! FUSE_FSYNC and FUSE_READDIR, which change nothing, FUSE_FORGET and
@@ -27,7 +29,7 @@
 //! Requests that change no file and open none are served in `node_looks`, and named here too.
 //!
 //! ```text
-//! let done = serve_node(alloc, &book, &mut handles, &mut tree, &mut clock, &call)?;
+//! let done = serve_node(alloc, &mut rooms, &book, &mut handles, &mut tree, &mut clock, &call)?;
 //! ```
 //!
 //! Source: `include/uapi/linux/fuse.h`.
@@ -45,8 +47,8 @@ mod written;
 pub use created::create;
 pub use folders::open_dir;
 pub use node_looks::{
-    FileBook, NodeCall, NodeDone, access, flush, forget, fsync, get_attr, lookup, read, read_dir,
-    release, release_dir,
+    FileBook, LookRooms, NodeCall, NodeDone, access, flush, forget, fsync, get_attr, lookup, read,
+    read_dir, release, release_dir,
 };
 pub use opening::open;
 pub use resized::set_attr;

@@ -51,7 +51,8 @@ pub fn open<T: HostTree, C: Clock>(
     ensures ok { call.now.request.now.op ≡ NodeOp.Open flags → IfOk result (λ done.
         Does book.now call.now handles.old (T.is tree.old) done handles.new (T.is tree.new)) }
     ensures clock { IfOk result (λ done. Reads C.reads clock.old done.now clock.new) }
-    ensures err { OnErr result (Wants handles.old (T.is tree.old) handles.new (T.is tree.new)) }
+    ensures err { OnErr result
+        (Wants 2 handles.old (T.is tree.old) handles.new (T.is tree.new)) }
     ensures clock_err { OnErr result (MayRead C.reads clock.old clock.new) }
 {
     let room = room_for_looks(alloc)?;
@@ -77,7 +78,8 @@ fn opened<T: HostTree, C: Clock>(
         (done_of_tried tried) handles.new (T.is tree.new)) }
     ensures clock { IfOk result (λ tried.
         Reads C.reads clock.old (moment_of tried.ended.call) clock.new) }
-    ensures err { OnErr result (Wants handles.old (T.is tree.old) handles.new (T.is tree.new)) }
+    ensures err { OnErr result
+        (Wants 2 handles.old (T.is tree.old) handles.new (T.is tree.new)) }
     ensures clock_err { OnErr result (MayRead C.reads clock.old clock.new) }
 {
     if has_no_mode(flags) {
@@ -111,7 +113,8 @@ fn open_document<T: HostTree, C: Clock>(
         (T.is tree.old) (done_of_tried tried) handles.new (T.is tree.new)) }
     ensures clock { IfOk result (λ tried.
         Reads C.reads clock.old (moment_of tried.ended.call) clock.new) }
-    ensures err { OnErr result (Wants handles.old (T.is tree.old) handles.new (T.is tree.new)) }
+    ensures err { OnErr result
+        (Wants 2 handles.old (T.is tree.old) handles.new (T.is tree.new)) }
     ensures clock_err { OnErr result (MayRead C.reads clock.old clock.new) }
 {
     let look = tree.look(&seen.document.path);
@@ -140,7 +143,8 @@ fn open_looked<T: HostTree, C: Clock>(
         (T.is tree.old) ended handles.new (T.is tree.new)) }
     ensures clock { IfOk result (λ ended. Reads C.reads clock.old
         (moment_of ended.call) clock.new) }
-    ensures err { OnErr result (Wants handles.old (T.is tree.old) handles.new (T.is tree.new)) }
+    ensures err { OnErr result
+        (Wants 1 handles.old (T.is tree.old) handles.new (T.is tree.new)) }
     ensures shown { OnErr result (is_look_fault look ≡ false) }
     ensures clock_err { OnErr result (MayRead C.reads clock.old clock.new) }
 {
@@ -171,7 +175,8 @@ fn open_shown<T: HostTree, C: Clock>(
         handles.old (T.is tree.old) (done_of_ended ended) handles.new (T.is tree.new)) }
     ensures clock { IfOk result (λ ended. Reads C.reads clock.old
         (moment_of ended.call) clock.new) }
-    ensures err { OnErr result (Wants handles.old (T.is tree.old) handles.new (T.is tree.new)) }
+    ensures err { OnErr result
+        (Wants 1 handles.old (T.is tree.old) handles.new (T.is tree.new)) }
     ensures clock_err { OnErr result (MayRead C.reads clock.old clock.new) }
 {
     if is_denied(flags, seen.may_write) {
@@ -204,7 +209,8 @@ fn open_name<T: HostTree, C: Clock>(
         (T.is tree.old) (done_of_ended ended) handles.new (T.is tree.new)) }
     ensures clock { IfOk result (λ ended. Reads C.reads clock.old
         (moment_of ended.call) clock.new) }
-    ensures err { OnErr result (Wants handles.old (T.is tree.old) handles.new (T.is tree.new)) }
+    ensures err { OnErr result
+        (Wants 1 handles.old (T.is tree.old) handles.new (T.is tree.new)) }
     ensures clock_err { OnErr result (MayRead C.reads clock.old clock.new) }
 {
     if truncates(flags) {
@@ -232,7 +238,8 @@ fn open_cut<T: HostTree, C: Clock>(
         (T.is tree.old) (done_of_ended ended) handles.new (T.is tree.new)) }
     ensures clock { IfOk result (λ ended. Reads C.reads clock.old
         (moment_of ended.call) clock.new) }
-    ensures err { OnErr result (Wants handles.old (T.is tree.old) handles.new (T.is tree.new)) }
+    ensures err { OnErr result
+        (Wants 1 handles.old (T.is tree.old) handles.new (T.is tree.new)) }
     ensures clock_err { OnErr result (MayRead C.reads clock.old clock.new) }
 {
     let now = clock.now();

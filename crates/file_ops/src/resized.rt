@@ -15,7 +15,7 @@ ghost use Rattle.node_looks.specs.Done.{Does, MayRead, Reads};
 ghost use Rattle.node_looks.specs.Opened.{file_of};
 ghost use Rattle.file_ops.specs.Sets.{denial_of, generation_of, set_subject, sets_file, sets_length, sets_of};
 ghost use Rattle.node_looks.specs.Sights.{sight_of};
-ghost use Rattle.node_looks.specs.TreeCalls.{WasCalled};
+ghost use Rattle.node_looks.specs.TreeCalls.{WasCalledUpTo};
 ghost use Rattle.file_ops.specs.Tries.{Goes, GoesBehind, done_of_ended, done_of_tried, moment_of};
 
 use crate::opened::look_named;
@@ -73,7 +73,7 @@ pub fn set_attr<T: HostTree, C: Clock>(
         call.now.request.now.op ≡ NodeOp.SetAttr valid fh size → IfOk result (λ done.
         Does book.now call.now table (T.is tree.old) done table (T.is tree.new)) }
     ensures clock { IfOk result (λ done. Reads C.reads clock.old done.now clock.new) }
-    ensures err { OnErr result (WasCalled (T.is tree.old) (T.is tree.new)) }
+    ensures err { OnErr result (WasCalledUpTo 2 (T.is tree.old) (T.is tree.new)) }
     ensures clock_err { OnErr result (MayRead C.reads clock.old clock.new) }
 {
     let room = room_for_looks(alloc)?;
@@ -112,7 +112,7 @@ fn set<T: HostTree, C: Clock>(
         (done_of_tried tried) HandlesStay (T.is tree.new)) }
     ensures clock { IfOk result (λ tried.
         Reads C.reads clock.old (moment_of tried.ended.call) clock.new) }
-    ensures err { OnErr result (WasCalled (T.is tree.old) (T.is tree.new)) }
+    ensures err { OnErr result (WasCalledUpTo 2 (T.is tree.old) (T.is tree.new)) }
     ensures clock_err { OnErr result (MayRead C.reads clock.old clock.new) }
 {
     // Times are passed over instead: a program that sets them behind a write is to go on.
@@ -165,7 +165,7 @@ fn set_open<T: HostTree, C: Clock>(
         (done_of_tried tried) HandlesStay (T.is tree.new)) }
     ensures clock { IfOk result (λ tried.
         Reads C.reads clock.old (moment_of tried.ended.call) clock.new) }
-    ensures err { OnErr result (WasCalled (T.is tree.old) (T.is tree.new)) }
+    ensures err { OnErr result (WasCalledUpTo 2 (T.is tree.old) (T.is tree.new)) }
     ensures clock_err { OnErr result (MayRead C.reads clock.old clock.new) }
 {
     match open_file(handle) {
@@ -189,7 +189,7 @@ fn set_open_file<T: HostTree, C: Clock>(
         (T.is tree.old) (done_of_tried tried) HandlesStay (T.is tree.new)) }
     ensures clock { IfOk result (λ tried.
         Reads C.reads clock.old (moment_of tried.ended.call) clock.new) }
-    ensures err { OnErr result (WasCalled (T.is tree.old) (T.is tree.new)) }
+    ensures err { OnErr result (WasCalledUpTo 2 (T.is tree.old) (T.is tree.new)) }
     ensures clock_err { OnErr result (MayRead C.reads clock.old clock.new) }
 {
     let allowed = allowed_now(book, who, file);
@@ -232,7 +232,7 @@ fn set_where<T: HostTree, C: Clock>(
         (T.is tree.old) (done_of_tried tried) HandlesStay (T.is tree.new)) }
     ensures clock { IfOk result (λ tried.
         Reads C.reads clock.old (moment_of tried.ended.call) clock.new) }
-    ensures err { OnErr result (WasCalled (T.is tree.old) (T.is tree.new)) }
+    ensures err { OnErr result (WasCalledUpTo 2 (T.is tree.old) (T.is tree.new)) }
     ensures clock_err { OnErr result (MayRead C.reads clock.old clock.new) }
 {
     if !reaches {
@@ -255,7 +255,7 @@ fn set_named<T: HostTree, C: Clock>(
         (T.is tree.old) (done_of_tried tried) HandlesStay (T.is tree.new)) }
     ensures clock { IfOk result (λ tried.
         Reads C.reads clock.old (moment_of tried.ended.call) clock.new) }
-    ensures err { OnErr result (WasCalled (T.is tree.old) (T.is tree.new)) }
+    ensures err { OnErr result (WasCalledUpTo 2 (T.is tree.old) (T.is tree.new)) }
     ensures clock_err { OnErr result (MayRead C.reads clock.old clock.new) }
 {
     let look = look_named(tree, name);
@@ -292,7 +292,7 @@ fn set_looked<T: HostTree, C: Clock>(
         (T.is tree.old) ended HandlesStay (T.is tree.new)) }
     ensures clock { IfOk result (λ ended. Reads C.reads clock.old
         (moment_of ended.call) clock.new) }
-    ensures err { OnErr result (WasCalled (T.is tree.old) (T.is tree.new)) }
+    ensures err { OnErr result (WasCalledUpTo 1 (T.is tree.old) (T.is tree.new)) }
     ensures shown { OnErr result (is_look_fault look ≡ false) }
     ensures clock_err { OnErr result (MayRead C.reads clock.old clock.new) }
 {
@@ -322,7 +322,7 @@ fn set_file<T: HostTree, C: Clock>(
         (T.is tree.new)) }
     ensures clock { IfOk result (λ ended. Reads C.reads clock.old
         (moment_of ended.call) clock.new) }
-    ensures err { OnErr result (WasCalled (T.is tree.old) (T.is tree.new)) }
+    ensures err { OnErr result (WasCalledUpTo 1 (T.is tree.old) (T.is tree.new)) }
     ensures clock_err { OnErr result (MayRead C.reads clock.old clock.new) }
 {
     if sets_size(setting.valid) {
@@ -347,7 +347,7 @@ fn set_size<T: HostTree, C: Clock>(
         subject.may_write) (T.is tree.old) (done_of_ended ended) HandlesStay (T.is tree.new)) }
     ensures clock { IfOk result (λ ended. Reads C.reads clock.old
         (moment_of ended.call) clock.new) }
-    ensures err { OnErr result (WasCalled (T.is tree.old) (T.is tree.new)) }
+    ensures err { OnErr result (WasCalledUpTo 1 (T.is tree.old) (T.is tree.new)) }
     ensures clock_err { OnErr result (MayRead C.reads clock.old clock.new) }
 {
     if !subject.may_write {
@@ -381,7 +381,7 @@ fn set_place<T: HostTree, C: Clock>(
         HandlesStay (T.is tree.new)) }
     ensures clock { IfOk result (λ tried.
         Reads C.reads clock.old (moment_of tried.ended.call) clock.new) }
-    ensures err { OnErr result (WasCalled (T.is tree.old) (T.is tree.new)) }
+    ensures err { OnErr result (WasCalledUpTo 2 (T.is tree.old) (T.is tree.new)) }
     ensures clock_err { OnErr result (MayRead C.reads clock.old clock.new) }
 {
     match place {
@@ -430,7 +430,7 @@ fn set_placed<T: HostTree, C: Clock>(
         (T.is tree.old) (done_of_tried tried) HandlesStay (T.is tree.new)) }
     ensures clock { IfOk result (λ tried.
         Reads C.reads clock.old (moment_of tried.ended.call) clock.new) }
-    ensures err { OnErr result (WasCalled (T.is tree.old) (T.is tree.new)) }
+    ensures err { OnErr result (WasCalledUpTo 2 (T.is tree.old) (T.is tree.new)) }
     ensures clock_err { OnErr result (MayRead C.reads clock.old clock.new) }
 {
     let path_copy = document.path.replica(alloc)?;

@@ -11,7 +11,7 @@ ghost use Rattle.portal_model.specs.Write.{write, write_content, write_name, wri
 ghost use Rattle.app_view.specs.Books.{Lends};
 ghost use Rattle.node_looks.specs.Done.{Does, MayRead, Reads};
 ghost use Rattle.node_looks.specs.Opened.{file_of};
-ghost use Rattle.node_looks.specs.TreeCalls.{WasCalled};
+ghost use Rattle.node_looks.specs.TreeCalls.{WasCalledUpTo};
 ghost use Rattle.file_ops.specs.Tries.{Goes, done_of_ended, moment_of};
 
 use crate::tried::{Ended, Tried, came_of, room_for_looks};
@@ -53,7 +53,7 @@ pub fn write<T: HostTree, C: Clock>(
         call.now.request.now.op ≡ NodeOp.Write fh offset content.now → IfOk result (λ done.
         Does book.now call.now table (T.is tree.old) done table (T.is tree.new)) }
     ensures clock { IfOk result (λ done. Reads C.reads clock.old done.now clock.new) }
-    ensures err { OnErr result (WasCalled (T.is tree.old) (T.is tree.new)) }
+    ensures err { OnErr result (WasCalledUpTo 1 (T.is tree.old) (T.is tree.new)) }
     ensures clock_err { OnErr result (MayRead C.reads clock.old clock.new) }
 {
     let room = room_for_looks(alloc)?;
@@ -77,7 +77,7 @@ fn written<T: HostTree, C: Clock>(
         (T.is tree.new)) }
     ensures clock { IfOk result (λ ended. Reads C.reads clock.old
         (moment_of ended.call) clock.new) }
-    ensures err { OnErr result (WasCalled (T.is tree.old) (T.is tree.new)) }
+    ensures err { OnErr result (WasCalledUpTo 1 (T.is tree.old) (T.is tree.new)) }
     ensures clock_err { OnErr result (MayRead C.reads clock.old clock.new) }
 {
     // More than INIT's `max_write` is refused and not cut short.
@@ -106,7 +106,7 @@ fn write_open<T: HostTree, C: Clock>(
         (file_of file.entry)) (T.is tree.old) (done_of_ended ended) HandlesStay (T.is tree.new)) }
     ensures clock { IfOk result (λ ended. Reads C.reads clock.old
         (moment_of ended.call) clock.new) }
-    ensures err { OnErr result (WasCalled (T.is tree.old) (T.is tree.new)) }
+    ensures err { OnErr result (WasCalledUpTo 1 (T.is tree.old) (T.is tree.new)) }
     ensures clock_err { OnErr result (MayRead C.reads clock.old clock.new) }
 {
     let allowed = allowed_now(&book.view, who, file);
@@ -140,7 +140,7 @@ fn write_where<T: HostTree, C: Clock>(
         (T.is tree.old) (done_of_ended ended) HandlesStay (T.is tree.new)) }
     ensures clock { IfOk result (λ ended. Reads C.reads clock.old
         (moment_of ended.call) clock.new) }
-    ensures err { OnErr result (WasCalled (T.is tree.old) (T.is tree.new)) }
+    ensures err { OnErr result (WasCalledUpTo 1 (T.is tree.old) (T.is tree.new)) }
     ensures clock_err { OnErr result (MayRead C.reads clock.old clock.new) }
 {
     if !opened {
@@ -170,7 +170,7 @@ fn write_named<T: HostTree, C: Clock>(
         (done_of_ended ended) HandlesStay (T.is tree.new)) }
     ensures clock { IfOk result (λ ended. Reads C.reads clock.old
         (moment_of ended.call) clock.new) }
-    ensures err { OnErr result (WasCalled (T.is tree.old) (T.is tree.new)) }
+    ensures err { OnErr result (WasCalledUpTo 1 (T.is tree.old) (T.is tree.new)) }
     ensures clock_err { OnErr result (MayRead C.reads clock.old clock.new) }
 {
     if is_past(file_limit, offset, content.len()) {

@@ -6,7 +6,7 @@ use crate::error::TreeError;
 use portal_base::list::{ByteList, List};
 use std::alloc::Global;
 use std::fs::{File, FileTimes, Metadata, Permissions};
-use std::io::ErrorKind;
+use std::io::{ErrorKind, Seek, SeekFrom};
 use std::os::fd::AsFd;
 use std::os::unix::fs::{FileExt, MetadataExt, PermissionsExt, fchown};
 use std::time::{Duration, UNIX_EPOCH};
@@ -67,16 +67,23 @@ fn read_more(
 /// Writes over the bytes from an offset on. Where it fails in the midst, what it made
 /// longer is cut back; bytes that it wrote over are lost.
 pub fn write(file: &File, offset: u64, content: &[u8], now: u64) -> Result<(), TreeError> {
-    let before = match file.metadata() {
-        Ok(metadata) => metadata.len(),
-        Err(error) => return Err(fault(error.kind())),
-    };
+    let before = length_of(file)?;
     if let Err(error) = file.write_all_at(content, offset) {
         cut_back(file, before, offset.saturating_add(content.len() as u64));
         return Err(fault(error.kind()));
     }
     set_moment(file, now);
     Ok(())
+}
+
+/// The length of a file. A look at it would tell that too; but to a file whose moment was looked
+/// at the system gives a finer one at each change, and has to write that to the disk.
+fn length_of(file: &File) -> Result<u64, TreeError> {
+    let mut file = file;
+    match file.seek(SeekFrom::End(0)) {
+        Ok(length) => Ok(length),
+        Err(error) => Err(fault(error.kind())),
+    }
 }
 
 /// Cuts a file back to the length that it had, where a write made it longer: one that ends

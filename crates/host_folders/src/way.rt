@@ -3,7 +3,7 @@
 use crate::error::{OpenError, TreeError, is_missing, is_refused};
 use crate::folder::Folder;
 use crate::mounts::kernels_own;
-use crate::sight::{Sight, seen};
+use crate::sight::{Kind, Sight, seen};
 use libc::PATH_MAX;
 use portal_base::list::List;
 use portal_base::names::HostPath;
@@ -159,6 +159,21 @@ impl Way {
     /// The root, open.
     pub fn root_folder(&self) -> io::Result<Folder> {
         Folder::open(self.root.as_str())
+    }
+
+    /// The regular file that stands in the root itself at a path, by one look: no folder is on
+    /// the way that a link may have taken the place of. Where it is none, only the way tells why.
+    pub fn file_in_root(&mut self, path: &HostPath) -> Option<Sight> {
+        let name = text_of(path).ok()?.strip_prefix('/')?;
+        if name.is_empty() || name.contains('/') {
+            return None;
+        }
+        self.link.clear();
+        self.link.push_str(self.root.as_str()).ok()?;
+        self.link.push_str(name).ok()?;
+        let sight = Sight::of(&fs::symlink_metadata(&self.system, self.link.as_str()).ok()?);
+        let is_file = sight.kind == Kind::File && !self.is_kernels_own(sight.identity.device);
+        is_file.then_some(sight)
     }
 
     /// Says whether a device is one of the kernel's own.

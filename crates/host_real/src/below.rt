@@ -97,16 +97,32 @@ impl<R: Waiter> FilesBelow<R> {
         if is_own(path)? {
             return Ok(Look::Missing);
         }
+        if let Some(sight) = self.kept_in_root(path) {
+            return Ok(self.look_of(&sight));
+        }
         let Some(place) = self.way.to(path)? else {
             return Ok(Look::Missing);
         };
         if place.name.is_empty() {
             return Ok(Look::Folder);
         }
-        let Some(sight) = self.shown(path, &place)? else {
-            return Ok(Look::Missing);
-        };
-        Ok(match sight.kind {
+        match self.shown(path, &place)? {
+            Some(sight) => Ok(self.look_of(&sight)),
+            None => Ok(Look::Missing),
+        }
+    }
+
+    /// The file in the root itself at a path, where it is kept open: a look shows it as the way
+    /// to it would.
+    fn kept_in_root(&mut self, path: &HostPath) -> Option<Sight> {
+        let sight = self.way.file_in_root(path)?;
+        let generation = self.numbers.generation(&sight.identity);
+        self.kept.looks_at(generation).then_some(sight)
+    }
+
+    /// What is told of what the system shows.
+    fn look_of(&self, sight: &Sight) -> Look {
+        match sight.kind {
             Kind::Folder => Look::Folder,
             Kind::Other => Look::Missing,
             Kind::File => Look::File {
@@ -114,7 +130,7 @@ impl<R: Waiter> FilesBelow<R> {
                 size: sight.size,
                 moment: sight.moment,
             },
-        })
+        }
     }
 
     /// The names of the files and folders in a folder; nothing where there is no folder.

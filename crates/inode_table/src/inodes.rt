@@ -64,11 +64,20 @@ impl InodeTable {
         self.counts.len()
     }
 
-    /// Takes room for `count` more nodes, where there isn't as much.
+    /// For how many more nodes there is room.
+    pub fn room(&self) -> usize
+        ensures { result ≡ self.now.room }
+    {
+        self.counts.capacity() - self.counts.len()
+    }
+
+    /// Takes room for `count` more nodes, where there isn't as much; where there is,
+    /// no memory is wanted.
     pub fn reserve(&mut self, count: u32) -> Result<(), WantOfMemory>
         ensures ok { OnOk result (count ≤ self.new.room) }
         ensures counts { self.new.counts ≡ self.old.counts }
         ensures room { self.old.room ≤ self.new.room }
+        ensures reserved { count ≤ self.old.room → IsOk result }
     {
         self.counts.reserve(count as usize)?;
         Ok(())

@@ -23,7 +23,7 @@ use Rattle.portal_model.specs.Walk.{Gives, Walk, reads_clock, walked}
 use Rattle.app_view.specs.Books.{Lends}
 use Rattle.node_looks.specs.OpenHandles.{AreOpen, Handled}
 use Rattle.node_looks.specs.Served.{given_to}
-use Rattle.node_looks.specs.TreeCalls.{Calling, WasCalled, calls_of}
+use Rattle.node_looks.specs.TreeCalls.{Calling, WasCalledUpTo, calls_of}
 use Rattle.node_looks.specs.Walks.{fault_of, taken}
 use Rattle.node_looks.specs.declared.asked.Asked.{Asked}
 use Rattle.node_looks.specs.declared.served.FileBook.{FileBook}
@@ -68,12 +68,12 @@ abbrev pub Does : FileBook → NodeCall → HandleTable → TreeIs → NodeDone 
 Does book call table old done after new = (s : State) (c : Connection) →
     IsCalled s c book call table old.told → DoneIn s c call.request.now old done after new
 
--- A request that wanted memory: the open handles stay, and the tree was called at most, without a
--- failure or a change.
-pub record Wants (table : HandleTable) (old : TreeIs) (after : HandleTable) (new : TreeIs)
-    : Type 0 where
+-- A request that wanted memory: the open handles stay, and the tree was called so often at most,
+-- without a failure or a change.
+pub record Wants (most : ℕ) (table : HandleTable) (old : TreeIs) (after : HandleTable)
+    (new : TreeIs) : Type 0 where
   pub handles : (s : State) → AreOpen s table → AreOpen s after
-  pub calls : WasCalled old new
+  pub calls : WasCalledUpTo most old new
 
 -- the clock was read once, where there is a moment, and else it is the same
 abbrev pub Reads : {C : Type 0} → (C → ℕ → C → Type 0) → C → Option ℕ → C → Type 0

@@ -3,6 +3,7 @@ pub mod Sights
 pub mod TreeCalls
 pub mod Walks
 pub mod Names
+pub mod Rooms
 pub mod ReadFiles
 pub mod OpenHandles
 pub mod Done

@@ -1,6 +1,6 @@
 -- The calls of the tree that a request makes, told by its walk and by what was shown: of which kind
 -- each is and whether it failed, and what the tree is behind them.
-use Rattle.std.specs.Prelude.{◌≡◌, ◌⊎◌, List, [], ◌∷◌, Bool, false, map, Option, option_map}
+use Rattle.std.specs.Prelude.{◌≡◌, ◌⊎◌, ◌≤◌, ℕ, List, [], ◌∷◌, length, Bool, false, map, Option, option_map}
 use Rattle.portal_base.specs.Calls.{Calls, next_call, FailsAsTold}
 use Rattle.portal_base.specs.declared.files.File.{File}
 use Rattle.portal_base.specs.declared.files.Look.{Look}
@@ -81,6 +81,12 @@ pub record Calling (old : TreeIs) (calls : List Call) (files : Option (List File
 -- the tree got some calls, without a failure, and its files stay
 abbrev pub WasCalled : TreeIs → TreeIs → Type 0
 WasCalled old new = (kinds : List TreeCall) × Calling old (map unfailed kinds) old.told new
+
+-- the same, so many calls at most
+abbrev pub WasCalledUpTo : ℕ → TreeIs → TreeIs → Type 0
+WasCalledUpTo most old new =
+    (kinds : List TreeCall) × Calling old (map unfailed kinds) old.told new
+    × (length kinds ≤ most)
 
 -- the same, one call at most
 abbrev pub WasCalledOnce : TreeIs → TreeIs → Type 0

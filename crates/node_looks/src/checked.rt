@@ -1,6 +1,6 @@
 //! FUSE_ACCESS: what the caller may do at a node, with the mask of access(2).
 
-ghost use Rattle.std.specs.Prelude.{◌≡◌, ◌&&◌, ◌||◌, IfOk, OnErr, Some, nat_lt, not, None};
+ghost use Rattle.std.specs.Prelude.{◌≡◌, ◌&&◌, ◌||◌, ◌+◌, ◌<◌, ◌≤◌, IfOk, OnErr, Some, nat_lt, not, None, IsOk};
 ghost use Rattle.portal_model.specs.declared.request.NodeOp.TheVariants as NodeOp;
 ghost use Rattle.portal_model.specs.Access.{access, access_file, access_folder, executes, writes_to};
 ghost use Rattle.portal_model.specs.NodeVerdict.{at_file, by_place};
@@ -12,7 +12,8 @@ ghost use Rattle.node_looks.specs.Served.{Tells};
 ghost use Rattle.node_looks.specs.Sights.{sight_of};
 ghost use Rattle.node_looks.specs.Walks.{ComesToBehind, Follows, by_denial};
 
-use crate::asked::{Asked, done, refusal, refused, room_for_look, told};
+use crate::asked::{Asked, done, refusal, refused, told};
+use crate::rooms::LookRooms;
 use crate::served::NodeDone;
 use crate::sight::{SeenPlace, seen_place};
 use app_view::ViewBook;
@@ -33,9 +34,11 @@ const ALL_BITS: u32 = 7;
 ///
 /// Each place may be read, a file may be written by who may write the document,
 /// and a folder may be gone through. A file takes one look at the tree. Of n
-/// documents it takes about n steps, and no memory but the room for that look.
+/// documents it takes about n steps, and no memory but the room for that look, for which
+/// one of `rooms` serves where there is none.
 pub fn access<T: HostTree>(
     alloc: Global,
+    rooms: &mut LookRooms,
     book: &ViewBook,
     tree: &mut T,
     who: &Who,
@@ -46,8 +49,10 @@ pub fn access<T: HostTree>(
         Tells book.now who.now request.now (T.is tree.old) done (T.is tree.new)) }
     ensures unclocked { IfOk result (λ done. done.now ≡ None) }
     ensures err { OnErr result (tree.new ≡ tree.old) }
+    ensures reserved { 0 < rooms.old → IsOk result }
+    ensures rooms { rooms.old ≤ rooms.new + 1 }
 {
-    let room = room_for_look(alloc)?;
+    let room = rooms.take(alloc)?;
     let asked = checked(book, tree, who, request, mask);
     Ok(done(room, asked))
 }

@@ -1,6 +1,6 @@
 //! FUSE_GETATTR: the attributes of a node, or of an open file.
 
-ghost use Rattle.std.specs.Prelude.{◌≡◌, IfOk, OnErr, Some, not, option_copied, None};
+ghost use Rattle.std.specs.Prelude.{◌≡◌, ◌+◌, ◌<◌, ◌≤◌, IfOk, OnErr, Some, not, option_copied, None, IsOk};
 ghost use Rattle.host_tree.specs.Trees.{TreeIs};
 ghost use Rattle.portal_model.specs.declared.request.NodeOp.TheVariants as NodeOp;
 ghost use Rattle.portal_model.specs.Attributes.{on_node};
@@ -15,9 +15,10 @@ ghost use Rattle.node_looks.specs.Opened.{file_of};
 ghost use Rattle.node_looks.specs.Sights.{sight_of};
 ghost use Rattle.node_looks.specs.Walks.{ComesToBehind, Follows};
 
-use crate::asked::{Asked, done, look_of_attr, refusal, refused, room_for_look, told};
+use crate::asked::{Asked, done, look_of_attr, refusal, refused, told};
 use crate::attributes::{attr_of_file, attr_of_folder};
 use crate::opened::{OpenFile, allowed_now};
+use crate::rooms::LookRooms;
 use crate::served::{FileBook, NodeCall, NodeDone};
 use crate::sight::{SeenPlace, seen_place};
 use app_view::ViewBook;
@@ -40,9 +41,11 @@ use std::alloc::Global;
 /// strict document is EACCES where the subject of the node's view may not read the
 /// document now, and goes by its right to write it. An open folder leaves the request
 /// to the node. A number of no handle is EBADF. A file takes one look at the tree. Of n
-/// documents it takes about n steps, and no memory but the room for that look.
+/// documents it takes about n steps, and no memory but the room for that look, for which
+/// one of `rooms` serves where there is none.
 pub fn get_attr<T: HostTree>(
     alloc: Global,
+    rooms: &mut LookRooms,
     book: &FileBook,
     handles: &Handles,
     tree: &mut T,
@@ -54,8 +57,10 @@ pub fn get_attr<T: HostTree>(
         Does book.now call.now handles.now (T.is tree.old) done handles.now (T.is tree.new)) }
     ensures unclocked { IfOk result (λ done. done.now ≡ None) }
     ensures err { OnErr result (tree.new ≡ tree.old) }
+    ensures reserved { 0 < rooms.old → IsOk result }
+    ensures rooms { rooms.old ≤ rooms.new + 1 }
 {
-    let room = room_for_look(alloc)?;
+    let room = rooms.take(alloc)?;
     let handle = handles.get(call.seat, fh);
     let asked = described(&book.view, tree, call.who, call.request, flags, handle);
     Ok(done(room, asked))

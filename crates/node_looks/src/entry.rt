@@ -1,6 +1,6 @@
 //! FUSE_LOOKUP: a name in a folder.
 
-ghost use Rattle.std.specs.Prelude.{◌≡◌, ◌<◌, ◌^◌, ◌&&◌, IfOk, OnErr, Some, true, option_map, None};
+ghost use Rattle.std.specs.Prelude.{◌≡◌, ◌<◌, ◌^◌, ◌&&◌, ◌+◌, ◌≤◌, IfOk, OnErr, Some, true, option_map, None, IsOk};
 ghost use Rattle.std.specs.List.{list_all};
 ghost use Rattle.host_tree.specs.Trees.{TreeIs};
 ghost use Rattle.portal_base.specs.Names.{is_same, name_of};
@@ -17,9 +17,10 @@ ghost use Rattle.node_looks.specs.Served.{Tells};
 ghost use Rattle.node_looks.specs.Sights.{sees, sight_of, view_of};
 ghost use Rattle.node_looks.specs.Walks.{ComesToBehind, Follows};
 
-use crate::asked::{Asked, done, refusal, refusal_on_file, refused, room_for_look, told};
+use crate::asked::{Asked, done, refusal, refusal_on_file, refused, told};
 use crate::attributes::{attr_of_file, attr_of_folder};
 use crate::names::{id_named, number_named};
+use crate::rooms::LookRooms;
 use crate::served::NodeDone;
 use crate::sight::{SeenPlace, seen_place};
 use app_view::{Subject, ViewBook, may_read, node_of};
@@ -46,9 +47,11 @@ const BY_APP: &[u8] = b"by-app";
 /// and the host's own root the folder of all views; that one has the views of the
 /// numbered applications, by name; a document's folder has the document's file,
 /// for which one look at the tree is taken. Of n documents or applications it
-/// takes about n steps, and no memory but the room for that look.
+/// takes about n steps, and no memory but the room for that look, for which one of
+/// `rooms` serves where there is none.
 pub fn lookup<T: HostTree>(
     alloc: Global,
+    rooms: &mut LookRooms,
     book: &ViewBook,
     tree: &mut T,
     who: &Who,
@@ -59,8 +62,10 @@ pub fn lookup<T: HostTree>(
         Tells book.now who.now request.now (T.is tree.old) done (T.is tree.new)) }
     ensures unclocked { IfOk result (λ done. done.now ≡ None) }
     ensures err { OnErr result (tree.new ≡ tree.old) }
+    ensures reserved { 0 < rooms.old → IsOk result }
+    ensures rooms { rooms.old ≤ rooms.new + 1 }
 {
-    let room = room_for_look(alloc)?;
+    let room = rooms.take(alloc)?;
     let asked = found(book, tree, who, request, name);
     Ok(done(room, asked))
 }

@@ -5,7 +5,9 @@
 //! in every valid state with these lists and over every connection of this caller;
 //! that what it took from the outside is what such a request takes, with the fault
 //! at its place where a call of the tree fails, which is EIO; that the tree was
-//! called for nothing else; and that want of memory changes no handle.
+//! called for nothing else; and that want of memory changes no handle. A LOOKUP, a
+//! GETATTR and an ACCESS want no memory where room for a look was taken ahead, and a
+//! FLUSH, a RELEASE, a RELEASEDIR, a FORGET and a BATCH_FORGET never do.
 //!
 //! Served are FUSE_LOOKUP, FUSE_ACCESS, FUSE_GETATTR, FUSE_READ, FUSE_FLUSH,
 //! FUSE_FSYNC and FUSE_READDIR, FUSE_FORGET and FUSE_BATCH_FORGET, FUSE_RELEASE and
@@ -28,10 +30,11 @@
 //! | `names` | names of documents and of applications |
 //! | `attributes` | the attributes of files and of folders |
 //! | `asked` | requests for which the tree is asked once at most |
+//! | `rooms` | [`LookRooms`]: room for looks that is taken ahead of requests |
 //! | `served` | [`NodeCall`]: a request and who asks it; [`NodeDone`]: what it was given, and its answer |
 //!
 //! ```text
-//! let done = lookup(alloc, &book, &mut tree, &call, name)?;
+//! let done = lookup(alloc, &mut rooms, &book, &mut tree, who, request, name)?;
 //! ```
 //!
 //! Source: `include/uapi/linux/fuse.h`.
@@ -49,6 +52,7 @@ mod listed;
 mod names;
 pub mod opened;
 mod released;
+pub mod rooms;
 pub mod served;
 pub mod sight;
 mod synced;
@@ -61,5 +65,6 @@ pub use forgotten::forget;
 pub use listed::read_dir;
 pub use opened::{Allowed, OpenFile};
 pub use released::{release, release_dir};
+pub use rooms::LookRooms;
 pub use served::{FileBook, NodeCall, NodeDone};
 pub use synced::{flush, fsync};

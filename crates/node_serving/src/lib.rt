@@ -8,7 +8,8 @@
 //! what it took from the outside is lawful there, and just those calls of the tree
 //! were made; that EIO comes only where one of them failed; and that a node is
 //! counted where its entry was answered. Want of memory leaves the lists and the
-//! open handles as they were.
+//! open handles as they were, and doesn't come to a request of a kind for which all
+//! room can be taken ahead, and was.
 //!
 //! | Room | Holds |
 //! |---|---|
@@ -17,8 +18,8 @@
 //! | `counted` | the nodes that the kernel was told of |
 //!
 //! ```text
-//! let done = serve(alloc, &book, &mut connections, &mut handles, &mut counts, &mut tree,
-//!     &mut clock, seat, &request)?;
+//! let done = serve(alloc, &mut rooms, &book, &mut connections, &mut handles, &mut counts,
+//!     &mut tree, &mut clock, seat, &request)?;
 //! ```
 //!
 //! Source: `include/uapi/linux/fuse.h`.

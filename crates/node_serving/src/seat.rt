@@ -1,8 +1,8 @@
 //! A request of a seat.
 
-ghost use Rattle.std.specs.Prelude.{◌≡◌, IfOk, OnErr, false, length, option_copied};
+ghost use Rattle.std.specs.Prelude.{◌≡◌, ◌+◌, ◌<◌, ◌≤◌, IfOk, IsOk, OnErr, false, length, option_copied, true};
 ghost use Rattle.node_looks.specs.Done.{MayRead, Reads, Wants};
-ghost use Rattle.file_ops.specs.Wanting.{may_call_in_vain, may_change_file};
+ghost use Rattle.file_ops.specs.Wanting.{calls_in_vain, fits_in_room, may_call_in_vain, may_change_file};
 ghost use Rattle.node_serving.specs.Counted.{Counts};
 ghost use Rattle.node_serving.specs.Seats.{AreEntered, IsServedIn, ServesSeat, refused_here};
 ghost use Rattle.portal_model.specs.State.{State, connection_of as open_connection};
@@ -10,7 +10,7 @@ ghost use Rattle.portal_model.specs.Step.{mount_of as open_mount};
 
 use crate::counted::count;
 use crate::numbered::number;
-use file_ops::{FileBook, NodeCall, NodeDone, serve_node};
+use file_ops::{FileBook, LookRooms, NodeCall, NodeDone, serve_node};
 use host_tree::HostTree;
 use inode_table::InodeTable;
 use open_handles::Handles;
@@ -34,8 +34,13 @@ use std::alloc::Global;
 /// Where memory is wanted, the connections, the counts, the open handles and the files
 /// are as before. A request that takes all its room first, or asks nothing of the tree,
 /// has then not called it, and one that can't change a file never reads the clock.
+///
+/// A LOOKUP, GETATTR, ACCESS, FLUSH, RELEASE, RELEASEDIR, FORGET or BATCH_FORGET wants no
+/// memory where there is one of `rooms`, and room for one more count; any request takes
+/// one of each at most.
 pub fn serve<T: HostTree, C: Clock>(
     alloc: Global,
+    rooms: &mut LookRooms,
     book: &FileBook,
     connections: &mut List<Connection>,
     handles: &mut Handles,
@@ -54,13 +59,18 @@ pub fn serve<T: HostTree, C: Clock>(
     ensures counts { IfOk result (λ done.
         Counts seat request.now done.answer counts.old.counts counts.new.counts) }
     ensures count { length connections.new ≡ length connections.old }
-    ensures err { OnErr result (Wants handles.old (T.is tree.old) handles.new (T.is tree.new)) }
+    ensures err { OnErr result (Wants (calls_in_vain request.now.op) handles.old (T.is tree.old)
+        handles.new (T.is tree.new)) }
     ensures clock_err { OnErr result (MayRead C.reads clock.old clock.new) }
     ensures unasked { may_call_in_vain request.now.op ≡ false
         → OnErr result (tree.new ≡ tree.old) }
     ensures unread { may_change_file request.now.op ≡ false → clock.new ≡ clock.old }
     ensures connections { OnErr result (connections.new ≡ connections.old) }
     ensures kept { OnErr result (counts.new.counts ≡ counts.old.counts) }
+    ensures reserved { fits_in_room request.now.op ≡ true → 0 < rooms.old → 0 < counts.old.room
+        → IsOk result }
+    ensures rooms { rooms.old ≤ rooms.new + 1 }
+    ensures room { counts.old.room ≤ counts.new.room + 1 }
 {
     // Room for the count is taken ahead of the request, which can't be undone behind it.
     counts.reserve(1)?;
@@ -72,7 +82,7 @@ pub fn serve<T: HostTree, C: Clock>(
         who: &connection.who,
         request,
     };
-    let done = serve_node(alloc, book, handles, tree, clock, &call)?;
+    let done = serve_node(alloc, rooms, book, handles, tree, clock, &call)?;
     count(counts, seat, request, &done.answer);
     number(alloc, connections, seat, &done.answer);
     Ok(done)

@@ -72,22 +72,24 @@ denied s t old new seat refusals more request why e n k cause leave = record {
 
 -- ---- how such a desk goes on
 
-pub goes_on : {S : Type 0} (says : S → Entry → S → Type 0) (spends : S → Request → S → Type 0) (a b : S) (s t : State) (old new : List Entry) (seat refusals : ℕ) (request : Request) (reply : Reply) → t ≡ s → GrowsBy (λ e. says a e b) s old new seat request reply →
-    GoesOn says spends a (seated_at s old seat refusals) b (seated_at t new seat refusals)
-goes_on says spends a b s t old new seat refusals request reply e g = record {
+pub goes_on : {S : Type 0} (says : S → Entry → S → Type 0) (spends : S → Request → S → Type 0) (count : S → ℕ) (a b : S) (s t : State) (old new : List Entry) (seat refusals : ℕ) (request : Request) (reply : Reply) → t ≡ s → count b ≡ count a → GrowsBy (λ e. says a e b) s old new seat request reply →
+    GoesOn says spends count a (seated_at s old seat refusals) b (seated_at t new seat refusals)
+goes_on says spends count a b s t old new seat refusals request reply e same g = record {
   moved = record { opening = e; seat = refl; begins = (g.entry ∷ [], g.grown) };
   asked = Ok g.entry ∷ [];
   grows = record { grown = g.grown; own = All-cons (λ (x : Entry). x.seat ≡ seat) g.entry [] g.seat_is (All-nil _) };
   count = omega arith;
+  kept_count = omega (arith, same);
   chain = (b, g.said, refl);
 }
 
-pub goes_refused : {S : Type 0} (says : S → Entry → S → Type 0) (spends : S → Request → S → Type 0) (a b : S) (s t : State) (old new : List Entry) (seat refusals more : ℕ) (request : Request) → t ≡ s → new ≡ old → more ≡ rises_by refusals 1 → spends a request b →
-    GoesOn says spends a (seated_at s old seat refusals) b (seated_at t new seat more)
-goes_refused says spends a b s t old new seat refusals more request e n k spent = record {
+pub goes_refused : {S : Type 0} (says : S → Entry → S → Type 0) (spends : S → Request → S → Type 0) (count : S → ℕ) (a b : S) (s t : State) (old new : List Entry) (seat refusals more : ℕ) (request : Request) → t ≡ s → new ≡ old → more ≡ rises_by refusals 1 → count b ≡ rises_by (count a) 1 → spends a request b →
+    GoesOn says spends count a (seated_at s old seat refusals) b (seated_at t new seat more)
+goes_refused says spends count a b s t old new seat refusals more request e n k kept spent = record {
   moved = record { opening = e; seat = refl; begins = ([], n ∙ sym (append-nil old)) };
   asked = Err request ∷ [];
   grows = record { grown = n ∙ sym (append-nil old); own = All-nil _ };
   count = k;
+  kept_count = kept;
   chain = (b, spent, refl);
 }

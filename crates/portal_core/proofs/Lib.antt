@@ -3,3 +3,5 @@ pub mod HeldCounts
 pub mod Desks
 pub mod StrictAnswers
 pub mod Renewals
+pub mod Counting
+pub mod WaitingSeats

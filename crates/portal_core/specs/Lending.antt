@@ -27,15 +27,16 @@ pub record GrowsByOwn (seat : ℕ) (asked : List (Result Entry Request)) (old ne
   pub own : All (λ e. e.seat ≡ seat) (answered asked)
 
 -- The history grew by entries of this seat alone: a desk alone borrows what keeps the history, so
--- no other seat asks in between. The refusals among what was asked are counted. Of each entry, and
--- of each refusal, what keeps the history says what it says.
+-- no other seat asks in between. The refusals among what was asked are counted, by the desk and by
+-- what keeps the history. Of each entry, and of each refusal, that says what it says.
 pub record GoesOn {S : Type 0} (says : S → Entry → S → Type 0)
-    (spends : S → Request → S → Type 0) (keeper : S) (old : Seated) (keeper' : S) (new : Seated)
-    : Type 0 where
+    (spends : S → Request → S → Type 0) (refusals : S → ℕ) (keeper : S) (old : Seated)
+    (keeper' : S) (new : Seated) : Type 0 where
   pub moved : Moved old new
   pub asked : List (Result Entry Request)
   pub grows : GrowsByOwn old.seat asked old.seen new.seen
   pub count : new.refusals ≡ rises_by old.refusals (refused asked)
+  pub kept_count : refusals keeper' ≡ rises_by (refusals keeper) (refused asked)
   pub chain : Chain says spends keeper asked keeper'
 
 -- ---- its laws, which a desk that goes on so gives
@@ -74,7 +75,8 @@ counted-further k m n p q a b =
     let both = refused-append p q in
     omega arith
 
-module _ {S : Type 0} (says : S → Entry → S → Type 0) (spends : S → Request → S → Type 0) where
+module _ {S : Type 0} (says : S → Entry → S → Type 0) (spends : S → Request → S → Type 0)
+    (refusals : S → ℕ) where
   pub Chain-append : (p q : List (Result Entry Request)) (a b c : S) → Chain says spends a p b
       → Chain says spends b q c → Chain says spends a (p ++ q) c
   Chain-append [] q a b c h k = subst (λ (x : S). Chain says spends x q c) h k
@@ -82,17 +84,19 @@ module _ {S : Type 0} (says : S → Entry → S → Type 0) (spends : S → Requ
       (h.0, h.1, Chain-append p q h.0 b c h.2 k)
   Chain-append (Ok e ∷ p) q a b c h k = (h.0, h.1, Chain-append p q h.0 b c h.2 k)
 
-  pub goes_nowhere : (a : S) (d : Seated) → GoesOn says spends a d a d
+  pub goes_nowhere : (a : S) (d : Seated) → GoesOn says spends refusals a d a d
   goes_nowhere a d = record {
     moved = record { opening = refl; seat = refl; begins = ([], sym (append-nil d.seen)) };
     asked = [];
     grows = record { grown = sym (append-nil d.seen); own = All-nil _ };
     count = omega arith;
+    kept_count = omega arith;
     chain = refl;
   }
 
   pub goes_further : (a : S) (d : Seated) (b : S) (e : Seated) (c : S) (f : Seated)
-      → GoesOn says spends a d b e → GoesOn says spends b e c f → GoesOn says spends a d c f
+      → GoesOn says spends refusals a d b e → GoesOn says spends refusals b e c f
+      → GoesOn says spends refusals a d c f
   goes_further a d b e c f p q = record {
     moved = record {
       opening = q.moved.opening ∙ p.moved.opening;
@@ -108,5 +112,7 @@ module _ {S : Type 0} (says : S → Entry → S → Type 0) (spends : S → Requ
     grows = own_further d.seat p.asked q.asked d.seen e.seen f.seen p.grows
         (own_of_same e.seat d.seat p.moved.seat q.asked e.seen f.seen q.grows);
     count = counted-further d.refusals e.refusals f.refusals p.asked q.asked p.count q.count;
+    kept_count = counted-further (refusals a) (refusals b) (refusals c) p.asked q.asked p.kept_count
+        q.kept_count;
     chain = Chain-append p.asked q.asked a b c p.chain q.chain;
   }

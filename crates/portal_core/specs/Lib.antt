@@ -1,5 +1,7 @@
 pub mod Started
+pub mod Reserve
 pub mod Renewing
+pub mod Waiting
 pub mod Growth
 pub mod OpenFiles
 pub mod LookUps

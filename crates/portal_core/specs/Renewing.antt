@@ -20,6 +20,7 @@ pub record Renews {T K C W : Type 0} (tree_is : T → TreeIs) (old new : PortalI
   pub keeper_kept : new.keeper ≡ old.keeper
   pub clock_kept : new.clock ≡ old.clock
   pub words_kept : new.words ≡ old.words
+  pub refusals_kept : new.refusals ≡ old.refusals
 
 -- a connection of this seat is there, and none of a lesser one
 pub record IsLeastSeat (connections : List Connection) (seat : ℕ) : Type 0 where

@@ -18,6 +18,7 @@ pub record Starts {T K C W : Type 0} (tree_is : T → TreeIs) (keeper_is : K
   pub began : portal.story.began ≡ (tree_is tree).began
   pub loaded : LoadsGood limits (keeper_is keeper) portal.story.opening (keeper_is portal.keeper)
   pub history : portal.story.history ≡ []
+  pub refusals : portal.refusals ≡ 0
 
 -- no portal started, for this cause; the devices come back, of which only the keeper was asked
 pub record HandsBack {T K C W : Type 0} (keeper_is : K → KeeperIs) (tree : T) (keeper : K)
@@ -27,7 +28,8 @@ pub record HandsBack {T K C W : Type 0} (keeper_is : K → KeeperIs) (tree : T) 
   pub words_kept : refusal.words ≡ words
   pub cause : LoadsBadly limits (keeper_is keeper) refusal.error (keeper_is refusal.keeper)
 
--- The portal has these devices, of which none was asked, opens with this state, and has no history.
+-- The portal has these devices, of which none was asked, opens with this state, has no history, and
+-- took no memory ahead.
 abbrev pub reopened : {T K C W : Type 0} → (T → TreeIs) → T → K → C → W → OpeningState
     → PortalIs T K C W
 reopened tree_is tree keeper clock words opening = record {
@@ -36,4 +38,6 @@ reopened tree_is tree keeper clock words opening = record {
   clock = clock;
   words = words;
   story = record { began = (tree_is tree).began; opening = opening; history = [] };
+  spare = 0;
+  refusals = 0;
 }

@@ -7,8 +7,9 @@
 //! those that stand for the state; that each connection of the host to the bus is told
 //! each change of the permission store once, in the order of the history; that a
 //! refusal changes nothing but how often the tree and the keeper were asked, whether
-//! the clock was read, and which words come next; and that the Leave of an open
-//! connection is never refused. An OPEN goes by the rights of its moment, and what goes
+//! the clock was read, and which words come next; that the Leave of an open
+//! connection is never refused; that refusals are counted; and that who waits for
+//! signals is told exactly. An OPEN goes by the rights of its moment, and what goes
 //! by the number of a handle by the handle that was opened by that number; what an
 //! application does by a handle of a strict document is done only as far as it has the
 //! rights then. It starts exactly where the records are good, and else says what is wrong
@@ -18,7 +19,7 @@
 //!
 //! | Room | Holds |
 //! |---|---|
-//! | `portal` | [`portal::Portal`]: the state as lists, and `ask` |
+//! | `portal` | [`portal::Portal`]: the state as lists, and `ask`; in `portal/asked` who waits for signals, and the count of refusals |
 //! | `renewal` | [`renewal::RenewError`]: why no new history begins |
 //! | `room` | room that is taken ahead of a request |
 //! | `storied` | [`storied::Storied`]: what anything that keeps a history promises, and [`storied::Renews`]: what may begin a new one |

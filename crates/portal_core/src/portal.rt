@@ -6,22 +6,23 @@ ghost use Rattle.node_looks.specs.OpenHandles.{AreOpen};
 ghost use Rattle.portal_desk.specs.Opening.{IsOpeningState};
 ghost use Rattle.portal_model.specs.History.{Legal, cost};
 ghost use Rattle.portal_model.specs.Opening.{opened_over};
-ghost use Rattle.portal_model.specs.Seated.{is_open};
+ghost use Rattle.portal_model.specs.Seated.{is_open, rises_by};
 ghost use Rattle.portal_model.specs.Valid.{Valid};
 ghost use Rattle.portal_steps.specs.Answered.{Answers, KeepsState, Spends, TellsFault};
-ghost use Rattle.portal_steps.specs.Devices.{TellsFailure, may_ask_in_vain, may_ask_tree_in_vain, may_change_records};
+ghost use Rattle.portal_steps.specs.Devices.{TellsFailure, is_reserved, may_ask_in_vain, may_ask_tree_in_vain, may_change_records};
 ghost use Rattle.portal_steps.specs.Documents.{is_document_call};
 ghost use Rattle.portal_steps.specs.Held.{told_files};
 ghost use Rattle.portal_core.specs.OpenFiles.{GoesByHandles, OpensByRights, StrictFollows};
 ghost use Rattle.portal_start.specs.Loading.{AreLists};
 ghost use Rattle.portal_core.specs.Renewing.{CannotRenew, Renews};
 ghost use Rattle.portal_core.specs.Started.{HandsBack, Starts, reopened};
-ghost use Rattle.portal_steps.specs.Story.{HasCause, cost_with, limit_of, state_first, state_now};
+ghost use Rattle.portal_steps.specs.Story.{HasCause, IsAsBefore, cost_with, limit_of, state_first, state_now};
 ghost use Rattle.store_serving.specs.Serving.{may_change_entries};
 ghost use Rattle.store_serving.specs.Waiting.{silent};
 
+use crate::portal::asked::refusals_after;
 use crate::renewal::{RenewError, least_seat};
-use crate::room::{make_room, taken};
+use crate::room::{keep_ahead, make_room, taken};
 use app_view::ViewBook;
 use change_signals::Outboxes;
 use document_calls::ServedCall;
@@ -29,7 +30,7 @@ use document_records::{Applications, Documents, Grants};
 use file_laws::laws::{
     no_open_after_a_revocation, older_handles_keep_their_rights, strict_handles_follow_revocations,
 };
-use file_ops::FileBook;
+use file_ops::{FileBook, LookRooms};
 use host_tree::HostTree;
 use inode_table::InodeTable;
 use open_handles::Handles;
@@ -47,7 +48,7 @@ use portal_model::request::{AddRequest, NodeRequest, Request};
 use portal_model::state::Connection;
 use portal_model::store::StoreCall;
 use portal_start::renewed::opening_of;
-use portal_start::start::{Lists, StartRefusal, lists_of_opening, load};
+use portal_start::start::{Lists, StartRefusal, load};
 use portal_steps::additions::serve_add;
 use portal_steps::entries::{
     check_caller, collect_answer, entry_made, node_entry, opened_connection, silent_reply,
@@ -59,13 +60,19 @@ use std::alloc::Global;
 use std::marker::Model;
 use std::mem;
 
+mod asked;
+mod lent;
+mod reopened;
+mod reserve;
+
 /// A portal over a tree of files, a keeper of records, a clock and words.
 ///
 /// Contracts see the four devices, the opening state, the files that the tree
-/// began with, and the history. The history is legal, and the portal is in the
-/// state after it: a tree that tells has the files of that state, and a keeper
-/// that tells the records that stand for it. The counts of nodes are those that
-/// the history looked up and forgot, on which no answer depends.
+/// began with, the history, for how many requests memory was taken ahead, and how
+/// many requests were refused. The history is legal, and the portal is in the state
+/// after it: a tree that tells has the files of that state, and a keeper that tells
+/// the records that stand for it. The counts of nodes are those that the history
+/// looked up and forgot, on which no answer depends.
 #[derive(Drop)]
 pub struct Portal<T: HostTree, K: Keeper, C: Clock, W: Words> {
     tree: T,
@@ -82,6 +89,10 @@ pub struct Portal<T: HostTree, K: Keeper, C: Clock, W: Words> {
     handles: Handles,
     counts: InodeTable,
     history: History,
+    rooms: LookRooms,
+    // For how many requests memory is kept ahead, as far as there is any.
+    ahead: u32,
+    refusals: u64,
 }
 
 impl<T: HostTree, K: Keeper, C: Clock, W: Words> Model for Portal<T, K, C, W> {
@@ -90,6 +101,7 @@ impl<T: HostTree, K: Keeper, C: Clock, W: Words> Model for Portal<T, K, C, W> {
     ghost use Rattle.portal_steps.specs.Answered.{KeepsState};
     ghost use Rattle.portal_steps.specs.Held.{Stands};
     ghost use Rattle.portal_core.specs.LookUps.{AreHeld};
+    ghost use Rattle.portal_core.specs.Reserve.{room_in};
     ghost use Rattle.portal_model.specs.History.{run};
     ghost use Rattle.portal_model.specs.Opening.{opened_over};
     ghost use Rattle.portal_steps.specs.Story.{PortalIs};
@@ -111,6 +123,8 @@ impl<T: HostTree, K: Keeper, C: Clock, W: Words> Model for Portal<T, K, C, W> {
         opening = p.opening;
         history = p.history.entries;
       };
+      spare = room_in (length p.connections) p.history.spare p.counts.room p.rooms;
+      refusals = p.refusals;
     } };
 
     // Room is kept for a Leave of each open connection.
@@ -201,6 +215,9 @@ impl<T: HostTree, K: Keeper, C: Clock, W: Words> Portal<T, K, C, W> {
             handles,
             counts: InodeTable::new(alloc),
             history,
+            rooms: LookRooms::new(alloc),
+            ahead: 0,
+            refusals: 0,
         }
     }
 
@@ -270,23 +287,25 @@ impl<T: HostTree, K: Keeper, C: Clock, W: Words> Portal<T, K, C, W> {
 
     /// Answers a request of a seat.
     ///
-    /// The reply is that of one step of the sequential portal, from the state
-    /// after the history, which grows by this request; over a tree that doesn't
-    /// tell its files it is alike to that. Ahead of its answer go the changes of
-    /// the permission store that a connection of the host to the bus was not told
-    /// yet. Just the calls of the tree that the
-    /// step reaches are made, the clock is read where it changes or makes a file,
-    /// words are drawn just for new documents, and the keeper is asked once where
-    /// the step changes the records; EIO and Failed come only where such a call
-    /// failed. A refusal leaves the portal as it was, but one of a request that may
-    /// change the records may have asked the keeper in vain; one of an Add may have
-    /// asked the tree too, and have drawn words; one of a SETATTR, OPEN, CREATE, READ,
-    /// WRITE, FSYNC or OPENDIR may have asked the tree; and of these SETATTR, OPEN,
-    /// CREATE and WRITE may have read the clock. `Full` comes exactly where the history
-    /// with this request would cost more than its limit; want of memory may come at any
-    /// other request, but not at the Leave of an open connection, which is never
-    /// refused. What an application does by a handle of a strict document is done only as
-    /// far as it has the rights in the document then.
+    /// The reply is that of one step of the sequential portal, from the state after the
+    /// history, which grows by this request; over a tree that doesn't tell its files it is
+    /// alike to that. Ahead of its answer go the changes of the permission store that a
+    /// connection of the host to the bus was not told yet. Just the calls of the tree that the
+    /// step reaches are made, the clock is read where it changes or makes a file, words are
+    /// drawn just for new documents, and the keeper is asked once where the step changes the
+    /// records; EIO and Failed come only where such a call failed. A refusal leaves the portal
+    /// as it was, but for the count of refusals, and one of a request that may change the
+    /// records may have asked the keeper in vain; one of an Add may have asked the tree too,
+    /// and have drawn words; one of a SETATTR, OPEN, CREATE, READ, WRITE, FSYNC or OPENDIR may
+    /// have asked the tree; and of these SETATTR, OPEN, CREATE and WRITE may have read the
+    /// clock. `Full` comes exactly where the history with this request would cost more than its
+    /// limit; want of memory may come at any other request, but not at the Leave of an open
+    /// connection, which is never refused. What an application does by a handle of a strict
+    /// document is done only as far as it has the rights in the document then.
+    ///
+    /// A LOOKUP, GETATTR, ACCESS, FLUSH, RELEASE, RELEASEDIR, FORGET or BATCH_FORGET finds
+    /// memory where some was taken ahead ([`Portal::reserve`]), of which each takes what is
+    /// for one request at most; the Leave of an open connection takes none of it.
     pub fn ask(&mut self, alloc: Global, seat: u32, request: Request) -> Result<Reply, Refused>
         ensures began { self.new.story.began ≡ self.old.story.began }
         ensures opening { self.new.story.opening ≡ self.old.story.opening }
@@ -296,19 +315,31 @@ impl<T: HostTree, K: Keeper, C: Clock, W: Words> Portal<T, K, C, W> {
         ensures failure { IfOk result (TellsFailure (T.is self.old.tree) (T.is self.new.tree)
             (K.is self.old.keeper) (K.is self.new.keeper)) }
         ensures err { OnErr result (Spends T.is K.is C.reads W.told self.old request self.new) }
-        ensures unasked { may_ask_in_vain request ≡ false → OnErr result (self.new ≡ self.old) }
+        ensures unasked { may_ask_in_vain request ≡ false
+            → OnErr result (IsAsBefore self.old self.new) }
+
+        // A refusal is counted, up to the greatest count, and nothing else is.
+        ensures uncounted { OnOk result (self.new.refusals ≡ self.old.refusals) }
+        ensures counted { OnErr result (self.new.refusals ≡ rises_by self.old.refusals 1) }
 
         // Both ways: it is full exactly where the cost would pass the limit. Nothing is asked then.
         ensures full { limit_of self.old.story < cost_with self.old.story request
             → result
             ≡ Err (Refused.Full (cost self.old.story.history) (limit_of self.old.story)) }
         ensures nothing { limit_of self.old.story < cost_with self.old.story request
-            → self.new ≡ self.old }
+            → IsAsBefore self.old self.new }
         ensures cause { IfErr result (HasCause self.old.story request) }
 
         // Enter took the room for it.
         ensures leave { request ≡ Request.Leave → is_open (state_now self.old.story) seat ≡ true
             → IsOk result }
+
+        // Memory that was taken ahead is enough, and each takes one part of it at most.
+        ensures reserved { is_reserved request ≡ true → 0 < self.old.spare
+            → cost_with self.old.story request ≤ limit_of self.old.story → IsOk result }
+        ensures spare { is_reserved request ≡ true → self.old.spare ≤ self.new.spare + 1 }
+        ensures freed { request ≡ Request.Leave → is_open (state_now self.old.story) seat ≡ true
+            → self.old.spare ≤ self.new.spare }
 
         // Whatever it answers.
         ensures started { IsOpeningState (state_first self.new.story) }
@@ -321,7 +352,9 @@ impl<T: HostTree, K: Keeper, C: Clock, W: Words> Portal<T, K, C, W> {
         ensures opens { OpensByRights self.new.story }
         ensures handles { GoesByHandles self.new.story }
     {
+        let before = self.refusals();
         let answered = self.answer(alloc, seat, request);
+        self.count_refusals(refusals_after(before, &answered));
         strict_handles_follow_revocations();
         self.known();
         answered
@@ -335,7 +368,8 @@ impl<T: HostTree, K: Keeper, C: Clock, W: Words> Portal<T, K, C, W> {
         ensures failure { IfOk result (TellsFailure (T.is self.old.tree) (T.is self.new.tree)
             (K.is self.old.keeper) (K.is self.new.keeper)) }
         ensures err { OnErr result (Spends T.is K.is C.reads W.told self.old request self.new) }
-        ensures unasked { may_ask_in_vain request ≡ false → OnErr result (self.new ≡ self.old) }
+        ensures unasked { may_ask_in_vain request ≡ false
+            → OnErr result (IsAsBefore self.old self.new) }
         ensures full { limit_of self.old.story < cost_with self.old.story request
             → result
             ≡ Err (Refused.Full (cost self.old.story.history) (limit_of self.old.story)) }
@@ -344,6 +378,11 @@ impl<T: HostTree, K: Keeper, C: Clock, W: Words> Portal<T, K, C, W> {
         ensures cause { IfErr result (HasCause self.old.story request) }
         ensures leave { request ≡ Request.Leave → is_open (state_now self.old.story) seat ≡ true
             → IsOk result }
+        ensures reserved { is_reserved request ≡ true → 0 < self.old.spare
+            → cost_with self.old.story request ≤ limit_of self.old.story → IsOk result }
+        ensures spare { is_reserved request ≡ true → self.old.spare ≤ self.new.spare + 1 }
+        ensures freed { request ≡ Request.Leave → is_open (state_now self.old.story) seat ≡ true
+            → self.old.spare ≤ self.new.spare }
     {
         // Dropped by hand here and below: what goes by itself costs a long proof.
         if let Err(error) = self.check_cost(&request) {
@@ -413,14 +452,19 @@ impl<T: HostTree, K: Keeper, C: Clock, W: Words> Portal<T, K, C, W> {
         ensures fault { IfOk result (TellsFault (T.is self.old.tree) (T.is self.new.tree)) }
         ensures failure { IfOk result (TellsFailure (T.is self.old.tree) (T.is self.new.tree)
             (K.is self.old.keeper) (K.is self.new.keeper)) }
-        ensures err { OnErr result (self.new ≡ self.old) }
+        ensures err { OnErr result (IsAsBefore self.old self.new) }
     {
         check_caller(&who);
         let is_here = connection_of(self.connections.as_slice(), seat).is_some();
         let name = who.replica(alloc)?;
         // Besides the Leaves of the connections that are there, for this entry
         // and for the Leave of the new one.
-        make_room(&mut self.history, self.connections.as_slice(), 2)?;
+        make_room(
+            &mut self.history,
+            self.connections.as_slice(),
+            2,
+            self.ahead,
+        )?;
         if is_here {
             let refused = entry_made(alloc, seat, Request::Enter { who: name, kind });
             self.history.push(refused);
@@ -454,10 +498,19 @@ impl<T: HostTree, K: Keeper, C: Clock, W: Words> Portal<T, K, C, W> {
         ensures err { OnErr result
             (Spends T.is K.is C.reads W.told self.old (Request.Node request) self.new) }
         ensures unasked { may_ask_tree_in_vain (Request.Node request) ≡ false
-            → OnErr result (self.new ≡ self.old) }
+            → OnErr result (IsAsBefore self.old self.new) }
+        ensures reserved { is_reserved (Request.Node request) ≡ true → 0 < self.old.spare
+            → IsOk result }
+        ensures spare { self.old.spare ≤ self.new.spare + 1 }
     {
         // Room is kept for this entry and for a Leave of each open connection.
-        make_room(&mut self.history, self.connections.as_slice(), 1)?;
+        make_room(
+            &mut self.history,
+            self.connections.as_slice(),
+            1,
+            self.ahead,
+        )?;
+        keep_ahead(alloc, &mut self.counts, &mut self.rooms, self.ahead);
         let book = FileBook {
             view: ViewBook {
                 documents: &self.documents,
@@ -468,6 +521,7 @@ impl<T: HostTree, K: Keeper, C: Clock, W: Words> Portal<T, K, C, W> {
         };
         let served = node_serving::serve(
             alloc,
+            &mut self.rooms,
             &book,
             &mut self.connections,
             &mut self.handles,
@@ -506,13 +560,14 @@ impl<T: HostTree, K: Keeper, C: Clock, W: Words> Portal<T, K, C, W> {
             (K.is self.old.keeper) (K.is self.new.keeper)) }
         ensures err { OnErr result (Spends T.is K.is C.reads W.told self.old request self.new) }
         ensures unasked { may_change_records request ≡ false
-            → OnErr result (self.new ≡ self.old) }
+            → OnErr result (IsAsBefore self.old self.new) }
     {
         let taken = taken(
             &mut self.history,
             &mut self.outboxes,
             self.connections.as_slice(),
             seat,
+            self.ahead,
         );
         let Ok(signals) = taken else {
             drop(request);
@@ -563,6 +618,7 @@ impl<T: HostTree, K: Keeper, C: Clock, W: Words> Portal<T, K, C, W> {
             &mut self.outboxes,
             self.connections.as_slice(),
             seat,
+            self.ahead,
         );
         let Ok(signals) = taken else {
             drop(add);
@@ -608,7 +664,8 @@ impl<T: HostTree, K: Keeper, C: Clock, W: Words> Portal<T, K, C, W> {
             (K.is self.old.keeper) (K.is self.new.keeper)) }
         ensures err { OnErr result
             (Spends T.is K.is C.reads W.told self.old (Request.Store call) self.new) }
-        ensures unasked { may_change_entries call ≡ false → OnErr result (self.new ≡ self.old) }
+        ensures unasked { may_change_entries call ≡ false
+            → OnErr result (IsAsBefore self.old self.new) }
     {
         // A request of a bus takes the box of its seat ahead of all it does, and its own changes
         // go into the boxes behind that.
@@ -617,6 +674,7 @@ impl<T: HostTree, K: Keeper, C: Clock, W: Words> Portal<T, K, C, W> {
             &mut self.outboxes,
             self.connections.as_slice(),
             seat,
+            self.ahead,
         );
         let Ok(signals) = taken else {
             drop(call);
@@ -656,12 +714,14 @@ impl<T: HostTree, K: Keeper, C: Clock, W: Words> Portal<T, K, C, W> {
         ensures fault { IfOk result (TellsFault (T.is self.old.tree) (T.is self.new.tree)) }
         ensures failure { IfOk result (TellsFailure (T.is self.old.tree) (T.is self.new.tree)
             (K.is self.old.keeper) (K.is self.new.keeper)) }
-        ensures err { OnErr result (self.new ≡ self.old) }
+        ensures err { OnErr result (IsAsBefore self.old self.new) }
         ensures here { is_open (state_now self.old.story) seat ≡ true → IsOk result }
+        ensures freed { is_open (state_now self.old.story) seat ≡ true
+            → self.old.spare ≤ self.new.spare }
     {
         let is_here = connection_of(self.connections.as_slice(), seat).is_some();
         if !is_here {
-            make_room(&mut self.history, self.connections.as_slice(), 1)?;
+            make_room(&mut self.history, self.connections.as_slice(), 1, 0)?;
             let refused = entry_made(alloc, seat, Request::Leave);
             self.history.push(refused);
             return Ok(silent_reply(alloc, Answer::Refused(Code::NotHere)));
@@ -687,13 +747,14 @@ impl<T: HostTree, K: Keeper, C: Clock, W: Words> Portal<T, K, C, W> {
         ensures fault { IfOk result (TellsFault (T.is self.old.tree) (T.is self.new.tree)) }
         ensures failure { IfOk result (TellsFailure (T.is self.old.tree) (T.is self.new.tree)
             (K.is self.old.keeper) (K.is self.new.keeper)) }
-        ensures err { OnErr result (self.new ≡ self.old) }
+        ensures err { OnErr result (IsAsBefore self.old self.new) }
     {
         let signals = taken(
             &mut self.history,
             &mut self.outboxes,
             self.connections.as_slice(),
             seat,
+            self.ahead,
         )?;
         let answer = collect_answer(bus_of(self.connections.as_slice(), seat));
         let entry = entry_made(alloc, seat, Request::Collect);
@@ -730,59 +791,5 @@ impl<T: HostTree, K: Keeper, C: Clock, W: Words> Portal<T, K, C, W> {
         self.opening = opening;
         self.tree.known();
         Ok(())
-    }
-}
-
-impl<T: HostTree + Drop, K: Keeper + Drop, C: Clock + Drop, W: Words + Drop> Portal<T, K, C, W> {
-    /// A portal that opens with this state, over devices that have what stands
-    /// for it, of which none is asked.
-    ///
-    /// It is an opening state, and valid over the tree's files, which are those
-    /// that it began with. A keeper that tells its records has those that stand
-    /// for the state.
-    pub fn reopen(
-        alloc: Global,
-        tree: T,
-        keeper: K,
-        clock: C,
-        words: W,
-        opening: OpeningState,
-    ) -> Result<Portal<T, K, C, W>, WantOfMemory>
-        requires valid { Valid (opened_over (T.is tree).began opening) }
-        requires started { IsOpeningState (opened_over (T.is tree).began opening) }
-        requires told { (T.is tree).told ≡ (T.is tree).began }
-        requires kept { KeepsState (K.is keeper).told (opened_over (T.is tree).began opening) }
-        ensures { IfOk result
-            (λ portal. portal ≡ reopened T.is tree keeper clock words opening) }
-    {
-        match lists_of_opening(alloc, opening) {
-            Ok(lists) => Ok(Portal::over(alloc, tree, keeper, clock, words, lists)),
-            Err(error) => Err(error),
-        }
-    }
-}
-
-impl<T: HostTree, K: Keeper, C: Clock, W: Words> Portal<T, K, C, W> {
-    ghost use Rattle.std.specs.Borrow.{Lends, sem};
-    ghost use Rattle.portal_core.specs.contracts.portal.Portal.{the_row};
-
-    /// The clock, through which nothing else changes.
-    pub fn clock_mut(&mut self) -> &mut C
-        ensures value { result.now ≡ self.old.clock }
-        ensures* lends { sem 𝓛 (Lends (the_row T.row K.row C.row W.row T.HostTree K.Keeper
-            C.Clock W.Words) C.row self.entry result
-            (λ clock. record self.old { clock = clock })) }
-    {
-        &mut self.clock
-    }
-
-    /// The words to come, through which nothing else changes.
-    pub fn words_mut(&mut self) -> &mut W
-        ensures value { result.now ≡ self.old.words }
-        ensures* lends { sem 𝓛 (Lends (the_row T.row K.row C.row W.row T.HostTree K.Keeper
-            C.Clock W.Words) W.row self.entry result
-            (λ words. record self.old { words = words })) }
-    {
-        &mut self.words
     }
 }

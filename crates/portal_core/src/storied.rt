@@ -4,7 +4,7 @@ ghost use Rattle.std.specs.Prelude.{◌≡◌, ◌<◌, ◌≤◌, ◌^◌, [], 
 ghost use Rattle.portal_desk.specs.Opening.{IsOpeningState};
 ghost use Rattle.portal_core.specs.Growth.{GrowsBy, RefusedFor, cost_after};
 ghost use Rattle.portal_model.specs.History.{Legal, cost, run};
-ghost use Rattle.portal_model.specs.Seated.{is_open};
+ghost use Rattle.portal_model.specs.Seated.{is_open, rises_by};
 
 use crate::portal::Portal;
 use crate::renewal::RenewError;
@@ -19,7 +19,7 @@ use std::alloc::Global;
 ///
 /// Contracts see the state that the history began in, and its entries.
 pub trait Storied {
-    ghost use Rattle.std.specs.Prelude.{List};
+    ghost use Rattle.std.specs.Prelude.{List, ℕ};
     ghost use Rattle.portal_model.specs.State.{State};
     ghost use Rattle.portal_model.specs.declared.entry.Entry.{Entry};
     ghost use Rattle.portal_model.specs.declared.request.Request.{Request};
@@ -38,14 +38,20 @@ pub trait Storied {
     /// refused and the value after.
     ghost spends: { Self → Request → Self → Type 0 };
 
+    /// How many requests were refused, up to the greatest count.
+    ghost refusals: { Self → ℕ };
+
+    /// That a value is as before, but for the count of refusals.
+    ghost stays: { Self → Self → Type 0 };
+
     /// Answers a request of a seat, which is a number from 1.
     ///
     /// The reply is that of one step of the sequential portal, from the state
     /// after the history, which grows by this request; over a tree that
     /// doesn't tell its files it is alike to the step's. A refusal leaves the
     /// history as it was. `Full` comes exactly where the history with this
-    /// request would cost more than its limit, and then nothing changes at all;
-    /// whatever is answered, the history costs no more than that. The Leave of
+    /// request would cost more than its limit, and then nothing changes but the
+    /// count of refusals; whatever is answered, the history costs no more than that. The Leave of
     /// an open connection is never refused.
     fn ask(&mut self, alloc: Global, seat: u32, request: Request) -> Result<Reply, Refused>
         requires { 1 ≤ seat }
@@ -57,12 +63,16 @@ pub trait Storied {
         ensures refused { OnErr result (entries self.new ≡ entries self.old) }
         ensures spent { OnErr result (spends self.old request self.new) }
 
+        // A refusal is counted, and nothing else is.
+        ensures uncounted { OnOk result (refusals self.new ≡ refusals self.old) }
+        ensures counted { OnErr result (refusals self.new ≡ rises_by (refusals self.old) 1) }
+
         // Both ways: it is full exactly where the cost would pass the limit.
         ensures full { (opening self.old).limits.history < cost_after (entries self.old) request
             → result ≡ Err (Refused.Full (cost (entries self.old))
             (opening self.old).limits.history) }
         ensures nothing { (opening self.old).limits.history < cost_after (entries self.old) request
-            → self.new ≡ self.old }
+            → stays self.old self.new }
         ensures cause { IfErr result (RefusedFor (opening self.old) (entries self.old) request) }
 
         ensures leave { request ≡ Request.Leave
@@ -90,7 +100,7 @@ pub trait Storied {
 impl<T: HostTree, K: Keeper, C: Clock, W: Words> Storied for Portal<T, K, C, W> {
     ghost use Rattle.std.specs.Prelude.{◌≡◌};
     ghost use Rattle.portal_steps.specs.Answered.{Spends, Went};
-    ghost use Rattle.portal_steps.specs.Story.{state_first};
+    ghost use Rattle.portal_steps.specs.Story.{IsAsBefore, state_first};
 
     ghost opening = { λ p. state_first p.story };
 
@@ -101,6 +111,10 @@ impl<T: HostTree, K: Keeper, C: Clock, W: Words> Storied for Portal<T, K, C, W> 
 
     // The devices may have been asked, and then memory was wanted.
     ghost spends = { Spends T.is K.is C.reads W.told };
+
+    ghost refusals = { λ p. p.refusals };
+
+    ghost stays = { IsAsBefore };
 
     fn ask(&mut self, alloc: Global, seat: u32, request: Request) -> Result<Reply, Refused> {
         Portal::ask(self, alloc, seat, request)
@@ -125,11 +139,23 @@ pub trait Renews: Storied {
         ensures opening { OnOk result (Self.opening self.new
             ≡ run (Self.opening self.old) (Self.entries self.old)) }
         ensures entries { OnOk result (Self.entries self.new ≡ []) }
-        ensures refused { OnErr result (self.new ≡ self.old) };
+        ensures refused { OnErr result (self.new ≡ self.old) }
+        ensures uncounted { Self.refusals self.new ≡ Self.refusals self.old };
+
+    /// Takes memory ahead for so many requests of the kinds that free what others hold,
+    /// as far as there is any. It is no answer, and the history is as it was.
+    fn keep_ahead(&mut self, alloc: Global, count: u32)
+        ensures opening { Self.opening self.new ≡ Self.opening self.old }
+        ensures entries { Self.entries self.new ≡ Self.entries self.old }
+        ensures uncounted { Self.refusals self.new ≡ Self.refusals self.old };
 }
 
 impl<T: HostTree, K: Keeper, C: Clock, W: Words> Renews for Portal<T, K, C, W> {
     fn renew(&mut self, alloc: Global) -> Result<(), RenewError> {
         Portal::renew(self, alloc)
+    }
+
+    fn keep_ahead(&mut self, alloc: Global, count: u32) {
+        let _reserved = self.reserve(alloc, count, 0);
     }
 }

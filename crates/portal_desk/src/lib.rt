@@ -4,7 +4,8 @@
 //! **It promises**, of whatever is a [`Desk`], that each reply is that of one
 //! step of the sequential portal, in a legal history that the seat sees grow by
 //! this request alone of its own; and that a refusal is counted and leaves the
-//! seat's own entries.
+//! seat's own entries. A [`TryDesk`] promises the same, and waits for nobody: it
+//! may answer that it is busy, which is counted, and hands the request back.
 //!
 //! ```text
 //! let reply = desk.ask(alloc, Request::Enter { who: Who::Host, kind: Kind::Bus })?;
@@ -15,5 +16,7 @@
 #![tactic(auto)]
 
 mod desk;
+mod try_desk;
 
 pub use desk::Desk;
+pub use try_desk::TryDesk;

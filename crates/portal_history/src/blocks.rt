@@ -4,7 +4,7 @@
 //! once it is full. So an entry stays where it was put, and a division tells
 //! which block has the entry at a place.
 
-ghost use Rattle.std.specs.Prelude.{◌≡◌, ◌+◌, ◌-◌, ◌*◌, ◌<◌, ◌≤◌, [], ◌∷◌, ◌++◌, length, option_copied, slice_get, IfOk, OnErr, OnOk, vec_len, vec_capacity};
+ghost use Rattle.std.specs.Prelude.{◌≡◌, ◌+◌, ◌-◌, ◌*◌, ◌<◌, ◌≤◌, [], ◌∷◌, ◌++◌, length, option_copied, slice_get, IfOk, IsOk, OnErr, OnOk, vec_len, vec_capacity};
 ghost use Rattle.portal_history.specs.Blocks.{AreBlocks, AreFree, InBlocks, IsOpened, closed_behind, room_in};
 
 use portal_base::list::List;
@@ -90,9 +90,11 @@ impl Blocks {
         (here + self.ahead.len() * BLOCK) as u64
     }
 
-    /// Takes room for `count` more entries, where there isn't as much.
+    /// Takes room for `count` more entries, where there isn't as much; where there is,
+    /// no memory is wanted.
     pub(crate) fn reserve(&mut self, count: u32) -> Result<(), WantOfMemory>
         ensures ok { OnOk result (count ≤ self.new.spare) }
+        ensures reserved { count ≤ self.old.spare → IsOk result }
         ensures err { OnErr result (self.new ≡ self.old) }
         ensures entries { self.new.entries ≡ self.old.entries }
         ensures spare { self.old.spare ≤ self.new.spare }

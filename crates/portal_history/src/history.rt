@@ -4,7 +4,7 @@
 //! the whole has a limit, and memory for further entries can be taken ahead,
 //! so that an entry is stored by a call that can't fail, and moves no other.
 
-ghost use Rattle.std.specs.Prelude.{◌≡◌, ◌+◌, ◌-◌, ◌<◌, ◌≤◌, [], ◌∷◌, ◌++◌, length, option_copied, slice_get, OnOk, OnErr};
+ghost use Rattle.std.specs.Prelude.{◌≡◌, ◌+◌, ◌-◌, ◌<◌, ◌≤◌, [], ◌∷◌, ◌++◌, length, option_copied, slice_get, IsOk, OnOk, OnErr};
 ghost use Rattle.portal_history.specs.Stored.{Stored};
 ghost use Rattle.portal_model.specs.History.{cost, cost_of as request_cost};
 
@@ -96,9 +96,11 @@ impl History {
         self.limit
     }
 
-    /// Takes room for `count` more entries, where there isn't as much.
+    /// Takes room for `count` more entries, where there isn't as much; where there is,
+    /// no memory is wanted.
     pub fn reserve(&mut self, count: u32) -> Result<(), WantOfMemory>
         ensures ok { OnOk result (count ≤ self.new.spare) }
+        ensures reserved { count ≤ self.old.spare → IsOk result }
         ensures err { OnErr result (self.new ≡ self.old) }
         ensures entries { self.new.entries ≡ self.old.entries }
         ensures limit { self.new.limit ≡ self.old.limit }

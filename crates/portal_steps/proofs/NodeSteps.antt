@@ -23,7 +23,7 @@ use Rattle.portal_model.specs.Step.{after, reply_at, reply_with}
 use Rattle.portal_model.proofs.StaysTold.{step_told}
 use Rattle.portal_steps.specs.Documents.{is_document_call}
 use Rattle.portal_steps.specs.Served.{node_entry}
-use Rattle.portal_steps.specs.TreeCalls.{Calling, WasCalled}
+use Rattle.portal_steps.specs.TreeCalls.{Calling, WasCalledUpTo}
 
 abbrev pub is_on_node : Request → Bool
 is_on_node (Request.Node r) = true
@@ -42,8 +42,8 @@ after-began (call ∷ more) old = after-began more (after_call old call.0 call.1
 pub calls-keep : (old : TreeIs) (calls : List Call) (files : Option (List File)) (new : TreeIs) → Calling old calls files new → new.began ≡ old.began
 calls-keep old calls files new k = ap (λ (t : TreeIs). t.began) k.goes ∙ after-began calls old
 
-pub was-called-keeps : (old new : TreeIs) → WasCalled old new → (new.began ≡ old.began) × (new.told ≡ old.told)
-was-called-keeps old new k = (calls-keep old (map unfailed k.0) old.told new k.1, ap (λ (t : TreeIs). t.told) k.1.goes)
+pub was-called-keeps : (most : ℕ) (old new : TreeIs) → WasCalledUpTo most old new → (new.began ≡ old.began) × (new.told ≡ old.told)
+was-called-keeps most old new k = (calls-keep old (map unfailed k.0) old.told new k.1, ap (λ (t : TreeIs). t.told) k.1.goes)
 
 -- the same reply is alike, to a request that reads no file
 pub alike-same : (told : Bool) (request : Request) (stepped given : Reply) → is_on_node request ≡ false → given ≡ stepped → Alike told request stepped given

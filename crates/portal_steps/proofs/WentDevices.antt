@@ -1,11 +1,13 @@
 -- What the devices of a portal went through in an entry.
 use Rattle.std.proofs.Common.{◌≡◌, ◌≢◌, ℕ, List, [], ◌∷◌, ◌++◌, length, Bool, true, false, Option, Some, None, refl, sym, ap, subst, ◌∙◌, inl}
 use Rattle.host_tree.specs.Trees.{TreeIs}
+use Rattle.file_ops.specs.Wanting.{calls_in_vain}
 use Rattle.node_looks.specs.Done.{MayRead, Reads}
 use Rattle.portal_base.specs.declared.files.File.{File}
 use Rattle.portal_model.specs.declared.entry.Entry.{Entry}
 use Rattle.portal_model.specs.declared.entry.Fault.{Fault}
 use Rattle.portal_model.specs.declared.entry.Given.{Given}
+use Rattle.portal_model.specs.declared.request.NodeRequest.{NodeRequest}
 use Rattle.portal_model.specs.declared.request.Request.{Request}
 use Rattle.portal_model.specs.declared.state.Connection.{Connection}
 use Rattle.portal_model.specs.Bus.{is_tree}
@@ -22,9 +24,9 @@ use Rattle.portal_steps.specs.Devices.{Drawn, Keeping, KeeperWentOn, may_ask_tre
 use Rattle.portal_steps.proofs.AskedCalls.{asked-calling, asked-keeps, was-asked-called}
 use Rattle.portal_steps.proofs.BusCalls.{listed}
 use Rattle.portal_steps.proofs.DrawnWords.{drawn-drew}
-use Rattle.portal_steps.specs.Story.{PortalIs, state_now}
+use Rattle.portal_steps.specs.Story.{IsAsBefore, PortalIs, state_now}
 use Rattle.node_looks.specs.TreeCalls.{Call}
-use Rattle.portal_steps.specs.TreeCalls.{Calling, WasCalled, entry_calls}
+use Rattle.portal_steps.specs.TreeCalls.{Calling, WasCalledUpTo, entry_calls}
 
 -- ---- requests that are none on documents
 
@@ -117,9 +119,9 @@ module _ {T K C W : Type 0} (tree_is : T → TreeIs) (keeper_is : K → KeeperIs
     undrawn = λ f. let no : true ≡ false = sym draws ∙ f in absurd (cc);
   }
 
--- it is the same part for part
-pub same-portal : {T K C W : Type 0} (old new : PortalIs T K C W) → new.tree ≡ old.tree → new.keeper ≡ old.keeper → new.clock ≡ old.clock → new.words ≡ old.words → new.story.began ≡ old.story.began → new.story.opening ≡ old.story.opening → new.story.history ≡ old.story.history → new ≡ old
-same-portal old new t k c w b o h = λ i. record { tree = t i; keeper = k i; clock = c i; words = w i; story = record { began = b i; opening = o i; history = h i } }
+-- it is as before part for part
+pub same-portal : {T K C W : Type 0} (old new : PortalIs T K C W) → new.tree ≡ old.tree → new.keeper ≡ old.keeper → new.clock ≡ old.clock → new.words ≡ old.words → new.story.began ≡ old.story.began → new.story.opening ≡ old.story.opening → new.story.history ≡ old.story.history → IsAsBefore old new
+same-portal old new t k c w b o h = λ i. record { tree = t i; keeper = k i; clock = c i; words = w i; story = record { began = b i; opening = o i; history = h i }; spare = new.spare; refusals = new.refusals }
 
 module _ {T K C W : Type 0} (tree_is : T → TreeIs) (keeper_is : K → KeeperIs) (clock_reads : C → ℕ → C → Type 0) (words_told : W → Option (List ℕ)) (old : PortalIs T K C W) (request : Request) (new : PortalIs T K C W) where
   -- that of an Add, which may have asked each device but the clock
@@ -127,6 +129,7 @@ module _ {T K C W : Type 0} (tree_is : T → TreeIs) (keeper_is : K → KeeperIs
       HasDrawn (words_told old.words) (words_told new.words) → new.story.began ≡ old.story.began → new.story.opening ≡ old.story.opening → new.story.history ≡ old.story.history → Spends tree_is keeper_is clock_reads words_told old request new
   spends-add draws asks changes t k c w b o h = record {
     tree = was-asked-called (tree_is old.tree) (tree_is new.tree) t;
+    few = λ r e. let no : true ≡ false = sym draws ∙ ap may_draw e in absurd (cc);
     keeper = k;
     clock = inl c;
     words = w;
@@ -138,10 +141,13 @@ module _ {T K C W : Type 0} (tree_is : T → TreeIs) (keeper_is : K → KeeperIs
   }
 
   -- that of a request on a node, which may have asked the tree and the clock
-  pub spends-node : (may_ask_tree_in_vain request ≡ false → new.tree ≡ old.tree) → (may_read_clock request ≡ false → new.clock ≡ old.clock) → WasCalled (tree_is old.tree) (tree_is new.tree) → new.keeper ≡ old.keeper → MayRead clock_reads old.clock new.clock → new.words ≡ old.words → new.story.began ≡ old.story.began → new.story.opening ≡ old.story.opening → new.story.history ≡ old.story.history →
+  pub spends-node : (r : NodeRequest) → request ≡ Request.Node r → (may_ask_tree_in_vain request ≡ false → new.tree ≡ old.tree) → (may_read_clock request ≡ false → new.clock ≡ old.clock) → WasCalledUpTo (calls_in_vain r.op) (tree_is old.tree) (tree_is new.tree) → new.keeper ≡ old.keeper → MayRead clock_reads old.clock new.clock → new.words ≡ old.words → new.story.began ≡ old.story.began → new.story.opening ≡ old.story.opening → new.story.history ≡ old.story.history →
       Spends tree_is keeper_is clock_reads words_told old request new
-  spends-node asks reads t k c w b o h = record {
-    tree = t;
+  spends-node r is asks reads t k c w b o h = record {
+    tree = (t.0, t.1);
+    few = λ q e.
+        let same : r ≡ q = cc (sym is ∙ e) in
+        subst (λ (x : NodeRequest). WasCalledUpTo (calls_in_vain x.op) (tree_is old.tree) (tree_is new.tree)) same t;
     keeper = inl (ap keeper_is k);
     clock = c;
     words = ([], ap words_told w);

@@ -1,7 +1,7 @@
 -- The keeper and the words beside the tree: what an entry asked of them.
 use Rattle.std.specs.Prelude.{◌≡◌, ◌⊎◌, ℕ, List, [], ◌∷◌, Bool, true, false, ◌||◌, Option, Some, None}
 use Rattle.portal_base.specs.Outside.{Draws, HasRisen}
-use Rattle.file_ops.specs.Wanting.{may_call_in_vain, may_change_file}
+use Rattle.file_ops.specs.Wanting.{fits_in_room, may_call_in_vain, may_change_file}
 use Rattle.host_tree.specs.Trees.{TreeIs}
 use Rattle.portal_model.specs.declared.entry.Entry.{Entry}
 use Rattle.portal_model.specs.declared.reply.Answer.{Answer}
@@ -105,6 +105,24 @@ may_read_clock (Request.Store call) = false
 -- the requests that may ask a device in vain: a refusal of any other leaves all as it was
 abbrev pub may_ask_in_vain : Request → Bool
 may_ask_in_vain request = may_change_records request || may_ask_tree_in_vain request
+
+-- ---- memory
+
+-- the requests for which all memory can be taken ahead
+abbrev pub is_reserved : Request → Bool
+is_reserved (Request.Node r) = fits_in_room r.op
+is_reserved (Request.Enter who kind) = false
+is_reserved Request.Leave = false
+is_reserved Request.Collect = false
+is_reserved (Request.Add a) = false
+is_reserved (Request.Present path) = false
+is_reserved (Request.Grant call) = false
+is_reserved (Request.Revoke call) = false
+is_reserved (Request.DeleteDocument doc) = false
+is_reserved (Request.LookupDocument path) = false
+is_reserved (Request.Info doc) = false
+is_reserved (Request.ListDocuments app) = false
+is_reserved (Request.Store call) = false
 
 -- ---- faults
 

@@ -1,4 +1,4 @@
--- What a portal is to contracts: its devices, and its story.
+-- What a portal is to contracts: its devices, its story, and how often it refused.
 use Rattle.std.specs.Prelude.{◌≡◌, ◌+◌, ◌<◌, ◌≤◌, ℕ, List, Option}
 use Rattle.portal_base.specs.declared.files.File.{File}
 use Rattle.portal_model.specs.declared.entry.Entry.{Entry}
@@ -17,13 +17,20 @@ pub record Story : Type 0 where
   pub opening : OpeningState
   pub history : List Entry
 
--- the four devices, and the story
+-- the four devices, the story, for how many requests memory was taken ahead, and how many were
+-- refused, up to the greatest count
 pub record PortalIs (T K C W : Type 0) : Type 0 where
   pub tree : T
   pub keeper : K
   pub clock : C
   pub words : W
   pub story : Story
+  pub spare : ℕ
+  pub refusals : ℕ
+
+-- all is as before, but for the memory that was taken ahead and the count of refusals
+abbrev pub IsAsBefore : {T K C W : Type 0} → PortalIs T K C W → PortalIs T K C W → Type 0
+IsAsBefore old new = new ≡ record old { spare = new.spare; refusals = new.refusals }
 
 -- the state that the history began in
 abbrev pub state_first : Story → State

@@ -12,7 +12,7 @@ use Rattle.portal_model.specs.State.{State, connection_of}
 use Rattle.portal_model.specs.Step.{all_told, bus_of}
 use Rattle.portal_model.specs.Verdict.{Verdict}
 use Rattle.node_looks.specs.TreeCalls.{Call, calls_by}
-pub use Rattle.node_looks.specs.TreeCalls.{Calling, CallsAsTold, WasCalled}
+pub use Rattle.node_looks.specs.TreeCalls.{Calling, CallsAsTold, WasCalled, WasCalledUpTo}
 
 -- a request on documents makes no call but looks
 abbrev pub only_looks : Verdict → TreeCall

@@ -5,7 +5,7 @@ use crate::given::{put_fault, put_seen};
 use crate::nodes::node_request;
 use app_view::ViewBook;
 use document_records::{Applications, Documents, Grants};
-use file_ops::{FileBook, NodeCall, NodeDone, serve_node};
+use file_ops::{FileBook, LookRooms, NodeCall, NodeDone, serve_node};
 use host_tree::MemoryTree;
 use open_handles::{Handle, Handles};
 use portal_base::files::FileName;
@@ -104,7 +104,11 @@ fn served(
     };
     let mut tree = MemoryTree::new(alloc, List::new(alloc));
     let mut clock = SetClock::new(9);
-    let done = serve_node(alloc, book, handles, &mut tree, &mut clock, &call);
+    let mut rooms = LookRooms::new(alloc);
+    let done = serve_node(
+        alloc, &mut rooms, book, handles, &mut tree, &mut clock, &call,
+    );
+    drop(rooms);
     drop(tree);
     told(alloc, done)
 }

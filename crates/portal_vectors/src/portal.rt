@@ -21,8 +21,8 @@ use vector_lines::notation::{cut, debug, number, small_number, text};
 ///
 /// A step is a request, behind the number of its seat; or `desk SEAT REQUEST, REQUEST ..`,
 /// which asks them of one desk of the seat; `now MOMENT`, which is what the clock shows from
-/// then on; `book`, which tells the live documents and the numbered applications; or `renew`,
-/// which begins a new history.
+/// then on; `book`, which tells the live documents and the numbered applications; `renew`,
+/// which begins a new history; or `reserve COUNT BYTES`, which takes memory ahead.
 pub fn portal(alloc: Global, rest: &str, is_given: bool) -> Result<String, VectorError> {
     let (words, rest) = cut(rest);
     let mut portal = opened_in(alloc, rest, limits_of(words)?)?;
@@ -78,6 +78,7 @@ fn put_step(
         "now" => put_moment(portal, number(rest)?, out)?,
         "book" => out.push_str(book(alloc, portal)?.as_str())?,
         "renew" => put_renewed(alloc, portal, out)?,
+        "reserve" => put_reserved(alloc, portal, rest, out)?,
         _ => {
             out.push_str(asked(alloc, portal, small_number(word)?, rest)?.as_str())?;
             if is_given {
@@ -105,6 +106,21 @@ fn put_renewed(
         Ok(()) => out.push_str("begun")?,
         Err(error) => out.push_str(debug(alloc, &error)?.as_str())?,
     }
+    Ok(())
+}
+
+/// Takes memory ahead for so many requests, and tells whether there is enough then.
+fn put_reserved(
+    alloc: Global,
+    portal: &mut ScriptPortal,
+    rest: &str,
+    out: &mut String,
+) -> Result<(), VectorError> {
+    let (count, bytes) = cut(rest);
+    let count = small_number(count)?;
+    portal.reserve(alloc, count, number(bytes)?)?;
+    let is_enough = portal.spare() >= u64::from(count);
+    out.push_str(if is_enough { "reserved" } else { "too little" })?;
     Ok(())
 }
 

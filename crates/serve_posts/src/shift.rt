@@ -23,6 +23,9 @@ use worker_gate::gate::Gate;
 use worker_gate::listener::Listener;
 use worker_gate::worker::{Post, WorkEnd};
 
+/// For how many requests that free what others hold memory is taken ahead of each turn.
+const AHEAD: u32 = 1_024;
+
 /// What workers came to.
 #[derive(Drop)]
 pub(crate) struct Shift<L, S> {
@@ -38,7 +41,8 @@ pub(crate) struct Shift<L, S> {
 /// there were, too.
 ///
 /// No seat has an open connection in the history so far. Where there is no
-/// memory for a turn no worker of it begins.
+/// memory for a turn no worker of it begins. Ahead of each turn memory is taken for
+/// requests that free what others hold.
 pub(crate) fn serve_over<R, L, S, G>(
     alloc: Global,
     rt: &R,
@@ -62,6 +66,7 @@ where
         (stand (S.opening served.0.story) (S.entries served.0.story) served.0.posts
         served.0.ends)) }
 {
+    let story = kept_ahead(alloc, story);
     story.known();
     let ends = all_unserved(alloc, posts.len())?;
     let mut shift = serve_turn(alloc, rt, posts, ends, story, settings, gate)?;
@@ -96,8 +101,17 @@ fn any_left(ends: &[WorkEnd]) -> bool
     ends.iter().any(|end| is_left(*end))
 }
 
-/// Begins a new history behind so many turns, where that isn't refused, and tells the gate.
+/// Begins a new history behind so many turns, where that isn't refused, tells the gate, and
+/// takes memory ahead.
 fn renewed<S: Renews + Drop, G: Gate>(alloc: Global, story: S, gate: &G, turns: u64) -> S
+    ensures { Renewal (S.opening story) (S.entries story) (S.opening result) (S.entries result) }
+{
+    let story = begun_anew(alloc, story, gate, turns);
+    kept_ahead(alloc, story)
+}
+
+/// Begins a new history behind so many turns, where that isn't refused, and tells the gate.
+fn begun_anew<S: Renews + Drop, G: Gate>(alloc: Global, story: S, gate: &G, turns: u64) -> S
     ensures { Renewal (S.opening story) (S.entries story) (S.opening result) (S.entries result) }
 {
     let mut story = story;
@@ -105,6 +119,16 @@ fn renewed<S: Renews + Drop, G: Gate>(alloc: Global, story: S, gate: &G, turns: 
     if story.renew(alloc).is_ok() {
         gate.renewed(turns);
     }
+    story
+}
+
+/// Takes memory ahead, as far as there is any; the history is the same.
+fn kept_ahead<S: Renews + Drop>(alloc: Global, story: S) -> S
+    ensures opening { S.opening result ≡ S.opening story }
+    ensures entries { S.entries result ≡ S.entries story }
+{
+    let mut story = story;
+    story.keep_ahead(alloc, AHEAD);
     story
 }
 

@@ -16,6 +16,8 @@ pub mod ServedTraces
 pub mod ItemsAreOne
 pub mod OwnEntries
 pub mod SessionCalls
+pub mod Telling
+pub mod TurnsTaken
 pub mod FirstLine
 pub mod ToldFrame
 pub mod ServeConnection

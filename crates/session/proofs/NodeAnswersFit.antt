@@ -29,7 +29,7 @@ use Rattle.portal_model.specs.ReadDir.{read_dir, read_names}
 use Rattle.portal_model.specs.Release.{closed}
 use Rattle.portal_model.specs.ReleaseDir.{release_dir}
 use Rattle.portal_model.specs.SetAttr.{SetsAttr, resize, set_attr, set_attr_at, set_attr_of, set_attr_of_folder, set_attr_of_open, set_attr_open, sets_by_handle, sets_owner_or_mode, sets_size}
-use Rattle.portal_model.specs.Walk.{Walk, Answers, Looks, Ends, AtPath, Changes, Uses, walked}
+use Rattle.portal_model.specs.Walk.{Walk, Answers, Looks, Ends, AtPath, Changes, walked}
 use Rattle.portal_model.specs.Write.{write, write_content, write_limit, write_open}
 use Rattle.session.specs.FrameLengths.{longest_struct, room_for}
 

@@ -7,8 +7,10 @@ pub mod Answers
 pub mod Ledger
 pub mod Standings
 pub mod Sessions
+pub mod Pushes
 pub mod Pumps
 pub mod Connections
 pub mod Isolation
 pub mod Hearing
+pub mod Turns
 pub mod Laws

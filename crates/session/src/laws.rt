@@ -7,6 +7,7 @@ ghost use Rattle.session.specs.Laws.{AreOne, AreCutAlike, AnswerAsked, CostLittl
 ghost use Rattle.session.specs.Laws.{EndingsAreTheStreams, EndsStay, FeedsCostLittle};
 ghost use Rattle.session.specs.Laws.{ItemsAreFound, ItemsComeFirst, MeetsAlike, RoomIsEnough};
 ghost use Rattle.session.specs.Laws.{SayAlike, ShortBegins, ToldAlike, WholeInputsEnd};
+ghost use Rattle.session.specs.Turns.{TurnsAreTaken};
 
 /// Each stream of bytes has items and a rest.
 pub fn streams_have_items()
@@ -45,6 +46,13 @@ pub fn pieces_cut_alike()
 /// read.
 pub fn endings_are_the_streams()
     ensures { EndingsAreTheStreams }
+{}
+
+/// A session that is pushed between the pieces of its stream asks and answers the
+/// items of the stream all the same, and one Collect more for each push, whose
+/// signals are written there.
+pub fn turns_are_taken()
+    ensures { TurnsAreTaken }
 {}
 
 /// The outcomes of answers are those of what the items ask, each once, in

@@ -7,7 +7,8 @@
 //!
 //! **Promise**: every whole item of what came is asked and answered once, in
 //! order, and the items are the same in whatever pieces the stream comes. What a
-//! host wasn't told yet is told ahead of the next answer. Each ending says what
+//! host wasn't told yet is told ahead of the next answer, or at once where its
+//! session is pushed, which leaves its items as they are. Each ending says what
 //! was read, asked and written. What an application is replied is a function of
 //! its trace: over a tree that tells its files with all bytes, and over any other
 //! but for the bytes that a READ shows, and their number.

@@ -15,6 +15,7 @@ ghost use Rattle.portal_model.specs.Valid.{is_sound_change};
 ghost use Rattle.session.specs.Answers.{last_spoken, spoken};
 ghost use Rattle.session.specs.Cuts.{Cuts, no_item, whole_item};
 ghost use Rattle.session.specs.declared.served.Stop.TheVariants as stop;
+ghost use Rattle.session.specs.Pushes.{Tells};
 ghost use Rattle.session.specs.Ledger.{world, Sends, ActEnds, Collected, ItemEnds, Stops};
 
 use crate::act::{Act, Client, ItemError};
@@ -181,6 +182,27 @@ fn collect<D: Desk>(alloc: Global, collects: bool, desk: &mut D) -> List<Change>
         return ask_untold(alloc, desk);
     }
     List::new(alloc)
+}
+
+/// Tells a host what it was not told yet, where there is something to tell, and
+/// answers the last serial. A refusal leaves it untold, and nothing is written.
+pub fn serve_untold<D: Desk, K: Sink>(
+    alloc: Global,
+    serial: u32,
+    desk: &mut D,
+    sink: &mut K,
+) -> Result<u32, Fed>
+    ensures tells { Tells result serial
+        (world (D.seated desk.old) (K.told sink.old) (K.faults sink.old))
+        (world (D.seated desk.new) (K.told sink.new) (K.faults sink.new)) }
+    ensures goes { D.goes desk.old desk.new }
+{
+    let changes = ask_untold(alloc, desk);
+    // Where there is nothing to tell no memory is wanted.
+    if changes.is_empty() {
+        return Ok(serial);
+    }
+    send_messages(alloc, serial, changes.as_slice(), &None, sink)
 }
 
 /// Asks what a call asks, tells what the host was not told yet, and answers the

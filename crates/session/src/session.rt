@@ -7,13 +7,14 @@ ghost use Rattle.session.specs.Isolation.{IsIsolated};
 ghost use Rattle.session.specs.Ledger.{Stops, held_after, world};
 ghost use Rattle.session.specs.Sessions.{Opens, Enters, Feeds, Closes, IsBound, IsOpen, fed_of};
 ghost use Rattle.session.specs.Sessions.{ending};
+ghost use Rattle.session.specs.Pushes.{Pushes, goes_on, has_begun, is_bus, is_ready};
 ghost use Rattle.session.specs.Standings.{client as the_client};
 ghost use Rattle.session.specs.declared.served.Stop.TheVariants as stop;
 
 use crate::act::Client;
 use crate::parts::behind;
-use crate::phase::first_phase;
-use crate::serve::{Run, Stage, serve_items};
+use crate::phase::{Phase, first_phase};
+use crate::serve::{Run, Stage, serve_items, serve_untold};
 use crate::served::{Fed, Served, Stop};
 use bytes::BytesMut;
 use portal_base::limits::Settings;
@@ -178,6 +179,52 @@ impl Session {
     }
 }
 
+impl Session {
+    /// Whether a host may be told what it wasn't told yet before its next item: the
+    /// session is one on a bus, its handshake is over (D-Bus Specification,
+    /// "Authentication Protocol"), and it isn't over itself.
+    pub fn ready(&self) -> bool
+        ensures { result ≡ is_ready self.now }
+    {
+        is_bus(self.client.kind) && has_begun(&self.stage.phase) && goes_on(self.fed)
+    }
+
+    /// Tells a host what it wasn't told yet, without waiting for its next item: one
+    /// Collect is asked, and its signals are written with the next serials. Where it
+    /// is refused nothing is written, and the answer is `More`.
+    ///
+    /// What is held of the stream stays, and so does the number of bytes before it.
+    /// After `WriteFault` and `Memory` the session is over, as after those of `feed`.
+    pub fn push<D: Desk, K: Sink>(&mut self, alloc: Global, desk: &mut D, sink: &mut K) -> Fed
+        requires host { self.old.client.who ≡ Who.Host }
+        requires ready { is_ready self.old ≡ true }
+        ensures pushes { Pushes self.old
+            (world (D.seated desk.old) (K.told sink.old) (K.faults sink.old)) result self.new
+            (world (D.seated desk.new) (K.told sink.new) (K.faults sink.new)) }
+        // The connection stays open.
+        ensures stays_open { IsOpen self.old.client (D.seated desk.old)
+            → IsOpen self.old.client (D.seated desk.new) }
+        // What an application is replied is a function of its trace: none asks here.
+        ensures isolated { IsIsolated self.old.client.who (D.seated desk.old)
+            (D.seated desk.new) }
+        ensures goes { D.goes desk.old desk.new }
+    {
+        desk.known();
+        let told = serve_untold(alloc, self.stage.serial, desk, sink);
+        desk.known();
+        match told {
+            Ok(serial) => {
+                self.stage.serial = serial;
+                Fed::More
+            }
+            Err(halt) => {
+                self.fed = halt;
+                halt
+            }
+        }
+    }
+}
+
 /// Asks and answers each item that is whole with a piece, and holds what stands
 /// behind the last of them. Where it halts the same is held as before.
 ///
@@ -266,6 +313,26 @@ fn take_behind<D: Desk, K: Sink>(
             Err(halt)
         }
     }
+}
+
+fn is_bus(kind: Kind) -> bool
+    ensures { result ≡ is_bus kind }
+{
+    matches!(kind, Kind::Bus)
+}
+
+/// Whether the handshake is over.
+fn has_begun(phase: &Phase) -> bool
+    ensures { result ≡ has_begun phase.now }
+{
+    matches!(phase, Phase::Messages)
+}
+
+/// Whether a session goes on whose last piece came to this.
+fn goes_on(fed: Fed) -> bool
+    ensures { result ≡ goes_on fed }
+{
+    matches!(fed, Fed::More)
 }
 
 fn client_of(

@@ -18,11 +18,11 @@ pub const LOAD: &str = "SELECT place, store_table, id, datum FROM entry ORDER BY
 
 const LOAD_ROWS: &str = "SELECT entry, application, names FROM permission ORDER BY place";
 
-const FIND: &str = "SELECT place FROM entry WHERE store_table = ?1 AND id = ?2";
+const FIND: &str = "SELECT place, datum FROM entry WHERE store_table = ?1 AND id = ?2";
 
 const ADD: &str = "INSERT INTO entry (store_table, id, datum) VALUES (?1, ?2, ?3)";
 
-const SET_DATUM: &str = "UPDATE entry SET datum = ?2 WHERE place = ?1 AND datum <> ?2";
+const SET_DATUM: &str = "UPDATE entry SET datum = ?2 WHERE place = ?1";
 
 const REMOVE: &str = "DELETE FROM entry WHERE store_table = ?1 AND id = ?2";
 
@@ -39,6 +39,15 @@ struct PlacedEntry {
     id: Text,
     datum: ByteList,
     rows: Vec<Row>,
+}
+
+/// An entry that is kept, as one that takes its place finds it.
+#[derive(Clone, Copy)]
+struct KeptEntry {
+    place: i64,
+    /// Whether its data are those of the other. A change of permissions leaves them, and to find
+    /// that here takes a statement less than to find it by an UPDATE.
+    has_datum: bool,
 }
 
 /// The rows of entries as they are read.
@@ -179,25 +188,30 @@ pub fn set_entry<S: Alter>(
     transaction: &mut Transaction<'_, S>,
     entry: &EntryRecord,
 ) -> Result<(), DatabaseFault> {
-    let rows = entry.rows.as_slice();
-    match place_of_entry(transaction, &entry.table, &entry.id)? {
-        Some(place) => {
-            set_datum(transaction, place, &entry.datum)?;
-            renew_rows(alloc, transaction, place, rows)
-        }
-        None => add_entry(alloc, transaction, entry),
+    let Some(kept) = kept_entry(transaction, entry)? else {
+        return add_entry(alloc, transaction, entry);
+    };
+    if !kept.has_datum {
+        set_datum(transaction, kept.place, &entry.datum)?;
     }
+    renew_rows(alloc, transaction, kept.place, entry.rows.as_slice())
 }
 
-/// The place of the entry of a table and an identifier.
-fn place_of_entry<S: Alter>(
+/// What is kept of the table and the identifier of an entry.
+fn kept_entry<S: Alter>(
     transaction: &mut Transaction<'_, S>,
-    table: &Text,
-    id: &Text,
-) -> Result<Option<i64>, DatabaseFault> {
-    let lines = lines_of(transaction, FIND, params![table.as_str(), id.as_str()])?;
+    entry: &EntryRecord,
+) -> Result<Option<KeptEntry>, DatabaseFault> {
+    let lines = lines_of(
+        transaction,
+        FIND,
+        params![entry.table.as_str(), entry.id.as_str()],
+    )?;
     match lines.as_slice().first() {
-        Some(line) => Ok(Some(place_at(line, 0)?)),
+        Some(line) => Ok(Some(KeptEntry {
+            place: place_at(line, 0)?,
+            has_datum: slice_at(line, 1)? == entry.datum.as_slice(),
+        })),
         None => Ok(None),
     }
 }

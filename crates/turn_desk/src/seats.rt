@@ -9,6 +9,7 @@ use crate::rule::{Board, Place};
 use crate::sleepers::Sleepers;
 use crate::steps::{give_same, give_written, look, try_take};
 use portal_core::storied::Storied;
+use portal_desk::TryDesk;
 use portal_model::asked::Asked;
 use portal_model::request::Request;
 use std::alloc::Global;
@@ -213,4 +214,28 @@ impl<'a, S: Storied> Seat<'a, S> {
         let turn = self.turn;
         turn.sleepers.wait(rt, &turn.board.shared);
     }
+}
+
+impl<'a, S: Storied> TryDesk for Seat<'a, S> {
+    ghost use Rattle.turn_desk.specs.Sights.{Stays, seated_of};
+    ghost use Rattle.turn_desk.specs.Staying.{stays_put, stays_further};
+
+    ghost seated = { seated_of };
+
+    ghost busy = { λ s. s.knows.losses };
+
+    // It is the same seat of the same turn.
+    ghost goes = { Stays };
+
+    fn try_ask(&mut self, alloc: Global, request: Request) -> Asked {
+        Seat::try_ask(self, alloc, request)
+    }
+
+    fn known(&self) {
+        Seat::known(self);
+    }
+
+    ghost stands = { stays_put };
+
+    ghost follows = { stays_further };
 }

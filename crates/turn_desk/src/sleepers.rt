@@ -11,9 +11,10 @@ use std::sync::atomic::{AtomicU64, Ordering};
 /// The word that says whose turn it is.
 const TURN: usize = 0;
 
-/// How often a seat looks whether the turn is free before it sleeps. Together
-/// these looks take some microseconds, which is less than a sleep costs.
-const LOOKS: u32 = 100;
+/// How often a seat looks whether the turn is free before it sleeps. Together these
+/// looks take some twenty microseconds: as long as the turns of a few others, and less
+/// than it costs both sides that one sleeps and is woken.
+const LOOKS: u32 = 400;
 
 /// How many seats sleep until the turn is given back, or are about to.
 #[derive(Drop)]

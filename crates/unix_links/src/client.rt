@@ -1,10 +1,13 @@
 //! The two ends of a link to a client, which share its connection.
 
 ghost use Rattle.std.specs.Io.{ReadsAtMost, WritesAtMost};
+ghost use Rattle.std.specs.Prelude.{◌≤◌, length};
 
 use crate::bell::{Bell, is_ready};
+use crate::eagerness::Eagerness;
 use libc::net::{POLLIN, POLLOUT};
 use std::alloc::Global;
+use std::hint::spin_loop;
 use std::io;
 use std::io::{BufWriter, ErrorKind, Read, Write};
 use std::os::fd::AsRawFd;
@@ -13,6 +16,14 @@ use std::sync::{Arc, Mutex, MutexGuard};
 
 /// How many bytes of answers are kept at most. An answer that is as long is never copied.
 const MOST_KEPT: usize = 65_536;
+
+/// The system hands on what a client sends at once in parts of so many bytes: 32 KiB in pages of
+/// their own, and what has room in one page beside its header. Behind a last part of this length
+/// more is under way.
+const PART: usize = 36_544;
+
+/// How often a read looks at most for what stands behind such parts.
+const LOOKS_BEHIND: u32 = 64;
 
 /// How long the writes to a client that doesn't read may wait once the bell rings, in
 /// milliseconds.
@@ -109,6 +120,9 @@ pub struct ClientReader<'a> {
     stream: Arc<UnixStream>,
     bell: &'a Bell,
     answers: Arc<Answers<'a>>,
+    eagerness: Eagerness,
+    /// What was met behind the bytes of the last read, which the next one tells.
+    met: Option<io::Error>,
 }
 
 impl<'a> ClientReader<'a> {
@@ -118,23 +132,75 @@ impl<'a> ClientReader<'a> {
         let mut stream: &UnixStream = &*self.stream;
         stream.read(buffer)
     }
-}
 
-impl<'a> Read for ClientReader<'a> {
-    fn read(&mut self, buffer: &mut [u8]) -> io::Result<usize> {
-        taken(&*self.answers)?.flush()?;
-        for _ in 0..u64::MAX {
+    /// The next bytes that come, once there are some, or none where the bell rings.
+    fn read_next(&mut self, buffer: &mut [u8]) -> io::Result<usize>
+        ensures { ReadsAtMost result buffer.new }
+    {
+        let looks = self.eagerness.looks();
+        for look in 0..u64::MAX {
             if self.bell.rings() {
                 return Ok(0);
             }
             match self.read_now(buffer) {
                 Err(error) if error.kind() == ErrorKind::WouldBlock => {
-                    self.bell.wait(self.stream.as_raw_fd(), POLLIN);
+                    if look < looks {
+                        spin_loop();
+                    } else {
+                        self.eagerness.waits();
+                        self.bell.wait(self.stream.as_raw_fd(), POLLIN);
+                    }
                 }
-                answer => return answer,
+                answer => {
+                    if 0 < look && look <= looks {
+                        self.eagerness.pays_off();
+                    }
+                    return answer;
+                }
             }
         }
         Err(io::Error::from(ErrorKind::WouldBlock))
+    }
+
+    /// Reads the parts behind the first bytes of the buffer, of which so many came: how many there
+    /// are then. What is met instead is told by the next read.
+    fn read_behind(&mut self, buffer: &mut [u8], came: usize) -> usize
+        ensures { result ≤ length buffer.new }
+    {
+        let mut held = came;
+        for _ in 0..LOOKS_BEHIND {
+            let Some(room) = buffer.get_mut(held..) else {
+                break;
+            };
+            if held % PART != 0 || room.is_empty() {
+                break;
+            }
+            match self.read_now(room) {
+                Ok(0) => break,
+                Ok(more) => held = held.saturating_add(more),
+                Err(error) if error.kind() == ErrorKind::WouldBlock => spin_loop(),
+                Err(error) => {
+                    self.met = Some(error);
+                    break;
+                }
+            }
+        }
+        held.min(buffer.len())
+    }
+}
+
+impl<'a> Read for ClientReader<'a> {
+    fn read(&mut self, buffer: &mut [u8]) -> io::Result<usize> {
+        if let Some(error) = self.met.take() {
+            return Err(error);
+        }
+        taken(&*self.answers)?.flush()?;
+        match self.read_next(buffer) {
+            // An item that comes in parts has to be put together by a copy, which costs more than to
+            // look for them.
+            Ok(came) if came >= PART => Ok(self.read_behind(buffer, came)),
+            answer => answer,
+        }
     }
 }
 
@@ -180,6 +246,8 @@ pub(crate) fn ends<'a>(alloc: Global, stream: UnixStream, bell: &'a Bell) -> io:
         stream,
         bell,
         answers,
+        eagerness: Eagerness::new(),
+        met: None,
     };
     Ok((reader, writer))
 }

@@ -12,6 +12,7 @@
 //! | `bell` | [`Bell`], at which links end, and listeners give links of the program's own |
 //! | `link` | [`LinkReader`] and [`LinkWriter`], the ends of a link |
 //! | `client` | [`ClientReader`] and [`ClientWriter`], the ends of a client's link, which share its connection and the answers that weren't sent yet |
+//! | `eagerness` | how eagerly a client is waited for |
 //! | `patient` | [`Patient`], a reader that is called again where it is interrupted |
 //! | `error` | why a socket can't stand somewhere |
 //!
@@ -27,6 +28,7 @@
 
 mod bell;
 mod client;
+mod eagerness;
 mod error;
 mod folder;
 mod link;

@@ -10,4 +10,4 @@ returns-clause-ok g c = λ size moment.
     c.open_name.result c.open_name.ensures.ok
 
 pub returns-clause-err : goal.returns-clause-err
-returns-clause-err g c = on_err_weaker c.open_name.result (wants-after c.args.call.now.seat c.args.handles.now c.take_room.new.handles _ _ _ c.take_room.ensures.kept) c.open_name.ensures.err
+returns-clause-err g c = on_err_weaker c.open_name.result (wants-after 1 c.args.call.now.seat c.args.handles.now c.take_room.new.handles _ _ _ c.take_room.ensures.kept) c.open_name.ensures.err

@@ -1,9 +1,9 @@
-use Rattle.std.proofs.Common.{◌≡◌, ap, subst, sym, ◌∙◌}
+use Rattle.std.proofs.Common.{◌≡◌, ap, refl, subst, sym, ◌∙◌}
 use Rattle.std.proofs.lemmas.Result.{IfOk-weaker, on_err_weaker}
 use Rattle.portal_model.specs.declared.request.NodeOp.TheVariants as NodeOp
 use Rattle.node_looks.specs.Done.{Forgets}
 use Rattle.node_looks.proofs.DoneLemmas.{IsExact, tells-does}
-use Rattle.file_ops.proofs.Tries.{once-wants}
+use Rattle.file_ops.proofs.Tries.{called-so, once-so, wants-so}
 use Rattle.file_ops.proofs.serve.serve_node.Goals as goal
 
 pub returns-in-Lookup-clause-ok : goal.returns-in-Lookup-clause-ok
@@ -40,15 +40,35 @@ returns-in-Fsync-clause-ok g c = c.fsync.ensures.ok c.in-Fsync.is c.args.book.no
 
 pub returns-in-Fsync-clause-err : goal.returns-in-Fsync-clause-err
 returns-in-Fsync-clause-err g c =
-    on_err_weaker c.fsync.result (once-wants c.args.handles.now _ _) c.fsync.ensures.err
+    on_err_weaker c.fsync.result (once-so _ _ c.args.handles.now _ _ c.in-Fsync.is refl) c.fsync.ensures.err
 
 pub returns-in-Read-clause-ok : goal.returns-in-Read-clause-ok
 returns-in-Read-clause-ok g c = c.read.ensures.ok c.in-Read.is
 
 pub returns-in-Read-clause-err : goal.returns-in-Read-clause-err
 returns-in-Read-clause-err g c =
-    on_err_weaker c.read.result (once-wants c.args.handles.now _ _) c.read.ensures.err
+    on_err_weaker c.read.result (once-so _ _ c.args.handles.now _ _ c.in-Read.is refl) c.read.ensures.err
 
 pub returns-in-Access-clause-ok : goal.returns-in-Access-clause-ok
 returns-in-Access-clause-ok g c =
     IfOk-weaker c.access.result _ _ (λ done h. tells-does c.args.book.now c.args.call.now c.args.handles.now (g.T.HostTree.is c.args.tree.now) done (g.T.HostTree.is c.access.new.tree) (subst IsExact (sym c.in-Access.is) tt) h) (c.access.ensures.ok c.in-Access.is)
+
+pub returns-in-SetAttr-clause-err : goal.returns-in-SetAttr-clause-err
+returns-in-SetAttr-clause-err g c =
+    on_err_weaker c.set_attr.result (called-so _ _ c.args.handles.now _ _ c.in-SetAttr.is) c.set_attr.ensures.err
+
+pub returns-in-Write-clause-err : goal.returns-in-Write-clause-err
+returns-in-Write-clause-err g c =
+    on_err_weaker c.write.result (called-so _ _ c.args.handles.now _ _ c.in-Write.is) c.write.ensures.err
+
+pub returns-in-Open-clause-err : goal.returns-in-Open-clause-err
+returns-in-Open-clause-err g c =
+    on_err_weaker c.open.result (wants-so _ _ c.args.handles.now _ _ _ c.in-Open.is) c.open.ensures.err
+
+pub returns-in-Create-clause-err : goal.returns-in-Create-clause-err
+returns-in-Create-clause-err g c =
+    on_err_weaker c.create.result (wants-so _ _ c.args.handles.now _ _ _ c.in-Create.is) c.create.ensures.err
+
+pub returns-in-OpenDir-clause-err : goal.returns-in-OpenDir-clause-err
+returns-in-OpenDir-clause-err g c =
+    on_err_weaker c.open_dir.result (wants-so _ _ c.args.handles.now _ _ _ c.in-OpenDir.is) c.open_dir.ensures.err

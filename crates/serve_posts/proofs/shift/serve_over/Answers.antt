@@ -24,8 +24,12 @@ turns-init g c =
     let first = stand (g.S.Storied.opening c.args.story) (g.S.Storied.entries c.args.story) c.args.posts (all_unserved c.args.posts) in
     let next = stand (g.S.Storied.opening c.in_ok-shift.shift.story) (g.S.Storied.entries c.in_ok-shift.shift.story) c.in_ok-shift.shift.posts c.in_ok-shift.shift.ends in
     let many : c.in_ok-ends.ends ≡ all_unserved c.args.posts = c.in_ok-ends.ensures ∙ ap (λ (n : ℕ). replicate n unserved) c.len.ensures in
+    let kept = c.kept_ahead-story in
+    let begun : OneTurn s hall_of c.args.settings.now (stand (g.S.Storied.opening kept.result) (g.S.Storied.entries kept.result) c.args.posts (all_unserved c.args.posts)) next =
+    subst (λ (ends : List WorkEnd). OneTurn s hall_of c.args.settings.now (stand (g.S.Storied.opening kept.result) (g.S.Storied.entries kept.result) c.args.posts ends) next) many c.in_ok-shift.ensures.turn in
     let turn : OneTurn s hall_of c.args.settings.now first next =
-    subst (λ (ends : List WorkEnd). OneTurn s hall_of c.args.settings.now (stand (g.S.Storied.opening c.args.story) (g.S.Storied.entries c.args.story) c.args.posts ends) next) many c.in_ok-shift.ensures.turn in
+    subst (λ (o : State). OneTurn s hall_of c.args.settings.now (stand o (g.S.Storied.entries c.args.story) c.args.posts (all_unserved c.args.posts)) next) kept.ensures.opening
+    (subst (λ (h : List Entry). OneTurn s hall_of c.args.settings.now (stand (g.S.Storied.opening kept.result) h c.args.posts (all_unserved c.args.posts)) next) kept.ensures.entries begun) in
     (tt, tt, (zero, refl, turn), closed_after s hall_of c.args.settings.now first next turn (length-replicate (length c.args.posts) unserved) c.requires.closed)
 
 pub returns-then-not-any_left : goal.returns-then-not-any_left
@@ -35,6 +39,12 @@ returns-then-not-any_left g c =
     let none : list_any is_left c.turns.shift.ends ≡ false = search rules in
     served_all s hall_of c.args.settings.now c.turns.invariant.2.0 c.turns.rounds (g.S.Storied.opening c.args.story) (g.S.Storied.entries c.args.story) c.args.posts
     (stand (g.S.Storied.opening c.turns.shift.story) (g.S.Storied.entries c.turns.shift.story) c.turns.shift.posts c.turns.shift.ends) c.turns.invariant.2.1 c.turns.invariant.2.2 none
+
+pub serve_turn-requires-clause-closed : goal.serve_turn-requires-clause-closed
+serve_turn-requires-clause-closed g c κs within =
+    let kept = c.kept_ahead-story in
+    subst (λ (o : State). AllClosed o (g.S.Storied.entries kept.result)) (sym kept.ensures.opening)
+    (subst (λ (h : List Entry). AllClosed (g.S.Storied.opening c.args.story) h) (sym kept.ensures.entries) c.requires.closed)
 
 pub serve_turn-requires-in-turns-clause-count : goal.serve_turn-requires-in-turns-clause-count
 serve_turn-requires-in-turns-clause-count g c κs within =

@@ -71,3 +71,15 @@ returns-clause-ok g c =
 
 pub returns-in_err-make_room-clause-here : goal.returns-in_err-make_room-clause-here
 returns-in_err-make_room-clause-here g c = λ h. absurd (absent_closed (g.T.HostTree.is c.self.inside.tree).began c.self.inside.opening c.self.inside.history.entries c.self.inside.history.limit c.self.inside.documents c.self.inside.rights c.self.inside.applications c.self.inside.connections c.self.inside.handles (g.T.HostTree.is c.self.inside.tree).told c.self.invariant.0 c.args.seat (search rules) (rw (← c.self.view_is) at h))
+
+pub returns-in_err-make_room-clause-freed : goal.returns-in_err-make_room-clause-freed
+returns-in_err-make_room-clause-freed g c = λ h. absurd (absent_closed (g.T.HostTree.is c.self.inside.tree).began c.self.inside.opening c.self.inside.history.entries c.self.inside.history.limit c.self.inside.documents c.self.inside.rights c.self.inside.applications c.self.inside.connections c.self.inside.handles (g.T.HostTree.is c.self.inside.tree).told c.self.invariant.0 c.args.seat (search rules) (rw (← c.self.view_is) at h))
+
+pub returns-then-not-is_here-clause-freed : goal.returns-then-not-is_here-clause-freed
+returns-then-not-is_here-clause-freed g c = λ h. absurd (absent_closed (g.T.HostTree.is c.self.inside.tree).began c.self.inside.opening c.self.inside.history.entries c.self.inside.history.limit c.self.inside.documents c.self.inside.rights c.self.inside.applications c.self.inside.connections c.self.inside.handles (g.T.HostTree.is c.self.inside.tree).told c.self.invariant.0 c.args.seat (search rules) (rw (← c.self.view_is) at h))
+
+pub returns-clause-freed : goal.returns-clause-freed
+returns-clause-freed g c = λ h.
+    let here : is_some (connection_of c.self.inside.connections c.args.seat) ≡ true = search rules in
+    let fewer : length (of_others c.args.seat c.self.inside.connections) < length c.self.inside.connections = fewer_others c.args.seat c.self.inside.connections here in
+    rw (← c.self.view_is) (rw (c.push-2.ensures, c.of_others.ensures, c.replace-connections.ensures.value) (omega (arith, fewer, c.self.invariant.1, c.leave-2.ensures.room)))

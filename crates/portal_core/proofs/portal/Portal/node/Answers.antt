@@ -1,4 +1,5 @@
-use Rattle.std.proofs.Common.{◌≡◌, ◌≢◌, ◌≤◌, ◌+◌, ℕ, List, ◌∷◌, ◌++◌, [], ap, arith, refl, rules, subst, sym, ◌∙◌}
+use Rattle.std.proofs.Common.{◌≡◌, ◌≢◌, ◌≤◌, ◌<◌, ◌+◌, ℕ, false, true, List, ◌∷◌, ◌++◌, [], length, ap, arith, refl, rules, subst, sym, ◌∙◌}
+use Rattle.file_ops.specs.Wanting.{calls_in_vain}
 use Rattle.node_looks.specs.Done.{Reads}
 use Rattle.node_looks.specs.Served.{given_to}
 use Rattle.node_serving.specs.Seats.{seat_calls, seat_step}
@@ -13,7 +14,7 @@ use Rattle.portal_model.specs.Lawful.{Lawful}
 use Rattle.portal_model.specs.Opening.{opened_over}
 use Rattle.portal_model.specs.Step.{reply_at, reply_with}
 use Rattle.portal_steps.specs.Served.{node_entry}
-use Rattle.portal_steps.specs.Story.{state_first, state_now}
+use Rattle.portal_steps.specs.Story.{Story, state_first, state_now}
 use Rattle.portal_steps.specs.TreeCalls.{Calling, entry_calls}
 use Rattle.portal_steps.proofs.CallSteps.{stands_over, stored_over}
 use Rattle.portal_steps.proofs.NodeSteps.{calls-keep, never-kept, replied-node, still-file, told-on, was-called-keeps}
@@ -22,6 +23,7 @@ use Rattle.portal_steps.proofs.Steps.{entered-now, keeps-node, lawful_node, loud
 use Rattle.portal_steps.proofs.WentDevices.{same-portal, spends-node, went-node}
 use Rattle.portal_core.proofs.HeldCounts.{held_node, held_over}
 use Rattle.portal_core.specs.LookUps.{AreHeld}
+use Rattle.portal_core.specs.Reserve.{room_in}
 use Rattle.inode_table.specs.declared.inodes.SeatNode.{SeatNode}
 use Rattle.portal_core.proofs.portal.Portal.node.Goals as goal
 
@@ -40,6 +42,7 @@ invariant_of-self-in-Ok g c =
     let done = c.in-Ok.done in
     let room = rw (c.as_slice.ensures) at c.in_ok-make_room.ensures.room in
     let count = c.serve-served.ensures.count in
+    let counted = rw c.keep_ahead.ensures.counts at c.in-Ok.ensures.counts in
     let at = run (opened_over tree.began k.opening) k.history.entries in
     let s = c.in-Ok.ensures.ok (quiet at) (served_in tree.began k.opening k.history.entries k.history.limit k.documents k.rights k.applications k.connections k.handles tree.told c.self.invariant.0 _ refl refl refl refl) in
     let fits : cost k.history.entries + cost_of (Request.Node c.args.request) ≤ k.opening.limits.history = rw (← c.self.view_is) at c.requires in
@@ -56,7 +59,7 @@ invariant_of-self-in-Ok g c =
           (stored_node tree.began k.opening k.history.entries k.history.limit k.documents k.rights k.applications k.connections k.handles tree.told c.self.invariant.0 c.args.seat c.args.request tree done new.connections new.handles after s k.tables k.outboxes c.self.invariant.3),
       c.self.invariant.4,
       held_over tree.began after.began k.opening (k.history.entries ++ node_entry c.args.seat c.args.request done ∷ []) new.counts.counts kept
-          (held_node (opened_over tree.began k.opening) k.history.entries (node_entry c.args.seat c.args.request done) c.args.request done.answer at.told k.counts.counts new.counts.counts refl c.in-Ok.ensures.counts loud.serves.reply c.self.invariant.5),
+          (held_node (opened_over tree.began k.opening) k.history.entries (node_entry c.args.seat c.args.request done) c.args.request done.answer at.told k.counts.counts new.counts.counts refl counted loud.serves.reply c.self.invariant.5),
     )
 
 pub invariant_of-self-in-Err : goal.invariant_of-self-in-Err
@@ -65,7 +68,7 @@ invariant_of-self-in-Err g c =
     let tree = g.T.HostTree.is k.tree in
     let after = g.T.HostTree.is c.serve-served.new.tree in
     let room = rw (c.as_slice.ensures) at c.in_ok-make_room.ensures.room in
-    let kept = was-called-keeps tree after c.in-Err.ensures.err.calls in
+    let kept = was-called-keeps (calls_in_vain c.args.request.op) tree after c.in-Err.ensures.err.calls in
     let wanting = stands_wanting tree.began k.opening k.history.entries k.history.limit k.documents k.rights k.applications k.connections k.handles tree.told c.self.invariant.0 c.serve-served.new.handles c.in-Err.ensures.err.handles in
     let both = stands_over tree.began after.began k.opening k.history.entries k.history.limit k.documents k.rights k.applications k.connections c.serve-served.new.handles tree.told after.told (g.K.Keeper.is k.keeper).told kept.0 kept.1 wanting c.self.invariant.2 in
     rw (c.in-Err.ensures.connections, c.in_ok-make_room.ensures.entries, c.in_ok-make_room.ensures.limit) (
@@ -75,7 +78,7 @@ invariant_of-self-in-Err g c =
       stored_over tree.began after.began k.opening k.history.entries k.tables k.outboxes kept.0 c.self.invariant.3,
       c.self.invariant.4,
       held_over tree.began after.began k.opening k.history.entries c.serve-served.new.counts.counts kept.0
-          (subst (λ (counts : List (SeatNode × ℕ)). AreHeld (opened_over tree.began k.opening) k.history.entries counts) (sym c.in-Err.ensures.kept) c.self.invariant.5),
+          (subst (λ (counts : List (SeatNode × ℕ)). AreHeld (opened_over tree.began k.opening) k.history.entries counts) (sym (c.in-Err.ensures.kept ∙ c.keep_ahead.ensures.counts)) c.self.invariant.5),
     )
 
 pub returns-in-Ok-clause-ok : goal.returns-in-Ok-clause-ok
@@ -121,7 +124,7 @@ returns-in-Ok-clause-began g c =
 
 pub returns-in-Err-clause-began : goal.returns-in-Err-clause-began
 returns-in-Err-clause-began g c =
-    rw (← c.self.view_is) (was-called-keeps (g.T.HostTree.is c.self.inside.tree) (g.T.HostTree.is c.serve-served.new.tree) c.in-Err.ensures.err.calls).0
+    rw (← c.self.view_is) (was-called-keeps (calls_in_vain c.args.request.op) (g.T.HostTree.is c.self.inside.tree) (g.T.HostTree.is c.serve-served.new.tree) c.in-Err.ensures.err.calls).0
 
 pub returns-in-Ok-clause-fault : goal.returns-in-Ok-clause-fault
 returns-in-Ok-clause-fault g c =
@@ -141,10 +144,42 @@ returns-in-Ok-clause-failure g c =
 
 pub returns-in-Err-clause-err : goal.returns-in-Err-clause-err
 returns-in-Err-clause-err g c =
-    let kept = was-called-keeps (g.T.HostTree.is c.self.inside.tree) (g.T.HostTree.is c.serve-served.new.tree) c.in-Err.ensures.err.calls in
-    spends-node _ _ _ _ _ _ _ (λ h. rw (← c.self.view_is) (c.in-Err.ensures.unasked h)) (λ h. rw (← c.self.view_is) (c.serve-served.ensures.unread h)) (rw (← c.self.view_is) c.in-Err.ensures.err.calls) (search rules) (rw (← c.self.view_is) c.in-Err.ensures.clock_err) (search rules) (rw (← c.self.view_is) kept.0) (search rules) (search rules)
+    let kept = was-called-keeps (calls_in_vain c.args.request.op) (g.T.HostTree.is c.self.inside.tree) (g.T.HostTree.is c.serve-served.new.tree) c.in-Err.ensures.err.calls in
+    spends-node _ _ _ _ _ _ _ c.args.request refl (λ h. rw (← c.self.view_is) (c.in-Err.ensures.unasked h)) (λ h. rw (← c.self.view_is) (c.serve-served.ensures.unread h)) (rw (← c.self.view_is) c.in-Err.ensures.err.calls) (search rules) (rw (← c.self.view_is) c.in-Err.ensures.clock_err) (search rules) (rw (← c.self.view_is) kept.0) (search rules) (search rules)
 
 pub returns-in-Err-clause-unasked : goal.returns-in-Err-clause-unasked
 returns-in-Err-clause-unasked g c = λ h.
-    let kept = was-called-keeps (g.T.HostTree.is c.self.inside.tree) (g.T.HostTree.is c.serve-served.new.tree) c.in-Err.ensures.err.calls in
-    same-portal _ _ (rw (← c.self.view_is) (c.in-Err.ensures.unasked h)) (search rules) (rw (← c.self.view_is) (c.serve-served.ensures.unread (still-file c.args.request.op h))) (search rules) (rw (← c.self.view_is) kept.0) (search rules) (search rules)
+    let kept = was-called-keeps (calls_in_vain c.args.request.op) (g.T.HostTree.is c.self.inside.tree) (g.T.HostTree.is c.serve-served.new.tree) c.in-Err.ensures.err.calls in
+    let k = c.self.inside in
+    let served = c.serve-served.new in
+    let story : Story = record { began = (g.T.HostTree.is served.tree).began; opening = k.opening; history = c.make_room.new.history.entries } in
+    let spare = room_in (length served.connections) c.make_room.new.history.spare served.counts.room served.rooms in
+    same-portal c.args.self.now (record { tree = served.tree; keeper = k.keeper; clock = served.clock; words = k.words; story = story; spare = spare; refusals = k.refusals })
+    (rw (← c.self.view_is) (c.in-Err.ensures.unasked h)) (search rules) (rw (← c.self.view_is) (c.serve-served.ensures.unread (still-file c.args.request.op h))) (search rules) (rw (← c.self.view_is) kept.0) (search rules) (search rules)
+
+-- ---- memory that was taken ahead
+
+pub returns-in_err-make_room-clause-reserved : goal.returns-in_err-make_room-clause-reserved
+returns-in_err-make_room-clause-reserved g c = λ r h.
+    let k = c.self.inside in
+    let spare : 0 < room_in (length k.connections) k.history.spare k.counts.room k.rooms = rw (← c.self.view_is) at h in
+    let no : false ≡ true = c.in_err-make_room.ensures.reserved (rw c.as_slice.ensures (omega (arith, spare))) in
+    absurd (cc)
+
+pub returns-in-Err-clause-reserved : goal.returns-in-Err-clause-reserved
+returns-in-Err-clause-reserved g c = λ r h.
+    let k = c.self.inside in
+    let spare : 0 < room_in (length k.connections) k.history.spare k.counts.room k.rooms = rw (← c.self.view_is) at h in
+    let no : false ≡ true = c.in-Err.ensures.reserved r (omega (arith, spare, c.keep_ahead.ensures.rooms)) (omega (arith, spare, c.keep_ahead.ensures.room)) in
+    absurd (cc)
+
+pub returns-in-Ok-clause-spare : goal.returns-in-Ok-clause-spare
+returns-in-Ok-clause-spare g c =
+    rw (← c.self.view_is) (rw c.push.ensures (omega (arith, c.serve-served.ensures.count, c.serve-served.ensures.rooms, c.serve-served.ensures.room, c.keep_ahead.ensures.rooms, c.keep_ahead.ensures.room, c.in_ok-make_room.ensures.spare)))
+
+pub returns-in-Err-clause-spare : goal.returns-in-Err-clause-spare
+returns-in-Err-clause-spare g c =
+    rw (← c.self.view_is) (omega (arith, c.serve-served.ensures.count, c.serve-served.ensures.rooms, c.serve-served.ensures.room, c.keep_ahead.ensures.rooms, c.keep_ahead.ensures.room, c.in_ok-make_room.ensures.spare))
+
+pub returns-in_err-make_room-clause-spare : goal.returns-in_err-make_room-clause-spare
+returns-in_err-make_room-clause-spare g c = rw (← c.self.view_is) (omega (arith, c.in_err-make_room.ensures.spare))

@@ -1,6 +1,7 @@
-use Rattle.std.proofs.Common.{ℕ, List, ap, arith, sym}
+use Rattle.std.proofs.Common.{◌≡◌, ℕ, List, ap, arith, length, sym}
 use Rattle.change_signals.specs.Unsent.{Boxes, unsent_on}
 use Rattle.portal_core.proofs.Beginning.{stands_first}
+use Rattle.portal_core.specs.Reserve.{room_in}
 use Rattle.inode_table.specs.Counts.{count_of}
 use Rattle.inode_table.specs.declared.inodes.SeatNode.{SeatNode}
 use Rattle.portal_core.proofs.portal.Portal.over.Goals as goal
@@ -19,3 +20,17 @@ invariant_of-result g c =
       c.requires.started,
       λ seat node. ap (λ (counts : List (SeatNode × ℕ)). count_of counts seat node) c.new-3.ensures,
     )
+
+pub returns : goal.returns
+returns g c =
+    let tree = g.T.HostTree.is c.args.tree in
+    let none : room_in (length c.new-2.result) c.new-history.result.spare c.new-3.result.room c.new-4.result ≡ 0 = omega (arith, c.new-4.ensures) in
+    λ i. record {
+      tree = c.args.tree;
+      keeper = c.args.keeper;
+      clock = c.args.clock;
+      words = c.args.words;
+      story = record { began = tree.began; opening = c.args.lists.opening; history = c.new-history.ensures.entries i };
+      spare = none i;
+      refusals = 0;
+    }

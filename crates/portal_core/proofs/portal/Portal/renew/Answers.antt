@@ -53,4 +53,5 @@ returns-clause-ok g c =
       keeper_kept = refl;
       clock_kept = refl;
       words_kept = refl;
+      refusals_kept = refl;
     })

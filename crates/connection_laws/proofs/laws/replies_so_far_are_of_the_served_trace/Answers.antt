@@ -1,0 +1,5 @@
+use Rattle.connection_laws.proofs.ServedSoFar.{served-replies-so-far}
+use Rattle.connection_laws.proofs.laws.replies_so_far_are_of_the_served_trace.Goals as goal
+
+pub returns : goal.returns
+returns c = served-replies-so-far
