@@ -9,8 +9,9 @@
 //!
 //! **Rooms**: [`outside`] has sources and sinks that may say "not yet", [`prompt`]
 //! those that never do. [`course`] is how far a connection has come and [`meet`] how
-//! it ends. [`ask`], [`read`] and [`send`] are the steps of a poll, [`serve`] goes on by them, [`stages`] are Enter,
-//! the items and Leave, and [`poll_session`] is the connection as a future.
+//! it ends. [`ask`], [`read`] and [`send`] are the steps of a poll, [`serve`] goes on by
+//! them, [`stages`] are Enter, the items and Leave, and [`poll_session`] is the
+//! connection as a future. [`laws`] are the laws of polls in a row.
 //!
 //! ```text
 //! let session = PollSession::new(alloc, desk, who, Kind::Mount, settings, source, sink);
