@@ -26,7 +26,8 @@ use std::marker::Model;
 /// those that say that no file is there.
 #[derive(Drop)]
 pub struct RealTree<R: Waiter> {
-    below: FilesBelow<R>,
+    // In a box: a tree is a part of the portal, which is moved at each request.
+    below: Box<FilesBelow<R>>,
     faults: u64,
 }
 
@@ -54,7 +55,7 @@ impl<R: Waiter> RealTree<R> {
         ensures { IfOk result (λ tree. tree ≡ 0) }
     {
         Ok(RealTree {
-            below: FilesBelow::open(rt, system, alloc, root, kept)?,
+            below: Box::new(alloc, FilesBelow::open(rt, system, alloc, root, kept)?)?,
             faults: 0,
         })
     }

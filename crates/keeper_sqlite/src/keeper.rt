@@ -24,7 +24,8 @@ use std::marker::Model;
 #[derive(Drop)]
 pub struct SqliteKeeper {
     alloc: Global,
-    conn: Connection<FileStore<File>>,
+    // In a box: a keeper is a part of the portal, which is moved at each request.
+    conn: Box<Connection<FileStore<File>>>,
     faults: u64,
     last_fault: Option<KeeperFault>,
 }
@@ -47,7 +48,7 @@ impl SqliteKeeper {
     {
         Ok(SqliteKeeper {
             alloc: rt.alloc(),
-            conn: open_database(rt, path)?,
+            conn: Box::new(rt.alloc(), open_database(rt, path)?)?,
             faults: 0,
             last_fault: None,
         })
@@ -69,7 +70,7 @@ impl SqliteKeeper {
             faults: _,
             last_fault: _,
         } = self;
-        conn.close()?;
+        Box::into_inner(conn).close()?;
         Ok(())
     }
 }
@@ -98,7 +99,7 @@ impl Keeper for SqliteKeeper {
         ensures fault { is_load_fault result ≡ true → IsOfDatabase self.new.last }
         ensures stays { is_load_fault result ≡ false → self.new.last ≡ self.old.last }
     {
-        match read_records(self.alloc, &mut self.conn) {
+        match read_records(self.alloc, &mut *self.conn) {
             Ok(records) => KeeperLoad::Got(records),
             Err(DatabaseFault::Memory) => KeeperLoad::Memory,
             // A row that can't be read as a record is a fault, and not a bad record, which has a
@@ -125,7 +126,7 @@ impl Keeper for SqliteKeeper {
             self.meet(KeeperFault::Unkept);
             return KeeperDone::Failed;
         }
-        match make_all(self.alloc, &mut self.conn, changes.as_slice()) {
+        match make_all(self.alloc, &mut *self.conn, changes.as_slice()) {
             Ok(()) => KeeperDone::Done,
             Err(DatabaseFault::Memory) => KeeperDone::Memory,
             Err(fault) => {
