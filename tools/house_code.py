@@ -12,8 +12,26 @@ from pathlib import Path
 TOP = Path(__file__).resolve().parent.parent
 LINES, PARAMETERS, COLUMNS, FILE, REPEAT = 40, 8, 100, 800, 12
 
-# By crate and function or file: why it may be so.
-ALLOWED = {}
+VARIANTS = 'a match with an arm for each variant'
+LISTS = 'it lends the lists of an addition, each device and the request'
+
+# By file and function: why it may be so.
+ALLOWED = {
+    ('app_trace/src/same_data.rt', 'is_same'): VARIANTS,
+    ('app_trace/src/same_request.rt', 'is_same'): VARIANTS,
+    ('app_trace/src/same_store.rt', 'is_same'): VARIANTS,
+    ('file_ops/src/serve.rt', 'serve_node'): VARIANTS,
+    ('portal_model/src/store.rt', 'replica'): VARIANTS,
+    ('add_calls/src/place.rt', 'place_item'): LISTS,
+    ('add_serving/src/calls.rt', 'add'): LISTS,
+    ('add_serving/src/calls.rt', 'add_presented'): LISTS,
+    ('add_serving/src/calls.rt', 'add_planned'): LISTS,
+    ('portal_steps/src/additions.rt', 'serve_add'): LISTS,
+    ('portal_steps/src/additions.rt', 'add_on'): LISTS,
+    ('portal_steps/src/documents.rt', 'serve'): 'it lends the lists, a keeper and the request',
+    ('node_serving/src/seat.rt', 'serve'): 'it lends the lists, each device and the request',
+    ('serve_posts/src/serve.rt', 'serve'): 'the four devices, the posts and their settings',
+}
 
 FUNCTION = re.compile(r'^(\s*)(?:pub(?:\([a-z]+\))? )?(?:const )?fn (\w+)')
 # Lines that can't be broken: imports, rows of tables, and the lemmas that a proof is found by.

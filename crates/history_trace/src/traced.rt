@@ -81,10 +81,10 @@ fn replay_all(
     let mut files = files_of(alloc, opening)?;
     let mut told = List::new(alloc);
     for place in 0..history.len() {
-        let Some(entry) = history.entry(place) else {
-            unreachable!();
-        };
-        replay(alloc, portal, app, entry, &mut files, &mut told)?;
+        match history.entry(place) {
+            Some(entry) => replay(alloc, portal, app, entry, &mut files, &mut told)?,
+            None => unreachable!(),
+        }
     }
     Ok(told)
 }

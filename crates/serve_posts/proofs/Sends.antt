@@ -8,6 +8,7 @@ use Rattle.document_records.proofs.applications.Applications.TheSendSync as appl
 use Rattle.document_records.proofs.documents.Documents.TheSendSync as documents
 use Rattle.document_records.proofs.grants.Grants.TheSendSync as grants
 use Rattle.inode_table.proofs.inodes.InodeTable.TheSendSync as counts
+use Rattle.node_looks.proofs.rooms.LookRooms.TheSendSync as rooms
 use Rattle.open_handles.proofs.handles.Handles.TheSendSync as handles
 use Rattle.permission_table.proofs.index.EntryIndex.TheSendSync as places
 use Rattle.portal_base.proofs.list.List.TheSendSync as list
@@ -68,7 +69,7 @@ entry = search (request, given.the_field_send, sendable) depth 60 fits 20000
 
 -- what a portal holds
 pub history : IsSend History.the_row
-history = search (entry, crosses, sendable) depth 60 fits 20000
+history = search (entry, list.the_send, crosses, sendable) depth 60 fits 20000
 
 pub outboxes : IsSend Outboxes.the_row
 outboxes = search (change, one_change, list.the_send, crosses, sendable) depth 60 fits 20000
@@ -89,4 +90,4 @@ pub connections : IsSend (List.the_row Connection.the_row)
 connections = list.the_send Connection.the_row connection
 
 -- all of a portal but its devices, as a set for `search`
-pub ruleset portal_parts = (opening, documents.the_send, grants.the_send, applications.the_send, tables, outboxes, connections, handles.the_send, counts.the_send, history, crosses, sendable)
+pub ruleset portal_parts = (opening, documents.the_send, grants.the_send, applications.the_send, tables, outboxes, connections, handles.the_send, counts.the_send, rooms.the_send, history, crosses, sendable)

@@ -60,7 +60,6 @@ where
     requires queued { settings.now.limits.queued < 2 ^ 32 }
     requires told { (T.is tree).told ≡ (T.is tree).began }
     ensures { ServesAs (sides L.In.left L.In.faults L.Out.told L.Out.faults)
-        (halls L.links L.ends L.faults) T.is K.is posts tree keeper clock words settings.now result
         (halls L.links L.ends L.faults) T.is K.is posts tree keeper clock words settings.now result }
 {
     match Portal::start(alloc, tree, keeper, clock, words, settings.limits) {

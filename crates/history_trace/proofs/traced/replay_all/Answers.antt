@@ -1,4 +1,4 @@
-use Rattle.std.proofs.Common.{List, ◌++◌, map, take, ap, sym, ◌∙◌}
+use Rattle.std.proofs.Common.{◌<◌, List, ◌++◌, length, map, take, ap, sym, ◌∙◌, arith}
 use Rattle.app_trace.specs.Told.{item_told}
 use Rattle.app_world.specs.TraceItem.{TraceItem}
 use Rattle.app_world.specs.World.{items_of}
@@ -17,7 +17,9 @@ loop-place-init c = record {
 }
 
 pub unreachable-requires : goal.unreachable-requires
-unreachable-requires c = some-there c.args.history.now.entries c.loop-place.place c.loop-place-test.true c.in-None.ensures
+unreachable-requires c =
+    let more : c.loop-place.place < length c.args.history.now.entries = omega (arith, c.len-place-end.ensures, c.loop-place-test.true) in
+    some-there c.args.history.now.entries c.loop-place.place more c.in-None.ensures
 
 pub replay-requires-clause-lawful : goal.replay-requires-clause-lawful
 replay-requires-clause-lawful c =
@@ -39,12 +41,12 @@ loop-place-preserved c =
     let o = c.args.opening.now in
     let at = c.loop-place.invariant.at in
     record {
-      at = at-next h i e there o c.loop-place.portal.story at c.replay.new.portal.story c.in_ok-replay.ensures.goes;
+      at = at-next h i e there o c.loop-place.portal.story at c.replay.new.portal.story c.in_ok-replay-in-Some.ensures.goes;
       files_are =
-          c.in_ok-replay.ensures.files
+          c.in_ok-replay-in-Some.ensures.files
           ∙ (ap (λ (s : State). (after s e).files) at.state ∙ ap (λ (s : State). s.files) (sym (run-next h i e there (opened o))));
       items_are =
-          c.in_ok-replay.ensures.items
+          c.in_ok-replay-in-Some.ensures.items
           ∙ (ap (λ (s : State). map item_told c.loop-place.told ++ items_of c.args.app.now s e) at.state
           ∙ (ap (λ (xs : List TraceItem). xs ++ items_of c.args.app.now (run (opened o) (take i h)) e) c.loop-place.invariant.items_are
           ∙ sym (items-next h i e there c.args.app.now (opened o))));
