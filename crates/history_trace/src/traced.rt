@@ -9,14 +9,16 @@ ghost use Rattle.portal_model.specs.Opening.{opened};
 ghost use Rattle.history_trace.specs.Replayed.{Begins};
 
 use crate::beginning::{QuietPortal, opened_portal};
-use crate::replay::replay;
+use crate::replay::{follow_entry, replay};
 use app_trace::{Trace, TraceItem, files_of, view_of};
+use named_paths::OpenNumbers;
 use portal_base::list::List;
 use portal_base::memory::WantOfMemory;
 use portal_base::names::AppId;
 use portal_history::History;
 use portal_model::opening::OpeningState;
 use std::alloc::Global;
+use std::collections::BTreeMap;
 
 /// The trace of an application in a legal history, which begins in an opening
 /// state and costs no more than its limit: what it holds of that state, and what
@@ -79,12 +81,14 @@ fn replay_all(
         ≡ items app.now (opened opening.now) history.now.entries) }
 {
     let mut files = files_of(alloc, opening)?;
+    let mut numbers: OpenNumbers = BTreeMap::new(alloc);
     let mut told = List::new(alloc);
     for place in 0..history.len() {
         let Some(entry) = history.entry(place) else {
             unreachable!();
         };
-        replay(alloc, portal, app, entry, &mut files, &mut told)?;
+        replay(alloc, portal, app, entry, &numbers, &mut files, &mut told)?;
+        follow_entry(alloc, portal, entry, &mut numbers)?;
     }
     Ok(told)
 }

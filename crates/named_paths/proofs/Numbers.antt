@@ -182,9 +182,9 @@ kept-others number n (x ∷ xs) e h =
     step true false d f k more = more k
     step false b d f k more = elim b as (λ t. (x == n) ≡ t → (t || is_among xs n) ≡ true →
         (x == n || is_among (filter (λ m. not (m == number)) xs) n) ≡ true) [
-      | true ↦ λ g l. or-left (x == n) (is_among (filter (λ m. not (m == number)) xs) n) g
-      | false ↦ λ g l. or-right (x == n) (is_among (filter (λ m. not (m == number)) xs) n) (more l)
-    ] f k
+          | true ↦ λ g l. or-left (x == n) (is_among (filter (λ m. not (m == number)) xs) n) g
+          | false ↦ λ g l. or-right (x == n) (is_among (filter (λ m. not (m == number)) xs) n) (more l)
+        ] f k
 
 pub dropped : (seat number : ℕ) (old new : OpenNumbers) (was w : Vec ℕ) →
     numbers_of old seat ≡ was.items → w.items ≡ filter (λ k. not (k == number)) was.items →

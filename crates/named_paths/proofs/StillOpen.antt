@@ -87,7 +87,7 @@ mount-seat cs n (Some d) e c m = by_kind (is_mount d.kind) m
     by_kind true k =
         let same : d ≡ c = some-is d c k in (
           ap (λ (x : Connection). x.seat) (sym same)
-          ∙ nat_is d.seat n (found_passes (λ (x : Connection). x.seat == n) cs d e),
+              ∙ nat_is d.seat n (found_passes (λ (x : Connection). x.seat == n) cs d e),
           k,
         )
     by_kind false k = absurd (cc)

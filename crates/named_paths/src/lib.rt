@@ -13,7 +13,7 @@
 //! | `specs/OpenNumbers` | when numbers cover what a state has open |
 //!
 //! ```text
-//! let named = names(&seen, &app, &path);
+//! let named = names(documents, rights, handles, &numbers, connections, &app, &path);
 //! follow(alloc, &mut numbers, handles, connection, seat, &request)?;
 //! ```
 #![tactic(auto)]
@@ -21,5 +21,5 @@
 pub mod named;
 pub mod numbers;
 
-pub use named::{Seen, is_app, names};
+pub use named::{is_app, names};
 pub use numbers::{OpenNumbers, follow};

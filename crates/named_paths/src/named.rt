@@ -17,31 +17,23 @@ use portal_base::who::Who;
 use portal_model::handle::Handle;
 use portal_model::state::{Connection, Document};
 
-/// The lists that tell what a view names.
-#[derive(Clone, Copy)]
-pub struct Seen<'a> {
-    /// The documents.
-    pub documents: &'a Documents,
-    /// The rights in them.
-    pub grants: &'a Grants,
-    /// The open connections, which wait for nothing.
-    pub connections: &'a [Connection],
-    /// What they have open.
-    pub handles: &'a Handles,
-    /// The numbers of what they have open.
-    pub numbers: &'a OpenNumbers,
-}
-
 /// Says whether a document in which the application has a right, or an open file
-/// of its connections, has this path.
-pub fn names(seen: &Seen, app: &AppId, path: &HostPath) -> bool
+/// of its connections, has this path. The connections wait for nothing, and these
+/// are the numbers of what they have open.
+pub fn names(
+    documents: &Documents,
+    rights: &Grants,
+    handles: &Handles,
+    numbers: &OpenNumbers,
+    connections: &[Connection],
+    app: &AppId,
+    path: &HostPath,
+) -> bool
     ensures { result ≡ (is_among (map (λ d. d.document.path)
-        (held_documents (held_of seen.now.grants.now app.now) seen.now.documents.now.live)) path.now
-        || any_has_open seen.now.numbers.now seen.now.handles.now.seats app.now path.now
-        seen.now.connections.now) }
+        (held_documents (held_of rights.now app.now) documents.now.live)) path.now
+        || any_has_open numbers.now handles.now.seats app.now path.now connections.now) }
 {
-    holds_path(seen.documents, seen.grants, app, path)
-        || opens_path(seen.handles, seen.numbers, seen.connections, app, path)
+    holds_path(documents, rights, app, path) || opens_path(handles, numbers, connections, app, path)
 }
 
 /// Says whether a document in which the application has a right has this path.

@@ -1,18 +1,21 @@
-use Rattle.std.proofs.Common.{List, ◌++◌, map, take, ap, sym, ◌∙◌}
+use Rattle.std.proofs.Common.{◌≡◌, List, ◌++◌, map, take, ap, refl, subst, sym, ◌∙◌}
 use Rattle.app_trace.specs.Told.{item_told}
 use Rattle.app_world.specs.TraceItem.{TraceItem}
 use Rattle.app_world.specs.World.{items_of}
+use Rattle.named_paths.specs.OpenNumbers.{Cover}
 use Rattle.portal_model.specs.History.{run}
 use Rattle.portal_model.specs.Opening.{opened}
 use Rattle.portal_model.specs.State.{State}
 use Rattle.portal_model.specs.Step.{after}
+use Rattle.portal_steps.specs.Story.{state_now}
 use Rattle.history_trace.proofs.Fronts.{at-first, at-next, items-next, lawful-there, room-there, run-next, some-there}
 use Rattle.history_trace.proofs.traced.replay_all.Goals as goal
 
 pub loop-place-init : goal.loop-place-init
 loop-place-init c = record {
   at = at-first c.args.opening.now c.args.portal.now.story c.requires.begins;
-  files_are = c.in_ok-files.ensures;
+  covered = λ seat n h. cc;
+  files_are = c.in_ok-files.ensures.placed (c.requires.started.files refl).placed;
   items_are = ap (map item_told) c.new-told.ensures;
 }
 
@@ -30,6 +33,11 @@ replay-requires-clause-room c =
 pub replay-requires-clause-files : goal.replay-requires-clause-files
 replay-requires-clause-files c = ap (λ (s : State). s.files) c.loop-place.invariant.at.state ∙ sym c.loop-place.invariant.files_are
 
+pub replay-requires-clause-covered : goal.replay-requires-clause-covered
+replay-requires-clause-covered c =
+    subst (λ (s : State). Cover c.loop-place.numbers s.handles) (sym c.loop-place.invariant.at.state)
+    c.loop-place.invariant.covered
+
 pub loop-place-preserved : goal.loop-place-preserved
 loop-place-preserved c =
     let h = c.args.history.now.entries in
@@ -40,6 +48,14 @@ loop-place-preserved c =
     let at = c.loop-place.invariant.at in
     record {
       at = at-next h i e there o c.loop-place.portal.story at c.replay.new.portal.story c.in_ok-replay.ensures.goes;
+      covered =
+          let old = state_now c.loop-place.portal.story in
+          let new = state_now c.replay.new.portal.story in
+          let goes : new ≡ after old e = c.in_ok-replay.ensures.goes.state in
+          let kept = c.in_ok-follow_entry.ensures old
+          (subst (λ (s : State). Cover c.loop-place.numbers s.handles) (sym at.state) c.loop-place.invariant.covered) goes in
+          subst (λ (s : State). Cover c.follow_entry.new.numbers s.handles)
+          (goes ∙ (ap (λ (s : State). after s e) at.state ∙ sym (run-next h i e there (opened o)))) kept;
       files_are =
           c.in_ok-replay.ensures.files
           ∙ (ap (λ (s : State). (after s e).files) at.state ∙ ap (λ (s : State). s.files) (sym (run-next h i e there (opened o))));

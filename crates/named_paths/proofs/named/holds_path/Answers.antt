@@ -4,8 +4,8 @@ use Rattle.portal_base.specs.Names.{is_same}
 use Rattle.portal_model.specs.declared.state.Document.{Document}
 use Rattle.portal_model.specs.State.{held_of}
 use Rattle.rights_rule.specs.Rights.{holds_any}
-use Rattle.trace_items.proofs.PathsHeld.{paths-held}
-use Rattle.trace_items.proofs.named.holds_path.Goals as goal
+use Rattle.named_paths.proofs.PathsHeld.{paths-held}
+use Rattle.named_paths.proofs.named.holds_path.Goals as goal
 
 pub returns : goal.returns
 returns c =
