@@ -76,6 +76,7 @@ fn replay_all(
 ) -> Result<List<TraceItem>, WantOfMemory>
     requires legal { Legal (opened opening.now) history.now.entries }
     requires within { cost history.now.entries ≤ opening.now.limits.history }
+    requires started { IsOpeningState (opened opening.now) }
     requires begins { Begins opening.now portal.old.story }
     ensures { IfOk result (λ told. map item_told told
         ≡ items app.now (opened opening.now) history.now.entries) }

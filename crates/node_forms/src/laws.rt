@@ -1,11 +1,9 @@
 //! The counts as a plain list, as the definitions have them.
 
-ghost use Rattle.std.specs.Prelude.{◌≡◌, ◌+◌, ◌-◌, ◌&&◌, ◌==◌, [], OnErr, OnOk, min, not, option_copied};
-ghost use Rattle.std.specs.List.{find, filter};
-ghost use Rattle.node_forms.specs.Counted.{count_in, forgotten, is_at, left, remembered};
+ghost use Rattle.std.specs.Prelude.{◌≡◌, ◌==◌, [], filter, not};
+ghost use Rattle.node_forms.specs.Counted.{count_in, has_count, set_to};
 
 use crate::form::InodeForm;
-use portal_base::list::List;
 use portal_base::memory::WantOfMemory;
 use std::alloc::Global;
 use std::marker::Model;
@@ -24,7 +22,7 @@ pub struct NodeCount {
 /// A list of counts, in which the first of a seat and node tells.
 #[derive(Drop)]
 pub struct NodeList {
-    counts: List<NodeCount>,
+    counts: Vec<NodeCount>,
 }
 
 impl Model for NodeList {
@@ -33,7 +31,7 @@ impl Model for NodeList {
 
     ghost Value = { List NodeCount };
 
-    ghost view = { λ a. a.counts };
+    ghost view = { λ a. a.counts.items };
 }
 
 impl NodeList {
@@ -42,7 +40,7 @@ impl NodeList {
         ensures { result ≡ [] }
     {
         NodeList {
-            counts: List::new(alloc),
+            counts: Vec::new(alloc),
         }
     }
 }
@@ -56,17 +54,61 @@ impl InodeForm for NodeList {
         count(self.counts.as_slice(), seat, node)
     }
 
-    // The newest count stands first, so that each command is one change at the front.
     fn remember(&mut self, seat: u32, node: u64) -> Result<(), WantOfMemory> {
         let count = count(self.counts.as_slice(), seat, node).saturating_add(1);
-        put(&mut self.counts, NodeCount { seat, node, count })
+        if has(self.counts.as_slice(), seat, node) {
+            set_count(&mut self.counts, seat, node, count);
+            return Ok(());
+        }
+        self.counts.push(NodeCount { seat, node, count })?;
+        Ok(())
     }
 
     fn forget(&mut self, seat: u32, node: u64, count: u64) {
-        lower(&mut self.counts, seat, node, count)
+        let held = self::count(self.counts.as_slice(), seat, node);
+        set_count(&mut self.counts, seat, node, held.saturating_sub(count))
     }
 
     fn leave(&mut self, seat: u32) {
         leave_others(&mut self.counts, seat)
     }
+}
+
+/// The first count of a node on a seat, or 0.
+fn count(counts: &[NodeCount], seat: u32, node: u64) -> u64
+    ensures { result ≡ count_in counts.now seat node }
+{
+    for held in counts {
+        if held.seat == seat && held.node == node {
+            return held.count;
+        }
+    }
+    0
+}
+
+/// Says whether a node has a count on a seat.
+fn has(counts: &[NodeCount], seat: u32, node: u64) -> bool
+    ensures { result ≡ has_count counts.now seat node }
+{
+    counts
+        .iter()
+        .any(|held| held.seat == seat && held.node == node)
+}
+
+/// Lets each count of a node on a seat be this.
+fn set_count(counts: &mut Vec<NodeCount>, seat: u32, node: u64, count: u64)
+    ensures { counts.new.items ≡ set_to seat node count counts.old.items }
+{
+    for held in counts.iter_mut() {
+        if held.seat == seat && held.node == node {
+            held.count = count;
+        }
+    }
+}
+
+/// Leaves the counts of other seats.
+fn leave_others(counts: &mut Vec<NodeCount>, seat: u32)
+    ensures { counts.new.items ≡ filter (λ x. not (x.seat == seat)) counts.old.items }
+{
+    counts.retain(|held| held.seat != seat);
 }

@@ -1,4 +1,4 @@
-use Rattle.std.proofs.Common.{List, length, subst, take}
+use Rattle.std.proofs.lemmas.List.{take_all}
 use Rattle.portal_base.specs.Names.{is_host_path}
 use Rattle.portal_base.specs.declared.files.File.{File}
 use Rattle.portal_model.specs.Opening.{file_of}
@@ -7,7 +7,7 @@ use Rattle.app_trace.proofs.FilesPlaced.{ArePut, alike, fresh-next, none-put, pu
 use Rattle.app_trace.proofs.files.files_of.Goals as goal
 
 pub loop-item-init : goal.loop-item-init
-loop-item-init c = ?
+loop-item-init c = rw c.new-files.ensures none-put
 
 pub add_file-requires-clause-name : goal.add_file-requires-clause-name
 add_file-requires-clause-name c =
@@ -28,7 +28,13 @@ loop-item-preserved c =
     c.loop-item.files c.loop-item.invariant)
 
 pub returns-clause-shown : goal.returns-clause-shown
-returns-clause-shown c = ?
+returns-clause-shown c =
+    let all = take_all c.loop-item.item-index c.as_slice-item-items.result.now c.loop-item-test.false in
+    rw (← c.as_slice-item-items.ensures)
+    (alike c.as_slice-item-items.result.now c.loop-item.files (rw all at c.loop-item.invariant))
 
 pub returns-clause-placed : goal.returns-clause-placed
-returns-clause-placed c = ?
+returns-clause-placed c =
+    let all = take_all c.loop-item.item-index c.as_slice-item-items.result.now c.loop-item-test.false in
+    let put : ArePut c.as_slice-item-items.result.now c.loop-item.files = rw all at c.loop-item.invariant in
+    rw (← c.as_slice-item-items.ensures) (λ placed. put.placed placed.in_order)

@@ -2,4 +2,6 @@ use Rattle.named_paths.proofs.Numbers.{left-open}
 use Rattle.named_paths.proofs.numbers.drop_closed.Goals as goal
 
 pub returns : goal.returns
-returns c = ?
+returns c =
+    left-open c.args.seat c.args.number c.args.handles.now.seats c.args.numbers.now
+    c.drop_number.new.numbers ? c.drop_number.ensures

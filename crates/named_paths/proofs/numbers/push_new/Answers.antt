@@ -2,7 +2,7 @@ use Rattle.named_paths.proofs.Numbers.{among-them, pushed}
 use Rattle.named_paths.proofs.numbers.push_new.Goals as goal
 
 pub returns-then-is_last : goal.returns-then-is_last
-returns-then-is_last c = ?
+returns-then-is_last c = among-them c.args.number c.args.known.now.items ?
 
 pub returns : goal.returns
-returns c = ?
+returns c = pushed c.args.number c.args.known.now.items c.push.new.self.items c.in_ok-push.ensures.items
