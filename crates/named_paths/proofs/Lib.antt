@@ -1,4 +1,4 @@
 pub mod OpenPaths
 pub mod PathsHeld
-pub mod Numbers
+pub mod KeptNumbers
 pub mod StillOpen

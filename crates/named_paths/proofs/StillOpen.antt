@@ -18,7 +18,7 @@ use Rattle.portal_model.proofs.ListLookups.{found_passes, nat_is}
 use Rattle.portal_model.proofs.NodeLawsHold.{handles-stay}
 use Rattle.named_paths.specs.OpenNumbers.{Cover, IsFollowed, OpenNumbers, has_number, is_open, is_open_in, last_opened}
 use Rattle.named_paths.specs.Seated.{silent}
-use Rattle.named_paths.proofs.Numbers.{or-left, or-right}
+use Rattle.named_paths.proofs.KeptNumbers.{or-left, or-right}
 
 -- ---- the connection of a seat
 

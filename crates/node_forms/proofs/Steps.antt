@@ -29,3 +29,24 @@ module _ (c : Counts) (xs : List InodeCommand) (i : ℕ) (x : InodeCommand) (ins
   pub answers-next : answers_to c (take (i + 1) xs)
       ≡ answers_to c (take i xs) ++ answer_to (after_all c (take i xs)) x ∷ []
   answers-next = ap (answers_to c) (one_more xs i x inside is) ∙ answers-last c (take i xs) x
+
+-- the first commands were run, and answered so
+pub record IsRun (c : Counts) (xs : List InodeCommand) (told : List InodeAnswer) (now : Counts)
+    : Type 0 where
+  pub answers : told ≡ answers_to c xs
+  pub counts : now ≡ after_all c xs
+
+pub none-run : (c : Counts) → IsRun c [] [] c
+none-run c = record { answers = refl; counts = refl }
+
+pub one-run : (c : Counts) (xs : List InodeCommand) (i : ℕ) (x : InodeCommand) → i < length xs →
+    x ≡ get_or xs i x → (told more : List InodeAnswer) (answer : InodeAnswer) (now new : Counts) →
+    IsRun c (take i xs) told now → answer ≡ answer_to now x → new ≡ after now x →
+    more ≡ told ++ answer ∷ [] → IsRun c (take (i + 1) xs) more new
+one-run c xs i x inside is told more answer now new run a n m = record {
+  answers =
+      m ∙ ((λ j. run.answers j ++ a j ∷ [])
+      ∙ (ap (λ (k : Counts). answers_to c (take i xs) ++ answer_to k x ∷ []) run.counts
+      ∙ sym (answers-next c xs i x inside is)));
+  counts = n ∙ (ap (λ (k : Counts). after k x) run.counts ∙ sym (after-next c xs i x inside is));
+}

@@ -1,6 +1,6 @@
 use Rattle.std.proofs.Common.{ℕ, List, ap, subst, ◌∙◌}
 use Rattle.named_paths.specs.OpenNumbers.{IsFollowed, last_opened}
-use Rattle.named_paths.proofs.Numbers.{ok-then}
+use Rattle.named_paths.proofs.KeptNumbers.{ok-then}
 use Rattle.named_paths.proofs.StillOpen.{silent-last, still-covered}
 use Rattle.portal_model.specs.declared.state.Connection.{Connection}
 use Rattle.portal_model.specs.State.{connection_of}

@@ -1,4 +1,4 @@
-use Rattle.named_paths.proofs.Numbers.{none-last, ok-then}
+use Rattle.named_paths.proofs.KeptNumbers.{none-last, ok-then}
 use Rattle.named_paths.proofs.numbers.add_last.Goals as goal
 
 pub returns-then-is_none : goal.returns-then-is_none

@@ -1,6 +1,6 @@
 use Rattle.std.proofs.Common.{rules, ap, sym}
 use Rattle.named_paths.specs.OpenNumbers.{numbers_in}
-use Rattle.named_paths.proofs.Numbers.{begun, joined, ok-then}
+use Rattle.named_paths.proofs.KeptNumbers.{begun, joined, ok-then}
 use Rattle.named_paths.proofs.numbers.add_number.Goals as goal
 
 pub returns-in-Some : goal.returns-in-Some

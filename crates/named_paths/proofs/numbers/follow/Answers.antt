@@ -1,4 +1,4 @@
-use Rattle.named_paths.proofs.Numbers.{left-followed}
+use Rattle.named_paths.proofs.KeptNumbers.{left-followed}
 use Rattle.named_paths.proofs.numbers.follow.Goals as goal
 
 pub returns-then-is_entered : goal.returns-then-is_entered

@@ -1,5 +1,5 @@
 use Rattle.std.proofs.Common.{length, Some, ◌-◌, ◌∙◌, ap, sym}
-use Rattle.named_paths.proofs.Numbers.{among-at, nat-is}
+use Rattle.named_paths.proofs.KeptNumbers.{among-at, nat-is}
 use Rattle.named_paths.proofs.numbers.is_last.Goals as goal
 
 pub returns-in-Some : goal.returns-in-Some

@@ -1,4 +1,4 @@
-use Rattle.named_paths.proofs.Numbers.{among-them, pushed}
+use Rattle.named_paths.proofs.KeptNumbers.{among-them, pushed}
 use Rattle.named_paths.proofs.numbers.push_new.Goals as goal
 
 pub returns-then-is_last : goal.returns-then-is_last
