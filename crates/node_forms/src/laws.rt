@@ -1,7 +1,7 @@
 //! The counts as a plain list, as the definitions have them.
 
-ghost use Rattle.std.specs.Prelude.{◌≡◌, ◌==◌, [], filter, not};
-ghost use Rattle.node_forms.specs.Counted.{count_in, has_count, set_to};
+ghost use Rattle.std.specs.Prelude.{◌≡◌, ◌==◌, [], cond, filter, not};
+ghost use Rattle.node_forms.specs.Counted.{count_in, has_count, is_at, set_to};
 
 use crate::form::InodeForm;
 use portal_base::memory::WantOfMemory;
@@ -100,9 +100,17 @@ fn set_count(counts: &mut Vec<NodeCount>, seat: u32, node: u64, count: u64)
     ensures { counts.new.items ≡ set_to seat node count counts.old.items }
 {
     for held in counts.iter_mut() {
-        if held.seat == seat && held.node == node {
-            held.count = count;
-        }
+        set_if(held, seat, node, count);
+    }
+}
+
+/// Lets a count be this, where it is of a node on a seat.
+fn set_if(held: &mut NodeCount, seat: u32, node: u64, count: u64)
+    ensures { held.new ≡ cond (is_at seat node held.old)
+        (record held.old { count = count }) held.old }
+{
+    if held.seat == seat && held.node == node {
+        held.count = count;
     }
 }
 
