@@ -79,7 +79,7 @@ impl Same for Handle {
                 Handle::Folder { .. } => false,
             },
             Handle::Folder { node, names } => match other {
-                Handle::Folder { node: o, names: n } => *node == *o && names.is_same(n),
+                Handle::Folder { node: o, names: n } => *node == *o && names.get().is_same(n.get()),
                 Handle::File { .. } => false,
             },
         }

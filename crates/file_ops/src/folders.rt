@@ -18,6 +18,7 @@ ghost use Rattle.file_ops.specs.OpenedFolders.{Lists, ListsBehind, path_in};
 ghost use Rattle.node_looks.specs.Sights.{sight_of};
 
 use app_view::{ViewBook, listing, place_of};
+use dbus_types::shared::Shared;
 use document_records::Document;
 use host_tree::{HostTree, LookAnswer};
 use node_looks::asked::{Asked, done, refusal, refusal_on_file, room_for_look};
@@ -210,7 +211,7 @@ fn listed(
     let names = listing(alloc, book, call.who, place, look)?;
     let handle = Handle::Folder {
         node: call.request.node,
-        names,
+        names: Shared::new(alloc, names)?,
     };
     Ok(Answer::Node(NodeAnswer::Opened {
         fh: hand_out(handles, call.seat, handle),

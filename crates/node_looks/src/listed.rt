@@ -13,10 +13,9 @@ use crate::asked::refusal;
 use crate::handed::unasked;
 use crate::served::{NodeCall, NodeDone};
 use open_handles::{Handle, Handles};
-use portal_base::list::List;
-use portal_base::memory::{Replica, WantOfMemory};
+use portal_base::memory::WantOfMemory;
 use portal_model::errno::{EBADF, EINVAL};
-use portal_model::reply::{Answer, DirName, NodeAnswer};
+use portal_model::reply::{Answer, NodeAnswer};
 use std::alloc::Global;
 
 /// The most that a READ or a READDIR may ask for, in bytes.
@@ -76,32 +75,10 @@ fn names_of(
 {
     match handle {
         Some(Handle::Folder { names, .. }) => Ok(Answer::Node(NodeAnswer::Names {
-            names: names_again(alloc, names.as_slice())?,
+            names: names.share()?,
             offset,
             size,
         })),
         Some(Handle::File { .. }) | None => Ok(refusal(EBADF)),
     }
-}
-
-/// The same entries.
-fn names_again(alloc: Global, names: &[DirName]) -> Result<List<DirName>, WantOfMemory>
-    ensures { IfOk result (λ again. again ≡ names.now) }
-{
-    let mut again = List::new(alloc);
-    for name in names {
-        again.push(name_again(alloc, name)?)?;
-    }
-    Ok(again)
-}
-
-/// The same entry.
-fn name_again(alloc: Global, name: &DirName) -> Result<DirName, WantOfMemory>
-    ensures { IfOk result (λ again. again ≡ name.now) }
-{
-    Ok(DirName {
-        node: name.node,
-        name: name.name.replica(alloc)?,
-        folder: name.folder,
-    })
 }

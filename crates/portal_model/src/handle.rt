@@ -1,6 +1,7 @@
 //! Open handles of the file view.
 
 use crate::reply::DirName;
+use dbus_types::shared::Shared;
 use portal_base::files::FileName;
 use portal_base::list::List;
 use portal_base::names::doc_id::DocId;
@@ -32,8 +33,8 @@ pub enum Handle {
     Folder {
         /// The node that was opened.
         node: u64,
-        /// The entries that it had then.
-        names: List<DirName>,
+        /// The entries that it had then, which answers share.
+        names: Shared<List<DirName>>,
     },
 }
 

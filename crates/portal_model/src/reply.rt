@@ -2,6 +2,7 @@
 
 use crate::datum::Datum;
 use crate::records::Row;
+use dbus_types::shared::Shared;
 use portal_base::list::{ByteList, List};
 use portal_base::memory::{Replica, WantOfMemory};
 use portal_base::names::doc_id::DocId;
@@ -98,8 +99,8 @@ pub enum NodeAnswer {
     },
     /// The entries of a folder, of which those are told that fit.
     Names {
-        /// All entries.
-        names: List<DirName>,
+        /// All entries, which the handle has too.
+        names: Shared<List<DirName>>,
         /// The place of the first that is told.
         offset: u64,
         /// At most so many bytes are told.

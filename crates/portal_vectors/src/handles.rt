@@ -1,5 +1,6 @@
 //! Room for handles.
 
+use dbus_types::shared::Shared;
 use open_handles::{Handle, Handles};
 use portal_base::limits::Limits;
 use portal_base::list::List;
@@ -55,15 +56,15 @@ fn answer(alloc: Global, handles: &mut Handles, step: &str) -> Result<String, Ve
     }
     match step {
         "reserve" => Ok(debug(alloc, &handles.reserve(SEAT))?),
-        "add" => Ok(debug(alloc, &handles.add(SEAT, folder(alloc)))?),
+        "add" => Ok(debug(alloc, &handles.add(SEAT, folder(alloc)?))?),
         _ => bad(),
     }
 }
 
 /// A folder without entries.
-fn folder(alloc: Global) -> Handle {
-    Handle::Folder {
+fn folder(alloc: Global) -> Result<Handle, VectorError> {
+    Ok(Handle::Folder {
         node: 1,
-        names: List::new(alloc),
-    }
+        names: Shared::new(alloc, List::new(alloc))?,
+    })
 }

@@ -1,5 +1,6 @@
 //! Frames of FUSE, read and written.
 
+use dbus_types::shared::Shared;
 use fuse_reply::dirent::fill_dirents;
 use fuse_reply::reply::write_reply;
 use fuse_wire::frame::{split, unique_of};
@@ -90,7 +91,7 @@ fn answer_of(alloc: Global, kind: &str, rest: &str) -> Result<NodeAnswer, LineEr
             Ok(NodeAnswer::Names {
                 offset: number(first)?,
                 size: small_number(size)?,
-                names: names(alloc, entries)?,
+                names: Shared::new(alloc, names(alloc, entries)?)?,
             })
         }
         "errno" => Ok(NodeAnswer::Error {
