@@ -440,5 +440,6 @@ fn new_document(
         persistent: add.flags / 2 % 2 == 1,
         reusable: add.flags % 2 == 1,
         strict: add.flags / 16 % 2 == 1,
+        folder: add.flags / 8 % 2 == 1,
     })
 }

@@ -15,7 +15,7 @@ use Rattle.rights_rule.specs.Rights.{RightSet, rights_named}
 use Rattle.portal_model.specs.declared.request.AddRequest.{AddRequest}
 use Rattle.portal_model.specs.declared.state.Document.{Document}
 use Rattle.portal_model.specs.Add.{Added, add_file, add_files, adding_rights, first_number, listed_rights, new_document, use_document, used_again, with_new_document, with_rights_of}
-use Rattle.portal_model.specs.AddArguments.{is_as_needed, is_left_out, makes_strict, names_nobody, persists, reuses}
+use Rattle.portal_model.specs.AddArguments.{exports, is_as_needed, is_left_out, makes_strict, names_nobody, persists, reuses}
 use Rattle.portal_model.specs.Documents.{id_of_document, reusable_of, same_flag, serves}
 use Rattle.portal_model.specs.Grant.{given_rights}
 use Rattle.portal_model.specs.State.{State}
@@ -92,11 +92,11 @@ position-more p xs x =
     one-more-place (position_or_len p xs) (length xs) (position_or_len p (xs ++ x ∷ [])) (length (xs ++ x ∷ [])) (p x)
     (place-within p xs) (position_or_len_push p xs x) (length-append xs (x ∷ []))
 
-found-more : (documents : List Document) (path : List ℕ) (persistent strict : Bool) (d : Document) →
-    reusable_of (documents ++ d ∷ []) path persistent strict ≡ option_or (reusable_of documents path persistent strict) (cond (serves path persistent strict d) (Some d.id) None)
-found-more documents path persistent strict d =
-    ap (option_map id_of_document) (find-append (serves path persistent strict) documents (d ∷ []))
-    ∙ by-found (find (serves path persistent strict) documents) (serves path persistent strict d)
+found-more : (documents : List Document) (path : List ℕ) (persistent strict folder : Bool) (d : Document) →
+    reusable_of (documents ++ d ∷ []) path persistent strict folder ≡ option_or (reusable_of documents path persistent strict folder) (cond (serves path persistent strict folder d) (Some d.id) None)
+found-more documents path persistent strict folder d =
+    ap (option_map id_of_document) (find-append (serves path persistent strict folder) documents (d ∷ []))
+    ∙ by-found (find (serves path persistent strict folder) documents) (serves path persistent strict folder d)
   where
     by-found : (o : Option Document) (b : Bool) → option_map id_of_document (option_or o (cond b (Some d) None)) ≡ option_or (option_map id_of_document o) (cond b (Some d.id) None)
     by-found None true = refl
@@ -123,11 +123,12 @@ same-itself : (b : Bool) → same_flag b b ≡ true
 same-itself true = refl
 same-itself false = refl
 
-serves-new : (a : AddRequest) (id : DocId) (own path : List ℕ) → reuses a ≡ true → serves path (persists a) (makes_strict a) (new_document a id own) ≡ is_same own path
+serves-new : (a : AddRequest) (id : DocId) (own path : List ℕ) → reuses a ≡ true → serves path (persists a) (makes_strict a) (exports a) (new_document a id own) ≡ is_same own path
 serves-new a id own path e =
-    ap (λ (b : Bool). is_same own path && (b && (same_flag (makes_strict a) (makes_strict a) && reuses a))) (same-itself (persists a))
-    ∙ (ap (λ (b : Bool). is_same own path && (b && reuses a)) (same-itself (makes_strict a))
-    ∙ (ap (λ (b : Bool). is_same own path && b) e ∙ and-true (is_same own path)))
+    ap (λ (b : Bool). is_same own path && (b && (same_flag (makes_strict a) (makes_strict a) && (same_flag (exports a) (exports a) && reuses a)))) (same-itself (persists a))
+    ∙ (ap (λ (b : Bool). is_same own path && (b && (same_flag (exports a) (exports a) && reuses a))) (same-itself (makes_strict a))
+    ∙ (ap (λ (b : Bool). is_same own path && (b && reuses a)) (same-itself (exports a))
+    ∙ (ap (λ (b : Bool). is_same own path && b) e ∙ and-true (is_same own path))))
   where
     and-true : (x : Bool) → (x && true) ≡ x
     and-true true = refl
@@ -139,8 +140,8 @@ serves-new a id own path e =
 pub record Keeps (documents : List Document) (a : AddRequest) (ahead : List PlanItem) (f : Followed) : Type 0 where
   pub sized : length f.documents ≡ length ahead
   pub found : reuses a ≡ true → (path : List ℕ) →
-      reusable_of f.state.documents path (persists a) (makes_strict a)
-      ≡ option_or (reusable_of documents path (persists a) (makes_strict a)) (option_map (document_at f.documents) (position (makes path) ahead))
+      reusable_of f.state.documents path (persists a) (makes_strict a) (exports a)
+      ≡ option_or (reusable_of documents path (persists a) (makes_strict a) (exports a)) (option_map (document_at f.documents) (position (makes path) ahead))
 
 module _ (who : Who) (a : AddRequest) (app : Option (List ℕ)) (listed : RightSet) (documents : List Document) where
   placed-sized : (item : PlanItem) (f : Followed) (place : PlanUse) → length (placed who a app listed item f place).documents ≡ length f.documents + 1
@@ -152,8 +153,8 @@ module _ (who : Who) (a : AddRequest) (app : Option (List ℕ)) (listed : RightS
   -- no document is made
   found-kept : (ahead : List PlanItem) (f g : Followed) (item : PlanItem) (y : Option DocId) → Keeps documents a ahead f → is_new item.place ≡ false →
       g.state.documents ≡ f.state.documents → g.documents ≡ f.documents ++ y ∷ [] → reuses a ≡ true → (path : List ℕ) →
-      reusable_of g.state.documents path (persists a) (makes_strict a)
-      ≡ option_or (reusable_of documents path (persists a) (makes_strict a)) (option_map (document_at g.documents) (position (makes path) (ahead ++ item ∷ [])))
+      reusable_of g.state.documents path (persists a) (makes_strict a) (exports a)
+      ≡ option_or (reusable_of documents path (persists a) (makes_strict a) (exports a)) (option_map (document_at g.documents) (position (makes path) (ahead ++ item ∷ [])))
   found-kept ahead f g item y k e s d r path =
       let before : position (makes path) (ahead ++ item ∷ []) ≡ position (makes path) ahead =
       position-more (makes path) ahead item
@@ -161,9 +162,9 @@ module _ (who : Who) (a : AddRequest) (app : Option (List ℕ)) (listed : RightS
       ∙ or-none (position (makes path) ahead)) in
       let inside : (n : ℕ) → position (makes path) ahead ≡ Some n → n < length f.documents =
       λ n h. subst (λ (m : ℕ). n < m) (sym k.sized) (position-inside (makes path) ahead n h) in
-      ap (λ (l : List Document). reusable_of l path (persists a) (makes_strict a)) s
+      ap (λ (l : List Document). reusable_of l path (persists a) (makes_strict a) (exports a)) s
       ∙ (k.found r path
-      ∙ ap (option_or (reusable_of documents path (persists a) (makes_strict a)))
+      ∙ ap (option_or (reusable_of documents path (persists a) (makes_strict a) (exports a)))
       (sym (ap (option_map (document_at g.documents)) before
       ∙ (ap (λ (l : List (Option DocId)). option_map (document_at l) (position (makes path) ahead)) d
       ∙ map-before f.documents y (position (makes path) ahead) inside))))
@@ -171,17 +172,17 @@ module _ (who : Who) (a : AddRequest) (app : Option (List ℕ)) (listed : RightS
   -- one is made
   found-made : (ahead : List PlanItem) (f g : Followed) (item : PlanItem) (id : DocId) → Keeps documents a ahead f → is_new item.place ≡ true →
       g.state.documents ≡ f.state.documents ++ new_document a id item.path ∷ [] → g.documents ≡ f.documents ++ Some id ∷ [] → reuses a ≡ true → (path : List ℕ) →
-      reusable_of g.state.documents path (persists a) (makes_strict a)
-      ≡ option_or (reusable_of documents path (persists a) (makes_strict a)) (option_map (document_at g.documents) (position (makes path) (ahead ++ item ∷ [])))
+      reusable_of g.state.documents path (persists a) (makes_strict a) (exports a)
+      ≡ option_or (reusable_of documents path (persists a) (makes_strict a) (exports a)) (option_map (document_at g.documents) (position (makes path) (ahead ++ item ∷ [])))
   found-made ahead f g item id k e s d r path =
       let inside : (n : ℕ) → position (makes path) ahead ≡ Some n → n < length f.documents =
       λ n h. subst (λ (m : ℕ). n < m) (sym k.sized) (position-inside (makes path) ahead n h) in
-      ap (λ (l : List Document). reusable_of l path (persists a) (makes_strict a)) s
-      ∙ (found-more f.state.documents path (persists a) (makes_strict a) (new_document a id item.path)
-      ∙ (ap (λ (b : Bool). option_or (reusable_of f.state.documents path (persists a) (makes_strict a)) (cond b (Some id) None)) (serves-new a id item.path path r)
+      ap (λ (l : List Document). reusable_of l path (persists a) (makes_strict a) (exports a)) s
+      ∙ (found-more f.state.documents path (persists a) (makes_strict a) (exports a) (new_document a id item.path)
+      ∙ (ap (λ (b : Bool). option_or (reusable_of f.state.documents path (persists a) (makes_strict a) (exports a)) (cond b (Some id) None)) (serves-new a id item.path path r)
       ∙ (ap (λ (o : Option DocId). option_or o (cond (is_same item.path path) (Some id) None)) (k.found r path)
-      ∙ (joined (reusable_of documents path (persists a) (makes_strict a)) (position (makes path) ahead) (is_same item.path path) inside
-      ∙ ap (option_or (reusable_of documents path (persists a) (makes_strict a)))
+      ∙ (joined (reusable_of documents path (persists a) (makes_strict a) (exports a)) (position (makes path) ahead) (is_same item.path path) inside
+      ∙ ap (option_or (reusable_of documents path (persists a) (makes_strict a) (exports a)))
       (sym (ap (option_map (document_at g.documents))
       (position-more (makes path) ahead item
       ∙ ap (λ (b : Bool). option_or (position (makes path) ahead) (cond (b && is_same item.path path) (Some (length ahead)) None)) e)
@@ -202,8 +203,8 @@ module _ (who : Who) (a : AddRequest) (app : Option (List ℕ)) (listed : RightS
   sized-more ahead f item e = placed-sized item f item.place ∙ (ap (λ (n : ℕ). n + 1) e ∙ sym (length-append ahead (item ∷ [])))
 
   found-placed : (ahead : List PlanItem) (f : Followed) (item : PlanItem) (place : PlanUse) → item.place ≡ place → Keeps documents a ahead f → reuses a ≡ true → (path : List ℕ) →
-      reusable_of (placed who a app listed item f place).state.documents path (persists a) (makes_strict a)
-      ≡ option_or (reusable_of documents path (persists a) (makes_strict a)) (option_map (document_at (placed who a app listed item f place).documents) (position (makes path) (ahead ++ item ∷ [])))
+      reusable_of (placed who a app listed item f place).state.documents path (persists a) (makes_strict a) (exports a)
+      ≡ option_or (reusable_of documents path (persists a) (makes_strict a) (exports a)) (option_map (document_at (placed who a app listed item f place).documents) (position (makes path) (ahead ++ item ∷ [])))
   found-placed ahead f item LeftOut e k r path = found-kept ahead f (placed who a app listed item f LeftOut) item None k (ap is_new e) refl refl r path
   found-placed ahead f item (Live id) e k r path =
       found-kept ahead f (placed who a app listed item f (Live id)) item (Some id) k (ap is_new e) (given-keeps who app listed item.own id f.state) refl r path
@@ -258,13 +259,13 @@ module _ (who : Who) (a : AddRequest) (documents : List Document) where
       used_again f.state.documents a path
       ≡ cond b (option_or (used_again documents a path) (option_map (document_at f.documents) (position (makes path) ahead))) (used_again documents a path)
   used-now ahead f path k true e =
-      ap (λ (b : Bool). cond b (reusable_of f.state.documents path (persists a) (makes_strict a)) None) e
+      ap (λ (b : Bool). cond b (reusable_of f.state.documents path (persists a) (makes_strict a) (exports a)) None) e
       ∙ (k.found e path
       ∙ ap (λ (o : Option DocId). option_or o (option_map (document_at f.documents) (position (makes path) ahead)))
-      (sym (ap (λ (b : Bool). cond b (reusable_of documents path (persists a) (makes_strict a)) None) e)))
+      (sym (ap (λ (b : Bool). cond b (reusable_of documents path (persists a) (makes_strict a) (exports a)) None) e)))
   used-now ahead f path k false e =
-      ap (λ (b : Bool). cond b (reusable_of f.state.documents path (persists a) (makes_strict a)) None) e
-      ∙ sym (ap (λ (b : Bool). cond b (reusable_of documents path (persists a) (makes_strict a)) None) e)
+      ap (λ (b : Bool). cond b (reusable_of f.state.documents path (persists a) (makes_strict a) (exports a)) None) e
+      ∙ sym (ap (λ (b : Bool). cond b (reusable_of documents path (persists a) (makes_strict a) (exports a)) None) e)
 
   place-used-is : (ahead : List PlanItem) (path : List ℕ) (live : Option DocId) → place_used a ahead path live ≡ place_of live (reuses a) (position (makes path) ahead)
   place-used-is ahead path None = refl
@@ -307,5 +308,5 @@ module _ (who : Who) (a : AddRequest) (documents : List Document) where
   files-followed s numbers paths e =
       follow-all (none_followed s numbers) paths [] (none_followed s numbers) refl (record { sized = refl; found = λ r path. at-first path })
     where
-      at-first : (path : List ℕ) → reusable_of s.documents path (persists a) (makes_strict a) ≡ option_or (reusable_of documents path (persists a) (makes_strict a)) None
-      at-first path = ap (λ (l : List Document). reusable_of l path (persists a) (makes_strict a)) e ∙ sym (or-none (reusable_of documents path (persists a) (makes_strict a)))
+      at-first : (path : List ℕ) → reusable_of s.documents path (persists a) (makes_strict a) (exports a) ≡ option_or (reusable_of documents path (persists a) (makes_strict a) (exports a)) None
+      at-first path = ap (λ (l : List Document). reusable_of l path (persists a) (makes_strict a) (exports a)) e ∙ sym (or-none (reusable_of documents path (persists a) (makes_strict a) (exports a)))

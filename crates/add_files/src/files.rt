@@ -9,7 +9,7 @@ ghost use Rattle.add_files.specs.Items.{are_below, item_behind, items_of, left_o
 ghost use Rattle.add_files.specs.Plans.{is_new, own_of};
 
 use crate::arguments::document_path;
-use crate::flags::{adding_rights, is_as_needed, is_strict, persists, reuses};
+use crate::flags::{adding_rights, exports, is_as_needed, is_strict, persists, reuses};
 use crate::plan::{AddError, PlanItem, PlanUse};
 use document_records::{Documents, Grants};
 use portal_base::list::List;
@@ -127,7 +127,7 @@ fn used_again(documents: &Documents, add: &AddRequest, path: &HostPath) -> Optio
     ensures { result ≡ used_again documents.now.live add.now path.now }
 {
     if reuses(add) {
-        documents.reusable(path, persists(add), is_strict(add))
+        documents.reusable(path, persists(add), is_strict(add), exports(add))
     } else {
         None
     }

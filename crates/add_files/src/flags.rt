@@ -2,7 +2,7 @@
 
 ghost use Rattle.std.specs.Prelude.{◌≡◌};
 ghost use Rattle.portal_model.specs.Add.{adding_rights};
-ghost use Rattle.portal_model.specs.AddArguments.{are_flags, is_as_needed, makes_strict, persists, reuses};
+ghost use Rattle.portal_model.specs.AddArguments.{are_flags, exports, is_as_needed, makes_strict, persists, reuses};
 
 use portal_model::request::AddRequest;
 use rights_rule::Rights;
@@ -47,6 +47,13 @@ pub fn is_strict(add: &AddRequest) -> bool
     ensures { result ≡ makes_strict add.now }
 {
     add.flags / STRICT % 2 == 1
+}
+
+/// Says whether the documents are folders.
+pub fn exports(add: &AddRequest) -> bool
+    ensures { result ≡ exports add.now }
+{
+    add.flags / EXPORT_DIRECTORY % 2 == 1
 }
 
 /// Says whether files are left out that the named application has.

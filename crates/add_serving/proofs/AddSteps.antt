@@ -69,7 +69,7 @@ told-changed : (changes : List RecordChange) (told : Option Records) (r after : 
 told-changed changes None r after h e = refl
 told-changed changes (Some x) r after h e = ap (λ (y : Records). Some y) (ap (changed_by changes) h ∙ e)
 
-module _ (s : State) (c : Connection) (a : AddRequest) (plan : AddPlan) (is : IsPlan s c a plan) (g : Given) (now : g.now ≡ None) (shown : Shows (files_told s) (paths_shown c.queue a) g.looks (is_tree g.fault)) where
+module _ (s : State) (c : Connection) (a : AddRequest) (plan : AddPlan) (is : IsPlan s c a plan) (g : Given) (now : g.now ≡ None) (unlisted : g.listed ≡ None) (unmade : g.generation ≡ None) (shown : Shows (files_told s) (paths_shown c.queue a) g.looks (is_tree g.fault)) where
   abbrev looked : List Look → Verdict
   looked looks = unless (not (are_of_kind a looks)) Code.InvalidArgument (added s (added_files s c a g.numbers))
 
@@ -89,6 +89,8 @@ module _ (s : State) (c : Connection) (a : AddRequest) (plan : AddPlan) (is : Is
         looks = subst (λ (x : Walk Verdict). Gives (files_told s) x g.looks (is_tree g.fault)) (sym (is.passes g.numbers))
             (gives-shown (files_told s) (paths_shown c.queue a) (add_shown s c a g.numbers) looked g.looks (is_tree g.fault) (λ ls. refl) shown);
         clock = ap is_some now ∙ sym (ap (λ (x : Walk Verdict). reads_clock x g.looks) (is.passes g.numbers) ∙ no-clock (paths_shown c.queue a) (add_shown s c a g.numbers) looked g.looks (λ ls. refl));
+        listed = unlisted;
+        generation = unmade;
         words = w ∙ sym (ap words_drawn verdict-so);
         numbers = n;
         full = f ∙ sym (ap meets_limit verdict-so);
@@ -150,8 +152,8 @@ module _ (s : State) (c : Connection) (a : AddRequest) (who : Who) (paths : List
         let shown = shown-are true h in
         subst (λ (t : State). ServesKept s c (Request.Add a) g t (Answer.Refused Code.Failed) k k) (sym same-lists)
         (record {
-          serves = looked-serves s c a plan is g refl shown None refl s (Answer.Refused Code.Failed) refl tt refl (λ f. no-tree f) refl;
-          keeper = λ kept. looked-uncalled s c a plan is g refl shown None refl s k (λ none. none);
+          serves = looked-serves s c a plan is g refl refl refl shown None refl s (Answer.Refused Code.Failed) refl tt refl (λ f. no-tree f) refl;
+          keeper = λ kept. looked-uncalled s c a plan is g refl refl refl shown None refl s k (λ none. none);
         })
 
     -- a file is of the wrong kind
@@ -164,8 +166,8 @@ module _ (s : State) (c : Connection) (a : AddRequest) (who : Who) (paths : List
         let e : Some (unless (not (are_of_kind a looks)) Code.InvalidArgument (added s (added_files s c a []))) ≡ v = ap (λ (b : Bool). Some (unless (not b) Code.InvalidArgument (added s (added_files s c a [])))) kinds in
         subst (λ (t : State). ServesKept s c (Request.Add a) g t (Answer.Refused Code.InvalidArgument) k k) left-lists
         (record {
-          serves = looked-serves s c a plan is g refl shown v e (taken_from_queue c a s) (Answer.Refused Code.InvalidArgument) refl tt refl (λ f. no-keeper f) refl;
-          keeper = λ kept. looked-uncalled s c a plan is g refl shown v e (taken_from_queue c a s) k (λ none. none);
+          serves = looked-serves s c a plan is g refl refl refl shown v e (taken_from_queue c a s) (Answer.Refused Code.InvalidArgument) refl tt refl (λ f. no-keeper f) refl;
+          keeper = λ kept. looked-uncalled s c a plan is g refl refl refl shown v e (taken_from_queue c a s) k (λ none. none);
         })
 
     module _ (call : IsOfCall who a plan) where
@@ -191,8 +193,8 @@ module _ (s : State) (c : Connection) (a : AddRequest) (who : Who) (paths : List
           ∙ ap (λ (b : Bool). Some (Does (record { state = done.state; answer = Answer.Ids done.ids; makes = length done.state.made - length s.made; exceeds = b }))) (exceeds-is [] ∙ met) in
           subst (λ (t : State). ServesKept s c (Request.Add a) g t (Answer.Refused Code.LimitsExceeded) k k) left-lists
           (record {
-            serves = looked-serves s c a plan is g refl shown v e (taken_from_queue c a s) (Answer.Refused Code.LimitsExceeded) refl tt refl (λ f. no-keeper f) refl;
-            keeper = λ kept. looked-uncalled s c a plan is g refl shown v e (taken_from_queue c a s) k (λ none. let no : true ≡ false = none.0 in cc);
+            serves = looked-serves s c a plan is g refl refl refl shown v e (taken_from_queue c a s) (Answer.Refused Code.LimitsExceeded) refl tt refl (λ f. no-keeper f) refl;
+            keeper = λ kept. looked-uncalled s c a plan is g refl refl refl shown v e (taken_from_queue c a s) k (λ none. let no : true ≡ false = none.0 in cc);
           })
 
       -- the files are placed
@@ -256,7 +258,7 @@ module _ (s : State) (c : Connection) (a : AddRequest) (who : Who) (paths : List
         make = changes-make-them s r.valid who a plan call files.drawn.words numbers drawn-are then made-is files.drawn.documents follows-here
 
         abbrev given : Bool → Given
-        given failed = record { now = None; words = files.drawn.words; numbers = numbers; looks = looks; full = false; fault = fault_if failed }
+        given failed = record { now = None; words = files.drawn.words; numbers = numbers; looks = looks; listed = None; generation = None; full = false; fault = fault_if failed }
 
         abbrev answered : Bool → Answer
         answered failed = cond failed (Answer.Refused Code.Failed) (Answer.Ids files.ids)
@@ -266,23 +268,23 @@ module _ (s : State) (c : Connection) (a : AddRequest) (who : Who) (paths : List
         changing false p w = let no : true ≡ false = w.0 in cc
 
         serves-so : (failed : Bool) → (failed ≡ true → ChangesRecords s doing) → Serves s c (Request.Add a) (given failed) (cond failed s (with_lists left then)) (answered failed)
-        serves-so true k = looked-serves s c a plan is (given true) refl (shown-are false h) doing doing-is s (Answer.Refused Code.Failed) refl drawn-are refl (λ f. k refl) refl
-        serves-so false k = looked-serves s c a plan is (given false) refl (shown-are false h) doing doing-is (with_lists left then) (Answer.Ids files.ids) refl drawn-are refl (λ f. no-keeper f) refl
+        serves-so true k = looked-serves s c a plan is (given true) refl refl refl (shown-are false h) doing doing-is s (Answer.Refused Code.Failed) refl drawn-are refl (λ f. k refl) refl
+        serves-so false k = looked-serves s c a plan is (given false) refl refl refl (shown-are false h) doing doing-is (with_lists left then) (Answer.Ids files.ids) refl drawn-are refl (λ f. no-keeper f) refl
 
         went : (b failed : Bool) → plan_changes s.documents s.rights who a plan ≡ b → AppliedWhere b (changes_of (length s.documents) then.documents.live then.rights files.drawn.documents) old failed new → KeepsRecords s old →
             KeeperWent s c (Request.Add a) (given failed) (cond failed s (with_lists left then)) old new
         went false true p w kept = let no : true ≡ false = w.0 in cc
         went false false p w kept = record {
-          called = λ changes. absurd ((subst (ChangesRecords s) (verdict-so s c a plan is (given false) refl (shown-are false h) doing doing-is) changes).1 (stay p));
+          called = λ changes. absurd ((subst (ChangesRecords s) (verdict-so s c a plan is (given false) refl refl refl (shown-are false h) doing doing-is) changes).1 (stay p));
           uncalled = λ _. w.1;
         }
         went true true p w kept = record {
           called = λ _. record { goes = w.goes ∙ ap (after_call old true) (same-told old.told (records_of s) kept); fails = w.fails };
-          uncalled = λ none. absurd (none (subst (ChangesRecords s) (sym (verdict-so s c a plan is (given true) refl (shown-are false h) doing doing-is)) (refl, differ p)));
+          uncalled = λ none. absurd (none (subst (ChangesRecords s) (sym (verdict-so s c a plan is (given true) refl refl refl (shown-are false h) doing doing-is)) (refl, differ p)));
         }
         went true false p w kept = record {
           called = λ _. record { goes = w.goes ∙ ap (after_call old false) (told-changed (changes_of (length s.documents) then.documents.live then.rights files.drawn.documents) old.told (records_of s) (records_of (with_lists left then)) kept make); fails = w.fails };
-          uncalled = λ none. absurd (none (subst (ChangesRecords s) (sym (verdict-so s c a plan is (given false) refl (shown-are false h) doing doing-is)) (refl, differ p)));
+          uncalled = λ none. absurd (none (subst (ChangesRecords s) (sym (verdict-so s c a plan is (given false) refl refl refl (shown-are false h) doing doing-is)) (refl, differ p)));
         }
 
         after-is : (failed : Bool) → after ≡ cond failed before then → cond failed s (with_lists left then) ≡ left_by (fault_if failed) c a (with_lists s after)

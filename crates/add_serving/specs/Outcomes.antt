@@ -20,6 +20,8 @@ undrawn looks full fault = record {
   words = [];
   numbers = [];
   looks = looks;
+  listed = None;
+  generation = None;
   full = full;
   fault = fault;
 }
@@ -55,6 +57,8 @@ placed_call added looks = record {
     words = added.drawn.words;
     numbers = added.drawn.numbers;
     looks = looks;
+    listed = None;
+    generation = None;
     full = false;
     fault = fault_if added.failed;
   };

@@ -36,6 +36,8 @@ fn undrawn(alloc: Global, looks: List<Look>, full: bool, fault: Fault) -> Given
         words: List::new(alloc),
         numbers: List::new(alloc),
         looks,
+        listed: None,
+        generation: None,
         full,
         fault,
     }
@@ -95,6 +97,8 @@ pub(crate) fn placed(added: AddedFiles, looks: List<Look>) -> ServedCall
             words,
             numbers,
             looks,
+            listed: None,
+            generation: None,
             full: false,
             fault: fault_if(failed),
         },

@@ -44,6 +44,9 @@ connection-apart a b e =
       queue = (e i).queue;
       opens = (e i).opens;
       handles = handles i;
+      namings = (e i).namings;
+      temps = (e i).temps;
+      added = (e i).added;
     }
 
 path-apart : (a b : PathContent) → path_told a ≡ path_told b → a ≡ b
@@ -110,34 +113,34 @@ generation_in other (item.Gone id) = other
 generation_in other (item.Bytes path generation c) = generation
 
 pub item-apart : (a b : TraceItem) → item_told a ≡ item_told b → a ≡ b
-item-apart (Own s r n u h p l f x) (Own s' r' n' u' h' p' l' f' x') e =
-    let o : own.Own = record { seat = s; request = r; now = n; numbers = u; shown = map content_told h; reused = p; looks = l; full = f; fault = x } in
+item-apart (Own s r n u h p l f x g) (Own s' r' n' u' h' p' l' f' x' g') e =
+    let o : own.Own = record { seat = s; request = r; now = n; numbers = u; shown = map content_told h; reused = p; looks = l; full = f; fault = x; generation = g } in
     let shown : h ≡ h' = map-apart content_told content-apart h h' (λ i. (asked_in o (e i)).shown) in
     λ i.
     let q : own.Own = asked_in o (e i) in
-    Own q.seat q.request q.now q.numbers (shown i) q.reused q.looks q.full q.fault
-item-apart (Own s r n u h p l f x) (Gained d' r' c') e = cc
-item-apart (Own s r n u h p l f x) (Lost j' r') e = cc
-item-apart (Own s r n u h p l f x) (Gone j') e = cc
-item-apart (Own s r n u h p l f x) (Bytes p' g' c') e = cc
-item-apart (Gained d r c) (Own s' r' n' u' h' p' l' f' x') e = cc
+    Own q.seat q.request q.now q.numbers (shown i) q.reused q.looks q.full q.fault q.generation
+item-apart (Own s r n u h p l f x g) (Gained d' r' c') e = cc
+item-apart (Own s r n u h p l f x g) (Lost j' r') e = cc
+item-apart (Own s r n u h p l f x g) (Gone j') e = cc
+item-apart (Own s r n u h p l f x g) (Bytes p' g' c') e = cc
+item-apart (Gained d r c) (Own s' r' n' u' h' p' l' f' x' g') e = cc
 item-apart (Gained d r c) (Gained d' r' c') e =
     let there : c ≡ c' = content-apart c c' (λ i. content_in (content_told c) (e i)) in
     λ i. Gained (document_in d (e i)) (rights_in r (e i)) (there i)
 item-apart (Gained d r c) (Lost j' r') e = cc
 item-apart (Gained d r c) (Gone j') e = cc
 item-apart (Gained d r c) (Bytes p' g' c') e = cc
-item-apart (Lost j r) (Own s' r' n' u' h' p' l' f' x') e = cc
+item-apart (Lost j r) (Own s' r' n' u' h' p' l' f' x' g') e = cc
 item-apart (Lost j r) (Gained d' r' c') e = cc
 item-apart (Lost j r) (Lost j' r') e = cc
 item-apart (Lost j r) (Gone j') e = cc
 item-apart (Lost j r) (Bytes p' g' c') e = cc
-item-apart (Gone j) (Own s' r' n' u' h' p' l' f' x') e = cc
+item-apart (Gone j) (Own s' r' n' u' h' p' l' f' x' g') e = cc
 item-apart (Gone j) (Gained d' r' c') e = cc
 item-apart (Gone j) (Lost j' r') e = cc
 item-apart (Gone j) (Gone j') e = cc
 item-apart (Gone j) (Bytes p' g' c') e = cc
-item-apart (Bytes p g c) (Own s' r' n' u' h' p' l' f' x') e = cc
+item-apart (Bytes p g c) (Own s' r' n' u' h' p' l' f' x' g') e = cc
 item-apart (Bytes p g c) (Gained d' r' c') e = cc
 item-apart (Bytes p g c) (Lost j' r') e = cc
 item-apart (Bytes p g c) (Gone j') e = cc

@@ -36,6 +36,9 @@ connection_told c = record {
   queue = c.queue;
   opens = c.opens;
   handles = map handle_told c.handles;
+  namings = c.namings;
+  temps = c.temps;
+  added = c.added;
 }
 
 abbrev pub path_told : PathContent → view.PathContent
@@ -54,7 +57,7 @@ view_told v = record {
 -- ---- what happens to it
 
 abbrev pub item_told : TraceItem → item.TraceItem
-item_told (Own seat request now numbers shown reused looks full fault) = item.Own (record {
+item_told (Own seat request now numbers shown reused looks full fault generation) = item.Own (record {
   seat = seat;
   request = request;
   now = now;
@@ -64,6 +67,7 @@ item_told (Own seat request now numbers shown reused looks full fault) = item.Ow
   looks = looks;
   full = full;
   fault = fault;
+  generation = generation;
 })
 item_told (Gained document rights content) = item.Gained document rights (content_told content)
 item_told (Lost id rights) = item.Lost id rights

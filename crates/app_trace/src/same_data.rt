@@ -8,8 +8,10 @@ use crate::view::{AppView, Content, HeldDocument, OwnConnection, OwnHandle, Path
 use portal_base::files::FileName;
 use portal_model::entry::Fault;
 use portal_model::handle::Handle;
+use portal_model::naming::Naming;
 use portal_model::reply::DirName;
 use portal_model::state::Document;
+use portal_model::temporary::{OwnTemp, Temp};
 use rights_rule::Rights;
 
 impl Same for Rights {
@@ -35,6 +37,7 @@ impl Same for Document {
             && self.persistent == other.persistent
             && self.reusable == other.reusable
             && self.strict == other.strict
+            && self.folder == other.folder
     }
 }
 
@@ -122,6 +125,29 @@ impl Same for OwnHandle {
     }
 }
 
+impl Same for Naming {
+    fn is_same(&self, other: &Naming) -> bool {
+        self.view == other.view
+            && self.document.is_same(&other.document)
+            && self.path.is_same(&other.path)
+    }
+}
+
+impl Same for Temp {
+    fn is_same(&self, other: &Temp) -> bool {
+        self.document.is_same(&other.document)
+            && self.view == other.view
+            && self.name.is_same(&other.name)
+            && self.file.is_same(&other.file)
+    }
+}
+
+impl Same for OwnTemp {
+    fn is_same(&self, other: &OwnTemp) -> bool {
+        self.k == other.k && self.temp.is_same(&other.temp)
+    }
+}
+
 impl Same for OwnConnection {
     fn is_same(&self, other: &OwnConnection) -> bool {
         self.seat == other.seat
@@ -130,6 +156,9 @@ impl Same for OwnConnection {
             && self.queue.is_same(&other.queue)
             && self.opens == other.opens
             && self.handles.is_same(&other.handles)
+            && self.namings.is_same(&other.namings)
+            && self.temps.is_same(&other.temps)
+            && self.added == other.added
     }
 }
 
@@ -163,6 +192,7 @@ impl Same for TraceItem {
                 looks,
                 full,
                 fault,
+                generation,
             } => match other {
                 TraceItem::Own {
                     seat: other_seat,
@@ -174,6 +204,7 @@ impl Same for TraceItem {
                     looks: other_looks,
                     full: other_full,
                     fault: other_fault,
+                    generation: other_generation,
                 } => {
                     *seat == *other_seat
                         && request.is_same(other_request)
@@ -184,6 +215,7 @@ impl Same for TraceItem {
                         && *looks == *other_looks
                         && *full == *other_full
                         && fault.is_same(other_fault)
+                        && generation.is_same(other_generation)
                 }
                 _ => false,
             },

@@ -34,6 +34,8 @@ pub enum TraceItem {
         full: bool,
         /// The device that failed.
         fault: Fault,
+        /// The generation of the file that was made to be renamed later.
+        generation: Option<u64>,
     },
     /// Rights in a document were given to the application.
     Gained {

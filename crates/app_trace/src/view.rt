@@ -5,7 +5,9 @@ use portal_base::names::app_id::AppId;
 use portal_base::names::host_path::HostPath;
 use portal_base::who::Kind;
 use portal_model::handle::Handle;
+use portal_model::naming::Naming;
 use portal_model::state::Document;
+use portal_model::temporary::OwnTemp;
 use rights_rule::Rights;
 
 /// What the tree of files has at a path.
@@ -63,6 +65,14 @@ pub struct OwnConnection {
     pub opens: u64,
     /// What it has open, in order of opening.
     pub handles: List<OwnHandle>,
+    /// What was named on it below folders that are documents; naming k is the
+    /// k-th.
+    pub namings: List<Naming>,
+    /// The temporaries that were made on it and are still there, in the order in
+    /// which they were made.
+    pub temps: List<OwnTemp>,
+    /// The number of temporaries that were made on it.
+    pub added: u32,
 }
 
 /// What the tree has at a path that a document or an open file names.

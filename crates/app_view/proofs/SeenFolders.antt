@@ -37,6 +37,7 @@ state_of b = record {
   handles = [];
   told = false;
   files = [];
+  taken = [];
   entries = [];
 }
 

@@ -10,7 +10,7 @@ use Rattle.portal_model.specs.declared.request.AddRequest.{AddRequest}
 use Rattle.portal_model.specs.declared.state.Connection.{Connection}
 use Rattle.portal_model.specs.declared.state.Document.{Document}
 use Rattle.portal_model.specs.Add.{Added, add, add_allowed, add_looking, add_presented, add_shown, added, added_files, adding_rights, are_of_kind, may_list, may_list_all, rights_then, taken_from_queue, used_again}
-use Rattle.portal_model.specs.AddArguments.{are_add_arguments, are_presented, document_paths, is_left_out, makes_strict, names_nobody, paths_shown}
+use Rattle.portal_model.specs.AddArguments.{are_add_arguments, are_presented, document_paths, exports, is_left_out, makes_strict, names_nobody, paths_shown}
 use Rattle.portal_model.specs.Present.{with_queue}
 use Rattle.portal_model.specs.State.{State, document_of, held_of, is_app}
 use Rattle.portal_model.specs.Verdict.{Verdict, unless, walk_unless}
@@ -113,7 +113,7 @@ module _ (app : List ℕ) (s : State) (a : AddRequest) (f : Facts app s) where
   then-is path None e = refl
   then-is path (Some id) e =
       let g : Again s.documents a path id = again-is s.documents a path id e in
-      let live : document_of s.documents g.document.id.number ≡ Some g.document = found-live (serves path (persists a) (makes_strict a)) g.document s.documents f.differ g.is_first in
+      let live : document_of s.documents g.document.id.number ≡ Some g.document = found-live (serves path (persists a) (makes_strict a) (exports a)) g.document s.documents f.differ g.is_first in
       let here : document_of s.documents id.number ≡ Some g.document = ap (λ (i : DocId). document_of s.documents i.number) (sym g.id_is) ∙ live in
       ap (λ k. union k (adding_rights a)) (ap held_in (documents-found (held_of s.rights app) id.number s.documents ∙ ap (seen (held_of s.rights app id.number)) here) ∙ held_in-seen (held_of s.rights app id.number) g.document)
 

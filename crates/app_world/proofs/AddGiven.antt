@@ -100,6 +100,7 @@ told_of_add seat s c a given = record {
   looks = length given.looks;
   full = given.full;
   fault = given.fault;
+  generation = given.generation;
 }
 
 both-in-order : (r p q : Bool) → p ≡ true → q ≡ true → (r && (p && q)) ≡ r

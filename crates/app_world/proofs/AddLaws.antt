@@ -16,7 +16,7 @@ use Rattle.portal_model.specs.declared.rights.Right.TheVariants.{Read, Write, Gr
 use Rattle.portal_model.specs.declared.state.Document.{Document}
 use Rattle.portal_model.specs.declared.state.Triple.{Triple}
 use Rattle.portal_model.specs.Add.{Added, add_file, adding_rights, caller_rights, first_number, new_document, use_document, used_again, with_new_document, with_rights_of}
-use Rattle.portal_model.specs.AddArguments.{is_left_out, makes_strict, names_nobody, persists, reuses}
+use Rattle.portal_model.specs.AddArguments.{exports, is_left_out, makes_strict, names_nobody, persists, reuses}
 use Rattle.portal_model.specs.Content.{content_at}
 use Rattle.portal_model.specs.Documents.{id_of_document, same_flag, serves}
 use Rattle.portal_model.specs.Grant.{given_rights}
@@ -48,18 +48,18 @@ module _ {X : Type 0} (f : State → X) (h : (s : State) (rights : List Triple) 
 
 pub record Again (documents : List Document) (a : AddRequest) (path : List ℕ) (id : DocId) : Type 0 where
   pub document : Document
-  pub is_first : find (serves path (persists a) (makes_strict a)) documents ≡ Some document
+  pub is_first : find (serves path (persists a) (makes_strict a) (exports a)) documents ≡ Some document
   pub id_is : document.id ≡ id
   pub reuse : reuses a ≡ true
 
-again-by : (documents : List Document) (a : AddRequest) (path : List ℕ) (id : DocId) (b : Bool) (o : Option Document) → reuses a ≡ b → find (serves path (persists a) (makes_strict a)) documents ≡ o →
+again-by : (documents : List Document) (a : AddRequest) (path : List ℕ) (id : DocId) (b : Bool) (o : Option Document) → reuses a ≡ b → find (serves path (persists a) (makes_strict a) (exports a)) documents ≡ o →
     cond b (option_map id_of_document o) None ≡ Some id → Again documents a path id
 again-by documents a path id true None e f g = cc
 again-by documents a path id true (Some d) e f g = record { document = d; is_first = f; id_is = cc; reuse = e }
 again-by documents a path id false o e f g = cc
 
 pub again-is : (documents : List Document) (a : AddRequest) (path : List ℕ) (id : DocId) → used_again documents a path ≡ Some id → Again documents a path id
-again-is documents a path id e = again-by documents a path id (reuses a) (find (serves path (persists a) (makes_strict a)) documents) refl refl e
+again-is documents a path id e = again-by documents a path id (reuses a) (find (serves path (persists a) (makes_strict a) (exports a)) documents) refl refl e
 
 same_flag-is : (a b : Bool) → same_flag a b ≡ true → a ≡ b
 same_flag-is true b e = sym e
@@ -67,13 +67,14 @@ same_flag-is false true e = cc
 same_flag-is false false e = refl
 
 -- a document that serves is as a new one of its number
-serves-new : (a : AddRequest) (path : List ℕ) (d : Document) → serves path (persists a) (makes_strict a) d ≡ true → reuses a ≡ true → new_document a d.id path ≡ d
+serves-new : (a : AddRequest) (path : List ℕ) (d : Document) → serves path (persists a) (makes_strict a) (exports a) d ≡ true → reuses a ≡ true → new_document a d.id path ≡ d
 serves-new a path d e r =
     let p : is_same d.path path ≡ true = grind arith in
     let f : same_flag d.persistent (persists a) ≡ true = grind arith in
     let g : same_flag d.strict (makes_strict a) ≡ true = grind arith in
+    let k : same_flag d.folder (exports a) ≡ true = grind arith in
     let u : d.reusable ≡ true = grind arith in
-    λ i. record { id = d.id; path = sym (is_same-eq d.path path p) i; persistent = sym (same_flag-is d.persistent (persists a) f) i; reusable = (r ∙ sym u) i; strict = sym (same_flag-is d.strict (makes_strict a) g) i }
+    λ i. record { id = d.id; path = sym (is_same-eq d.path path p) i; persistent = sym (same_flag-is d.persistent (persists a) f) i; reusable = (r ∙ sym u) i; strict = sym (same_flag-is d.strict (makes_strict a) g) i; folder = sym (same_flag-is d.folder (exports a) k) i }
 
 apart_number : (p : Document → Bool) (m : ℕ) (d : Document) (ds : List Document) → AllByRecursion (λ n. nat_eq m n ≡ false) (map (λ (x : Document). x.id.number) ds) → find p ds ≡ Some d → (m == d.id.number) ≡ false
 apart_number p m d [] h e = cc
@@ -250,8 +251,8 @@ module _ (app : List ℕ) (a : AddRequest) (s base : State) (id : DocId) (path :
 pub base-again : (app : List ℕ) (who : Who) (a : AddRequest) (s : State) (id : DocId) (path : List ℕ) → Facts app s → used_again s.documents a path ≡ Some id → IsBase app who a s s id path
 base-again app who a s id path f e =
     let g : Again s.documents a path id = again-is s.documents a path id e in
-    let live : document_of s.documents g.document.id.number ≡ Some g.document = found-live (serves path (persists a) (makes_strict a)) g.document s.documents f.differ g.is_first in
-    let same : new_document a id path ≡ g.document = ap (λ (i : DocId). new_document a i path) (sym g.id_is) ∙ serves-new a path g.document (found_passes (serves path (persists a) (makes_strict a)) s.documents g.document g.is_first) g.reuse in
+    let live : document_of s.documents g.document.id.number ≡ Some g.document = found-live (serves path (persists a) (makes_strict a) (exports a)) g.document s.documents f.differ g.is_first in
+    let same : new_document a id path ≡ g.document = ap (λ (i : DocId). new_document a i path) (sym g.id_is) ∙ serves-new a path g.document (found_passes (serves path (persists a) (makes_strict a) (exports a)) s.documents g.document g.is_first) g.reuse in
     record {
       limits = refl;
       files = refl;

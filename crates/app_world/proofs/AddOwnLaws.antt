@@ -11,7 +11,7 @@ use Rattle.rights_rule.specs.Rights.{RightSet, contains, rights_named, union}
 use Rattle.portal_model.specs.declared.request.AddRequest.{AddRequest}
 use Rattle.portal_model.specs.declared.state.Document.{Document}
 use Rattle.portal_model.specs.Add.{Added, add_file, adding_rights, first_number, new_document, use_document, used_again, with_new_document}
-use Rattle.portal_model.specs.AddArguments.{is_left_out, makes_strict, persists, reuses}
+use Rattle.portal_model.specs.AddArguments.{exports, is_left_out, makes_strict, persists, reuses}
 use Rattle.portal_model.specs.Content.{Content, content_at}
 use Rattle.portal_model.specs.Documents.{id_of_document, serves}
 use Rattle.portal_model.specs.State.{State, document_of, held_of}
@@ -34,9 +34,9 @@ find-joined p (x ∷ xs) ys = by_first (p x) (find-joined p xs ys)
 again-joined : (xs ys : List Document) (a : AddRequest) (path : List ℕ) → used_again (xs ++ ys) a path ≡ own_again (used_again xs a path) (used_again ys a path)
 again-joined xs ys a path = by_flag (reuses a)
   where
-    by_flag : (b : Bool) → cond b (option_map id_of_document (find (serves path (persists a) (makes_strict a)) (xs ++ ys))) None
-        ≡ own_again (cond b (option_map id_of_document (find (serves path (persists a) (makes_strict a)) xs)) None) (cond b (option_map id_of_document (find (serves path (persists a) (makes_strict a)) ys)) None)
-    by_flag true = find-joined (serves path (persists a) (makes_strict a)) xs ys
+    by_flag : (b : Bool) → cond b (option_map id_of_document (find (serves path (persists a) (makes_strict a) (exports a)) (xs ++ ys))) None
+        ≡ own_again (cond b (option_map id_of_document (find (serves path (persists a) (makes_strict a) (exports a)) xs)) None) (cond b (option_map id_of_document (find (serves path (persists a) (makes_strict a) (exports a)) ys)) None)
+    by_flag true = find-joined (serves path (persists a) (makes_strict a) (exports a)) xs ys
     by_flag false = refl
 
 -- ---- what the application lists it holds

@@ -7,7 +7,7 @@ use Rattle.portal_base.specs.declared.files.Look.{Look}
 use Rattle.portal_model.specs.declared.request.AddRequest.{AddRequest}
 use Rattle.portal_model.specs.declared.state.Document.{Document}
 use Rattle.portal_model.specs.Add.{used_again}
-use Rattle.portal_model.specs.AddArguments.{is_left_out, makes_strict, persists, reuses}
+use Rattle.portal_model.specs.AddArguments.{exports, is_left_out, makes_strict, persists, reuses}
 use Rattle.portal_model.specs.Content.{Content, content_at, look_of}
 use Rattle.portal_model.specs.Documents.{reusable_of}
 use Rattle.portal_model.specs.Verdict.{Verdict}
@@ -19,7 +19,7 @@ use Rattle.app_world.specs.View.{is_among}
 -- ---- documents that are used again
 
 none-used : (documents : List Document) (a : AddRequest) (path : List ℕ) → reuses a ≡ false → None ≡ used_again documents a path
-none-used documents a path e = ap (λ (b : Bool). cond b (reusable_of documents path (persists a) (makes_strict a)) None) (sym e)
+none-used documents a path e = ap (λ (b : Bool). cond b (reusable_of documents path (persists a) (makes_strict a) (exports a)) None) (sym e)
 
 none-one : (documents : List Document) (a : AddRequest) (path : List ℕ) (paths : List (List ℕ)) (b : Bool) → reuses a ≡ false → own_files a paths [] ≡ own_files a paths (reused_of documents a paths) →
     cond b (record { path = path; again = None } ∷ own_files a paths []) (record { path = path; again = None } ∷ own_files a paths [])

@@ -191,6 +191,7 @@ module _ (app : List ℕ) (s : State) (seat : ℕ) (c : Connection) (given : Giv
         looks = length given.looks;
         full = given.full;
         fault = given.fault;
+        generation = given.generation;
       }
 
   add_own : (request : Request) → ToldToAdd s request → GivenToAdd s request given (Some c) → AddIsOwn app told c given (own_of s (asks seat request given)) refl refl named request

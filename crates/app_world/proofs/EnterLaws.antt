@@ -26,7 +26,7 @@ more_own app hs cs c =
 
 new_own : (app : List ℕ) (hs : List OpenHandle) (seat : ℕ) (who : Who) (kind : Kind) → is_app app who ≡ true → handles_of hs seat ≡ [] → new_own_connection seat who kind ≡ own_connections app hs (new_connection seat who kind ∷ [])
 new_own app hs seat who kind h o =
-    ap (λ (w : Who). new_own_connection seat w kind) (is_app-named app who h) ∙ (λ i. record { seat = seat; app = app; kind = kind; queue = []; opens = 0; handles = map own_handle (sym o i) } ∷ [])
+    ap (λ (w : Who). new_own_connection seat w kind) (is_app-named app who h) ∙ (λ i. record { seat = seat; app = app; kind = kind; queue = []; opens = 0; handles = map own_handle (sym o i); namings = []; temps = []; added = 0 } ∷ [])
     ∙ sym (rw h refl)
 
 own_entered-is : (app : List ℕ) (hs : List OpenHandle) (seat : ℕ) (who : Who) (kind : Kind) (cs : List Connection) (o : Option Connection) → connection_of cs seat ≡ o → made_by app o (Request.Enter who kind) ≡ true → (o ≡ None → handles_of hs seat ≡ []) →

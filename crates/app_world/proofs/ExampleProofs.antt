@@ -22,6 +22,7 @@ valid_with_another = record {
   numbers_made = refl;
   identifiers = refl;
   paths = rw (a_path, b_path) refl;
+  folders_none = refl;
   applications_differ = ((refl, tt), (tt, tt));
   names = rw (editor_name, other_name) refl;
   rights_in_order = refl;
@@ -38,6 +39,7 @@ valid_with_another = record {
   files_apart = refl;
   files_named = rw (b_path, a_path) refl;
   files_told = λ e. cc;
+  taken_none = refl;
   documents_within = omega arith;
   made_within = omega arith;
   applications_within = omega arith;
@@ -53,7 +55,7 @@ first_written (d ∷ ds) = d.rights.write
 pub traces : TracesTellWhatIsHeld
 unfolding first_written
 traces = record {
-  legal = record { opening = valid_with_another; lawful = (record { given = (other_name, refl) }, (record { given = (editor_name, refl) }, (record { given = (refl, refl) }, (record { given = record { clock = refl; words = refl; numbers = refl; full = refl; keeper = λ e. cc; looks = (refl, (refl, refl)) } }, (record { given = record { clock = refl; words = refl; numbers = refl; full = refl; keeper = λ e. cc; looks = (refl, (refl, refl)) } }, tt))))) };
+  legal = record { opening = valid_with_another; lawful = (record { given = (other_name, refl) }, (record { given = (editor_name, refl) }, (record { given = (refl, refl) }, (record { given = record { clock = refl; listed = refl; generation = refl; words = refl; numbers = refl; full = refl; keeper = λ e. cc; looks = (refl, (refl, refl)) } }, (record { given = record { clock = refl; listed = refl; generation = refl; words = refl; numbers = refl; full = refl; keeper = λ e. cc; looks = (refl, (refl, refl)) } }, tt))))) };
   same = refl;
   own_rights = λ e. let p : false ≡ true = ap (λ (t : Trace). first_written t.opening.documents) e in cc;
 }

@@ -21,11 +21,11 @@ left_to_read = refl
 pub given_lawfully : FilesGivenLawfully
 unfolding is_doc_id hex_number is_app_name doc_text name_of parent_of
 given_lawfully = record {
-  reads = (record { given = record { looks = (refl, (refl, refl)); clock = refl; words = refl; numbers = refl; full = refl; keeper = λ e. cc } }, (record { given = record { looks = (refl, (refl, refl)); clock = refl; words = refl; numbers = refl; full = refl; keeper = λ e. cc } }, (record { given = record { looks = refl; clock = refl; words = refl; numbers = refl; full = refl; keeper = λ e. cc } }, (record { given = record { looks = refl; clock = refl; words = refl; numbers = refl; full = refl; keeper = λ e. cc } }, tt))));
-  nothing_written = record { given = record { looks = (refl, refl); clock = refl; words = refl; numbers = refl; full = refl; keeper = λ e. cc } };
-  truncated = record { given = record { looks = (refl, refl); clock = refl; words = refl; numbers = refl; full = refl; keeper = λ e. cc } };
-  resized = record { given = record { looks = (refl, refl); clock = refl; words = refl; numbers = refl; full = refl; keeper = λ e. cc } };
-  made = record { given = record { looks = (refl, refl); clock = refl; words = refl; numbers = refl; full = refl; keeper = λ e. cc } };
-  released = (record { given = record { looks = (refl, refl); clock = refl; words = refl; numbers = tt; full = refl; keeper = λ e. cc } }, (record { given = record { looks = (refl, refl); clock = refl; words = refl; numbers = refl; full = refl; keeper = λ e. cc } }, tt));
-  left = (record { given = record { looks = (refl, (refl, refl)); clock = refl; words = refl; numbers = refl; full = refl; keeper = λ e. cc } }, (record { given = record { looks = (refl, (refl, refl)); clock = refl; words = refl; numbers = refl; full = refl; keeper = λ e. cc } }, (record { given = record { looks = (refl, refl); clock = refl; words = refl; numbers = tt; full = refl; keeper = λ e. cc } }, (record { given = record { looks = (refl, refl); clock = refl; words = refl; numbers = refl; full = refl; keeper = λ e. cc } }, (record { given = record { looks = refl; clock = refl; words = refl; numbers = refl; full = refl; keeper = λ e. cc } }, tt)))));
+  reads = (record { given = record { looks = (refl, (refl, refl)); clock = refl; listed = refl; generation = refl; words = refl; numbers = refl; full = refl; keeper = λ e. cc } }, (record { given = record { looks = (refl, (refl, refl)); clock = refl; listed = refl; generation = refl; words = refl; numbers = refl; full = refl; keeper = λ e. cc } }, (record { given = record { looks = refl; clock = refl; listed = refl; generation = refl; words = refl; numbers = refl; full = refl; keeper = λ e. cc } }, (record { given = record { looks = refl; clock = refl; listed = refl; generation = refl; words = refl; numbers = refl; full = refl; keeper = λ e. cc } }, tt))));
+  nothing_written = record { given = record { looks = (refl, refl); clock = refl; listed = refl; generation = refl; words = refl; numbers = refl; full = refl; keeper = λ e. cc } };
+  truncated = record { given = record { looks = (refl, refl); clock = refl; listed = refl; generation = refl; words = refl; numbers = refl; full = refl; keeper = λ e. cc } };
+  resized = record { given = record { looks = (refl, refl); clock = refl; listed = refl; generation = refl; words = refl; numbers = refl; full = refl; keeper = λ e. cc } };
+  made = record { given = record { looks = (refl, refl); clock = refl; listed = refl; generation = refl; words = refl; numbers = refl; full = refl; keeper = λ e. cc } };
+  released = (record { given = record { looks = (refl, refl); clock = refl; listed = refl; generation = refl; words = refl; numbers = tt; full = refl; keeper = λ e. cc } }, (record { given = record { looks = (refl, refl); clock = refl; listed = refl; generation = refl; words = refl; numbers = refl; full = refl; keeper = λ e. cc } }, tt));
+  left = (record { given = record { looks = (refl, (refl, refl)); clock = refl; listed = refl; generation = refl; words = refl; numbers = refl; full = refl; keeper = λ e. cc } }, (record { given = record { looks = (refl, (refl, refl)); clock = refl; listed = refl; generation = refl; words = refl; numbers = refl; full = refl; keeper = λ e. cc } }, (record { given = record { looks = (refl, refl); clock = refl; listed = refl; generation = refl; words = refl; numbers = tt; full = refl; keeper = λ e. cc } }, (record { given = record { looks = (refl, refl); clock = refl; listed = refl; generation = refl; words = refl; numbers = refl; full = refl; keeper = λ e. cc } }, (record { given = record { looks = refl; clock = refl; listed = refl; generation = refl; words = refl; numbers = refl; full = refl; keeper = λ e. cc } }, tt)))));
 }

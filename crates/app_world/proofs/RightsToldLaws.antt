@@ -28,7 +28,7 @@ use Rattle.portal_model.specs.declared.store.StoreAnswer.{StoreAnswer}
 use Rattle.portal_model.specs.declared.store.StoreCall.{StoreCall}
 use Rattle.portal_model.specs.declared.store.StoredEntry.{StoredEntry}
 use Rattle.portal_model.specs.Add.{Added, add, add_allowed, add_file, add_looking, add_presented, add_shown, added, added_files, adding_rights, are_of_kind, caller_rights, first_number, may_list_all, new_document, taken_from_queue, use_document, used_again, with_new_document, with_rights_of}
-use Rattle.portal_model.specs.AddArguments.{are_add_arguments, are_presented, document_paths, is_left_out, makes_strict, names_nobody, paths_shown, persists}
+use Rattle.portal_model.specs.AddArguments.{are_add_arguments, are_presented, document_paths, exports, is_left_out, makes_strict, names_nobody, paths_shown, persists}
 use Rattle.portal_model.specs.Arguments.{ahead_of_end, document_named, is_ended_path, reached}
 use Rattle.portal_model.specs.Bus.{bus_answer, bus_walk, is_tree, kept, moment_given, refused_state, settled, verdict_given}
 use Rattle.portal_model.specs.DeleteDocument.{delete_reached, deleted}
@@ -304,7 +304,7 @@ module _ (app : List ℕ) (number : ℕ) (who : Who) (a : AddRequest) where
   use-tells : (before : RightSet) (done : Added) (path : List ℕ) (again : Option DocId) → used_again done.state.documents a path ≡ again → FilesTell before done → FilesTell before (use_document who a path done again)
   use-tells before done path (Some id) e h =
       let g : Again done.state.documents a path id = again-is done.state.documents a path id e in
-      let l : nat_lt id.number (2 ^ 32) ≡ true = ap (λ (x : DocId). nat_lt x.number (2 ^ 32)) (sym g.id_is) ∙ all-found (serves path (persists a) (makes_strict a)) has_identifier done.state.documents g.document h.identified g.is_first in
+      let l : nat_lt id.number (2 ^ 32) ≡ true = ap (λ (x : DocId). nat_lt x.number (2 ^ 32)) (sym g.id_is) ∙ all-found (serves path (persists a) (makes_strict a) (exports a)) has_identifier done.state.documents g.document h.identified g.is_first in
       record {
         rights = one-told before before done.ids id done.state l h.rights;
         identified = ap (list_all has_identifier) (rights-keep (λ (s : State). s.documents) (λ s r p. refl) who a id done.state) ∙ h.identified;

@@ -6,11 +6,21 @@ use Rattle.portal_model.specs.declared.reply.Answer.{Answer}
 use Rattle.portal_model.specs.declared.reply.Code.TheVariants as Code
 use Rattle.app_world.specs.View.{AppView, OwnConnection, found_connection}
 
--- a connection with nothing presented and nothing open. The host's are in no view
+-- a connection with nothing presented, nothing open and nothing named. The host's are in no view
 abbrev pub new_own_connection : ℕ → Who → Kind → List OwnConnection
 new_own_connection seat Who.Host kind = []
 new_own_connection seat (Who.App app) kind =
-    record { seat = seat; app = app; kind = kind; queue = []; opens = 0; handles = [] } ∷ []
+    record {
+      seat = seat;
+      app = app;
+      kind = kind;
+      queue = [];
+      opens = 0;
+      handles = [];
+      namings = [];
+      temps = [];
+      added = 0;
+    } ∷ []
 
 -- the connections after an Enter of a seat with that open connection
 abbrev pub own_entered :

@@ -82,6 +82,7 @@ held number path rights = record {
     persistent = true;
     reusable = true;
     strict = false;
+    folder = false;
   };
   rights = rights;
 }

@@ -18,3 +18,5 @@ pub record Own : Type 0 where
   pub looks : ℕ
   pub full : Bool
   pub fault : Fault
+  -- the generation of a file that was made to be renamed later
+  pub generation : Option ℕ

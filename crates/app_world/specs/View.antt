@@ -9,8 +9,10 @@ use Rattle.portal_base.specs.declared.who.Kind.{Kind}
 use Rattle.rights_rule.specs.Rights.{RightSet, holds_any}
 use Rattle.portal_model.specs.declared.handle.Handle.{Handle}
 use Rattle.portal_model.specs.declared.handle.OpenHandle.{OpenHandle}
+use Rattle.portal_model.specs.declared.naming.Naming.{Naming}
 use Rattle.portal_model.specs.declared.state.Connection.{Connection}
 use Rattle.portal_model.specs.declared.state.Document.{Document}
+use Rattle.portal_model.specs.declared.temporary.OwnTemp.{OwnTemp}
 use Rattle.portal_model.specs.Content.{Content, content_at}
 use Rattle.portal_model.specs.State.{State, document_of, handles_of, held_of, is_app}
 use Rattle.portal_model.specs.Ordered.{bytes_less, put_all}
@@ -33,6 +35,11 @@ pub record OwnConnection : Type 0 where
   pub opens : ℕ
   -- in the order in which they were opened, which is that of their numbers
   pub handles : List OwnHandle
+  -- what was named on it below folders that are documents, and the temporaries that are there of
+  -- those that were made on it
+  pub namings : List Naming
+  pub temps : List OwnTemp
+  pub added : ℕ
 
 pub record PathContent : Type 0 where
   pub path : List ℕ
@@ -103,6 +110,9 @@ own_connection app handles c = record {
   queue = c.queue;
   opens = c.opens;
   handles = own_handles handles c.seat;
+  namings = c.namings;
+  temps = c.temps;
+  added = c.added;
 }
 
 abbrev pub own_connections : List ℕ → List OpenHandle → List Connection → List OwnConnection

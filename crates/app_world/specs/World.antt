@@ -133,6 +133,7 @@ own_of s e =
       looks = length e.given.looks;
       full = e.given.full;
       fault = e.given.fault;
+      generation = e.given.generation;
     }
 
 -- an Enter, a Leave and a Collect change nothing of another's view

@@ -78,6 +78,7 @@ the_document = record {
   persistent = true;
   reusable = true;
   strict = false;
+  folder = false;
 }
 
 abbrev pub read_alone : RightSet

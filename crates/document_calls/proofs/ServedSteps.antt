@@ -28,6 +28,8 @@ module _ (s : State) (c : Connection) (request : Request) (v : Verdict) (e : bus
     lawful = record {
       looks = subst (λ (x : Walk Verdict). Gives (files_told s) x [] (is_tree fault)) (sym e) (refl, t);
       clock = sym (ap (λ (x : Walk Verdict). reads_clock x []) e);
+      listed = refl;
+      generation = refl;
       words = sym (ap words_drawn (verdict-is full fault) ∙ w);
       numbers = tt;
       full = sym (ap meets_limit (verdict-is full fault) ∙ m);

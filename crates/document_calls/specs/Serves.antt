@@ -22,6 +22,8 @@ given_with full fault = record {
   words = [];
   numbers = [];
   looks = [];
+  listed = None;
+  generation = None;
   full = full;
   fault = fault;
 }

@@ -32,6 +32,8 @@ pub fn outside(alloc: Global, full: bool, fault: Fault) -> Given
         words: List::new(alloc),
         numbers: List::new(alloc),
         looks: List::new(alloc),
+        listed: None,
+        generation: None,
         full,
         fault,
     }

@@ -333,16 +333,16 @@ found-self (x ∷ xs) h = (
         let e : (x.id.number == d.id.number) ≡ false = grind (arith, nat_tests, k.0) in
         (ap (λ (b : Bool). cond b (Some x) (document_of xs d.id.number)) e ∙ l.0, behind ds k.1 l.1)
 
-found-serving : (documents : List Document) (path : List ℕ) (persistent strict : Bool)
+found-serving : (documents : List Document) (path : List ℕ) (persistent strict folder : Bool)
     (ds : List Document) → AllByRecursion (λ d. document_of documents d.id.number ≡ Some d) ds →
-    find (λ id. number_serves documents persistent strict id.number) (ids_of_path ds path)
-    ≡ option_map id_of_document (find (serves path persistent strict) ds)
-found-serving documents path persistent strict [] h = refl
-found-serving documents path persistent strict (x ∷ xs) h =
-    step (is_same x.path path) (found-serving documents path persistent strict xs h.1)
+    find (λ id. number_serves documents persistent strict folder id.number) (ids_of_path ds path)
+    ≡ option_map id_of_document (find (serves path persistent strict folder) ds)
+found-serving documents path persistent strict folder [] h = refl
+found-serving documents path persistent strict folder (x ∷ xs) h =
+    step (is_same x.path path) (found-serving documents path persistent strict folder xs h.1)
   where
     flags : Bool
-    flags = same_flag x.persistent persistent && (same_flag x.strict strict && x.reusable)
+    flags = same_flag x.persistent persistent && (same_flag x.strict strict && (same_flag x.folder folder && x.reusable))
 
     inside : (b : Bool) (o : Option Document) →
         cond b (Some x.id) (option_map id_of_document o)
@@ -350,28 +350,29 @@ found-serving documents path persistent strict (x ∷ xs) h =
     inside true o = refl
     inside false o = refl
 
-    step : (b : Bool) → find (λ id. number_serves documents persistent strict id.number)
+    step : (b : Bool) → find (λ id. number_serves documents persistent strict folder id.number)
         (ids_of_path xs path) ≡ option_map id_of_document
-        (find (serves path persistent strict) xs) →
-        find (λ id. number_serves documents persistent strict id.number)
+        (find (serves path persistent strict folder) xs) →
+        find (λ id. number_serves documents persistent strict folder id.number)
         (map id_of_document (cond b (x ∷ filter (has_path path) xs)
         (filter (has_path path) xs)))
         ≡ option_map id_of_document
         (cond (b && (same_flag x.persistent persistent
-        && (same_flag x.strict strict && x.reusable))) (Some x)
-        (find (serves path persistent strict) xs))
+        && (same_flag x.strict strict && (same_flag x.folder folder && x.reusable)))) (Some x)
+        (find (serves path persistent strict folder) xs))
     step true k =
-        (λ i. cond (has_flags persistent strict (h.0 i)) (Some x.id) (k i))
-        ∙ inside (same_flag x.persistent persistent && (same_flag x.strict strict && x.reusable))
-        (find (serves path persistent strict) xs)
+        (λ i. cond (has_flags persistent strict folder (h.0 i)) (Some x.id) (k i))
+        ∙ inside (same_flag x.persistent persistent
+        && (same_flag x.strict strict && (same_flag x.folder folder && x.reusable)))
+        (find (serves path persistent strict folder) xs)
     step false k = k
 
-pub serving-found : (live : List Document) (path : List ℕ) (persistent strict : Bool) →
+pub serving-found : (live : List Document) (path : List ℕ) (persistent strict folder : Bool) →
     IsDistinct nat_eq (live_numbers live) →
-    find (λ id. number_serves live persistent strict id.number) (ids_of_path live path)
-    ≡ reusable_of live path persistent strict
-serving-found live path persistent strict differ =
-    found-serving live path persistent strict live (found-self live differ)
+    find (λ id. number_serves live persistent strict folder id.number) (ids_of_path live path)
+    ≡ reusable_of live path persistent strict folder
+serving-found live path persistent strict folder differ =
+    found-serving live path persistent strict folder live (found-self live differ)
 
 -- ---- what follows where a call didn't fail, or where it did
 

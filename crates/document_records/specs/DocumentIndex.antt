@@ -89,12 +89,14 @@ AreByPath live by_path = (path : List ℕ) → ids_found by_path path ≡ ids_of
 abbrev pub other_ids : ℕ → List DocId → List DocId
 other_ids number ids = filter (λ id. not (id.number == number)) ids
 
--- there is a document, and it may stand for a new one that is persistent and strict or isn't
-abbrev pub has_flags : Bool → Bool → Option Document → Bool
-has_flags persistent strict None = false
-has_flags persistent strict (Some d) =
-    same_flag d.persistent persistent && (same_flag d.strict strict && d.reusable)
+-- there is a document, and it may stand for a new one that is persistent, strict and a folder or
+-- isn't
+abbrev pub has_flags : Bool → Bool → Bool → Option Document → Bool
+has_flags persistent strict folder None = false
+has_flags persistent strict folder (Some d) =
+    same_flag d.persistent persistent
+    && (same_flag d.strict strict && (same_flag d.folder folder && d.reusable))
 
 -- the same of the live document of a number
-abbrev pub number_serves : List Document → Bool → Bool → ℕ → Bool
-number_serves live persistent strict number = has_flags persistent strict (document_of live number)
+abbrev pub number_serves : List Document → Bool → Bool → Bool → ℕ → Bool
+number_serves live persistent strict folder number = has_flags persistent strict folder (document_of live number)

@@ -174,13 +174,19 @@ impl Documents {
 
     /// The first live document that may stand for a new one of this path and
     /// these flags. Only the documents of the path are looked at.
-    pub fn reusable(&self, path: &HostPath, persistent: bool, strict: bool) -> Option<DocId>
-        ensures { result ≡ reusable_of self.now.live path.now persistent strict }
+    pub fn reusable(
+        &self,
+        path: &HostPath,
+        persistent: bool,
+        strict: bool,
+        folder: bool,
+    ) -> Option<DocId>
+        ensures { result ≡ reusable_of self.now.live path.now persistent strict folder }
     {
         self.placed.known();
         let ids = self.by_path.get(path)?;
         self.placed
-            .first_with_flags(ids.as_slice(), persistent, strict)
+            .first_with_flags(ids.as_slice(), persistent, strict, folder)
     }
 
     /// The first live document of a path, which is found in about log n steps among

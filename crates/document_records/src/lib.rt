@@ -25,7 +25,7 @@
 //!
 //! ```text
 //! let id = documents.unused_from(word);
-//! documents.add(Document { id, path, persistent: false, reusable: true, strict: false })?;
+//! documents.add(Document { id, path, persistent: false, reusable: true, strict: false, folder: false })?;
 //! grants.add(&app, id, Rights::READ)?;
 //! ```
 //!

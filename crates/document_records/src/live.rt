@@ -56,5 +56,6 @@ pub fn document(alloc: Global, item: &OpeningDocument) -> Result<Document, WantO
         persistent: item.persistent,
         reusable: item.kept.reusable,
         strict: item.kept.strict,
+        folder: item.folder,
     })
 }

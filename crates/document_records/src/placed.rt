@@ -195,23 +195,27 @@ impl PlacedDocuments {
         ids: &[DocId],
         persistent: bool,
         strict: bool,
+        folder: bool,
     ) -> Option<DocId>
-        ensures { result ≡ find (λ id. number_serves self.now.live persistent strict id.number)
+        ensures { result ≡ find (λ id. number_serves self.now.live persistent strict folder id.number)
             ids.now }
     {
         ids.iter()
-            .find(|id| self.has_flags(**id, persistent, strict))
+            .find(|id| self.has_flags(**id, persistent, strict, folder))
             .copied()
     }
 
     /// Says whether the document of a number may stand for a new one of these
     /// flags.
-    fn has_flags(&self, id: DocId, persistent: bool, strict: bool) -> bool
-        ensures { result ≡ number_serves self.now.live persistent strict id.number }
+    fn has_flags(&self, id: DocId, persistent: bool, strict: bool, folder: bool) -> bool
+        ensures { result ≡ number_serves self.now.live persistent strict folder id.number }
     {
         match self.find(id) {
             Some(found) => {
-                found.persistent == persistent && found.strict == strict && found.reusable
+                found.persistent == persistent
+                    && found.strict == strict
+                    && found.folder == folder
+                    && found.reusable
             }
             None => false,
         }

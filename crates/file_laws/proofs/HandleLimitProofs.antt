@@ -29,7 +29,7 @@ open_request = request_on a_node (NodeOp.Open 0)
 
 -- a mount of a seat, which opened so often
 abbrev mount : ℕ → Who → ℕ → Connection
-mount seat who opens = record { seat = seat; who = who; kind = Kind.Mount; queue = []; unsent = []; opens = opens }
+mount seat who opens = record { seat = seat; who = who; kind = Kind.Mount; queue = []; unsent = []; opens = opens; namings = []; temps = []; added = 0 }
 
 abbrev bus : Connection
 bus = record (mount 3 Who.Host 0) { kind = Kind.Bus }
@@ -46,7 +46,7 @@ files = (with_rights 3).files
 
 -- the document, as it is kept
 abbrev a_document : Document
-a_document = record { id = record { number = 10 }; path = a_text; persistent = true; reusable = true; strict = false }
+a_document = record { id = record { number = 10 }; path = a_text; persistent = true; reusable = true; strict = false; folder = false }
 
 -- the walk of an OPEN of the file, by whether the limit is met
 abbrev walk_by : ℕ → Bool → Walk NodeVerdict

@@ -13,7 +13,7 @@ unfolding is_host_path is_app_name is_utf8 chars encode child_of own_folder is_i
 shared_again = record {
   legal = record {
     opening = attributes.legal.opening;
-    lawful = (record { given = (editor_name, refl) }, (record { given = (viewer_name, refl) }, (record { given = (refl, refl) }, (record { given = record { looks = (refl, (refl, refl)); clock = refl; words = refl; numbers = refl; full = refl; keeper = λ e. cc } }, (record { given = record { looks = (refl, refl); clock = refl; words = refl; numbers = tt; full = refl; keeper = λ e. cc } }, (record { given = record { looks = (refl, (refl, refl)); clock = refl; words = refl; numbers = tt; full = refl; keeper = λ e. cc } }, (record { given = record { looks = (refl, (refl, refl)); clock = refl; words = refl; numbers = refl; full = refl; keeper = λ e. cc } }, (record { given = record { looks = refl; clock = refl; words = refl; numbers = refl; full = refl; keeper = λ e. cc } }, (record { given = record { looks = refl; clock = refl; words = refl; numbers = refl; full = refl; keeper = λ e. cc } }, tt)))))))));
+    lawful = (record { given = (editor_name, refl) }, (record { given = (viewer_name, refl) }, (record { given = (refl, refl) }, (record { given = record { looks = (refl, (refl, refl)); clock = refl; listed = refl; generation = refl; words = refl; numbers = refl; full = refl; keeper = λ e. cc } }, (record { given = record { looks = (refl, refl); clock = refl; listed = refl; generation = refl; words = refl; numbers = tt; full = refl; keeper = λ e. cc } }, (record { given = record { looks = (refl, (refl, refl)); clock = refl; listed = refl; generation = refl; words = refl; numbers = tt; full = refl; keeper = λ e. cc } }, (record { given = record { looks = (refl, (refl, refl)); clock = refl; listed = refl; generation = refl; words = refl; numbers = refl; full = refl; keeper = λ e. cc } }, (record { given = record { looks = refl; clock = refl; listed = refl; generation = refl; words = refl; numbers = refl; full = refl; keeper = λ e. cc } }, (record { given = record { looks = refl; clock = refl; listed = refl; generation = refl; words = refl; numbers = refl; full = refl; keeper = λ e. cc } }, tt)))))))));
   };
   answered = refl;
   made = refl;

@@ -26,6 +26,7 @@ valid_one_file = record {
   numbers_made = refl;
   identifiers = refl;
   paths = rw a_path refl;
+  folders_none = refl;
   applications_differ = ((refl, tt), (tt, tt));
   names = rw (editor_name, viewer_name) refl;
   rights_in_order = refl;
@@ -42,6 +43,7 @@ valid_one_file = record {
   files_apart = refl;
   files_named = rw a_path refl;
   files_told = λ e. cc;
+  taken_none = refl;
   documents_within = omega arith;
   made_within = omega arith;
   applications_within = omega arith;
@@ -56,6 +58,7 @@ valid_two_paths = record {
   numbers_made = refl;
   identifiers = refl;
   paths = rw (a_path, b_path) refl;
+  folders_none = refl;
   applications_differ = ((refl, tt), (tt, tt));
   names = rw (editor_name, viewer_name) refl;
   rights_in_order = refl;
@@ -72,6 +75,7 @@ valid_two_paths = record {
   files_apart = refl;
   files_named = rw (b_path, a_path) refl;
   files_told = λ e. cc;
+  taken_none = refl;
   documents_within = omega arith;
   made_within = omega arith;
   applications_within = omega arith;
@@ -90,12 +94,12 @@ shared_told = record {
       (
         record { given = (viewer_name, refl) },
         (
-          record { given = record { looks = (refl, (refl, refl)); clock = refl; words = refl; numbers = refl; full = refl; keeper = λ e. cc } },
+          record { given = record { looks = (refl, (refl, refl)); clock = refl; listed = refl; generation = refl; words = refl; numbers = refl; full = refl; keeper = λ e. cc } },
           (
-            record { given = record { looks = (refl, (refl, refl)); clock = refl; words = refl; numbers = refl; full = refl; keeper = λ e. cc } },
+            record { given = record { looks = (refl, (refl, refl)); clock = refl; listed = refl; generation = refl; words = refl; numbers = refl; full = refl; keeper = λ e. cc } },
             (
-              record { given = record { looks = refl; clock = refl; words = refl; numbers = refl; full = refl; keeper = λ e. cc } },
-              (record { given = record { looks = refl; clock = refl; words = refl; numbers = refl; full = refl; keeper = λ e. cc } }, tt),
+              record { given = record { looks = refl; clock = refl; listed = refl; generation = refl; words = refl; numbers = refl; full = refl; keeper = λ e. cc } },
+              (record { given = record { looks = refl; clock = refl; listed = refl; generation = refl; words = refl; numbers = refl; full = refl; keeper = λ e. cc } }, tt),
             ),
           ),
         ),
@@ -116,12 +120,12 @@ apart_told = record {
       (
         record { given = (viewer_name, refl) },
         (
-          record { given = record { looks = (refl, (refl, refl)); clock = refl; words = refl; numbers = refl; full = refl; keeper = λ e. cc } },
+          record { given = record { looks = (refl, (refl, refl)); clock = refl; listed = refl; generation = refl; words = refl; numbers = refl; full = refl; keeper = λ e. cc } },
           (
-            record { given = record { looks = (refl, (refl, refl)); clock = refl; words = refl; numbers = refl; full = refl; keeper = λ e. cc } },
+            record { given = record { looks = (refl, (refl, refl)); clock = refl; listed = refl; generation = refl; words = refl; numbers = refl; full = refl; keeper = λ e. cc } },
             (
-              record { given = record { looks = refl; clock = refl; words = refl; numbers = refl; full = refl; keeper = λ e. cc } },
-              (record { given = record { looks = refl; clock = refl; words = refl; numbers = refl; full = refl; keeper = λ e. cc } }, tt),
+              record { given = record { looks = refl; clock = refl; listed = refl; generation = refl; words = refl; numbers = refl; full = refl; keeper = λ e. cc } },
+              (record { given = record { looks = refl; clock = refl; listed = refl; generation = refl; words = refl; numbers = refl; full = refl; keeper = λ e. cc } }, tt),
             ),
           ),
         ),

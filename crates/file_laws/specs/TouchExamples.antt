@@ -79,6 +79,7 @@ viewer_own request looks = Own (record {
   looks = looks;
   full = false;
   fault = Fault.None;
+  generation = None;
 })
 
 abbrev pub entered_item : TraceItem

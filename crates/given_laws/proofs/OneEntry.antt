@@ -20,8 +20,8 @@ use Rattle.given_laws.proofs.OneNumbers.{numbers-one, words-one}
 
 -- ---- the parts of what is given
 
-given_is : (g h : Given) → g.now ≡ h.now → g.words ≡ h.words → g.numbers ≡ h.numbers → g.looks ≡ h.looks → g.full ≡ h.full → g.fault ≡ h.fault → g ≡ h
-given_is g h n w u l f d = λ i. record { now = n i; words = w i; numbers = u i; looks = l i; full = f i; fault = d i }
+given_is : (g h : Given) → g.now ≡ h.now → g.words ≡ h.words → g.numbers ≡ h.numbers → g.looks ≡ h.looks → g.listed ≡ h.listed → g.generation ≡ h.generation → g.full ≡ h.full → g.fault ≡ h.fault → g ≡ h
+given_is g h n w u l k t f d = λ i. record { now = n i; words = w i; numbers = u i; looks = l i; listed = k i; generation = t i; full = f i; fault = d i }
 
 -- the moment, where both read the clock or none does
 moment_is : (g h : Option ℕ) → is_some h ≡ is_some g → IfSome h (λ now. now ≡ moment_given g) → h ≡ g
@@ -37,7 +37,7 @@ module _ (s : State) (g h : Given) (looks : h.looks ≡ g.looks) (moment : IfSom
   node_one r None l k = k ∙ sym l
   node_one r (Some c) l k =
       let read : is_some h.now ≡ is_some g.now = k.clock ∙ (ap (reads_clock (walk_on_node (all_told c.seat s) c r)) looks ∙ sym l.clock) in
-      given_is h g (moment_is g.now h.now read moment) (k.words ∙ sym l.words) (k.numbers ∙ sym l.numbers) looks (k.full ∙ sym l.full) fault
+      given_is h g (moment_is g.now h.now read moment) (k.words ∙ sym l.words) (k.numbers ∙ sym l.numbers) looks (k.listed ∙ sym l.listed) (k.generation ∙ sym l.generation) (k.full ∙ sym l.full) fault
 
   bus_one : (request : Request) (o : Option Connection) → AreFirst g.words h.words → LawfulOnBus s request g o → LawfulOnBus s request h o → h ≡ g
   bus_one request None first l k = k ∙ sym l
@@ -52,7 +52,7 @@ module _ (s : State) (g h : Given) (looks : h.looks ≡ g.looks) (moment : IfSom
       let read : is_some h.now ≡ is_some g.now = k.clock ∙ ((λ i. reads_clock (walk (numbers i)) (looks i)) ∙ sym l.clock) in
       let now : h.now ≡ g.now = moment_is g.now h.now read moment in
       let verdict : verdict_of at c request h ≡ verdict_of at c request g = λ i. walked (walk (numbers i)) (moment_given (now i)) (looks i) (is_tree (fault i)) in
-      given_is h g now words numbers looks (k.full ∙ (ap meets_limit verdict ∙ sym l.full)) fault
+      given_is h g now words numbers looks (k.listed ∙ sym l.listed) (k.generation ∙ sym l.generation) (k.full ∙ (ap meets_limit verdict ∙ sym l.full)) fault
 
   -- ---- any request
 

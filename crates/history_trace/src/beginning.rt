@@ -55,6 +55,7 @@ fn lists_copied(alloc: Global, opening: &OpeningState) -> Result<OpeningState, W
     let made = opening.made.replica(alloc)?;
     let applications = opening.applications.replica(alloc)?;
     let entries = opening.entries.replica(alloc)?;
+    let taken = opening.taken.replica(alloc)?;
     Ok(OpeningState {
         limits: opening.limits,
         documents,
@@ -62,6 +63,7 @@ fn lists_copied(alloc: Global, opening: &OpeningState) -> Result<OpeningState, W
         applications,
         entries,
         files: List::new(alloc),
+        taken,
     })
 }
 

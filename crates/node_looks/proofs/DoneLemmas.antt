@@ -71,6 +71,8 @@ done-in s c book call w table old done after new a e d = record {
     looks = subst (λ (x : Walk NodeVerdict). Gives (files_told s) x done.looks (is_tree done.fault)) (sym e)
         (subst (λ (t : Option (List File)). Gives t w done.looks (is_tree done.fault)) (sym a.files) d.comes.gives);
     clock = d.comes.clock ∙ sym (ap (λ (x : Walk NodeVerdict). reads_clock x done.looks) e);
+    listed = refl;
+    generation = refl;
     words = refl;
     numbers = refl;
     full = refl;

@@ -102,6 +102,8 @@ follows-serves s c r w old asked new e t f = record {
       looks = subst (λ (x : Walk NodeVerdict). Gives (files_told s) x (taken asked.look) (is_tree (fault_of asked.look))) (sym e)
           (subst (λ x. Gives x w (taken asked.look) (is_tree (fault_of asked.look))) (sym t) f.gives);
       clock = sym (ap (λ (x : Walk NodeVerdict). reads_clock x (taken asked.look)) e ∙ f.clock);
+      listed = refl;
+      generation = refl;
       words = refl;
       numbers = refl;
       full = refl;

@@ -1,5 +1,5 @@
 -- A request on a node that was served.
-use Rattle.std.specs.Prelude.{◌≡◌, List, [], false, Option}
+use Rattle.std.specs.Prelude.{◌≡◌, List, [], false, Option, None}
 use Rattle.portal_base.specs.declared.files.File.{File}
 use Rattle.portal_base.specs.declared.who.Who.{Who}
 use Rattle.host_tree.specs.Trees.{TreeIs}
@@ -38,6 +38,8 @@ given_to done = record {
   words = [];
   numbers = [];
   looks = done.looks;
+  listed = None;
+  generation = None;
   full = false;
   fault = done.fault;
 }

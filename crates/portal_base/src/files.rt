@@ -1,4 +1,5 @@
-//! The files of a tree, what it shows at a path, and how it names a file.
+//! The files of a tree, what it shows at a path and in a folder, and how it names a
+//! file.
 
 use crate::list::ByteList;
 use crate::memory::{Replica, WantOfMemory};
@@ -68,6 +69,24 @@ impl Replica for File {
             generation: self.generation,
             bytes: self.bytes.replica(alloc)?,
             moment: self.moment,
+        })
+    }
+}
+
+/// A file or folder in a folder.
+#[derive(Debug, Drop)]
+pub struct ChildName {
+    /// Its name in the folder.
+    pub name: ByteList,
+    /// Whether it is a folder.
+    pub folder: bool,
+}
+
+impl Replica for ChildName {
+    fn replica(&self, alloc: Global) -> Result<ChildName, WantOfMemory> {
+        Ok(ChildName {
+            name: self.name.replica(alloc)?,
+            folder: self.folder,
         })
     }
 }

@@ -1,5 +1,5 @@
 -- An Add leaves a valid state valid, where it is given as many unused numbers as it makes documents, and no limit is met.
-use Rattle.std.proofs.Common.{◌≡◌, ◌==◌, ℕ, ◌+◌, ◌-◌, ◌<◌, ◌≤◌, ◌^◌, nat_le, nat_lt, length, drop, take, get_or, fold, List, [], ◌∷◌, ◌++◌, map, Bool, true, false, not, ◌&&◌, ◌||◌, cond, Option, Some, None, is_some, refl, sym, ap, subst, ◌∙◌, arith}
+use Rattle.std.proofs.Common.{◌≡◌, ◌==◌, ℕ, ◌+◌, ◌-◌, ◌/◌, ◌%◌, ◌<◌, ◌≤◌, ◌^◌, nat_le, nat_lt, length, drop, take, get_or, fold, List, [], ◌∷◌, ◌++◌, map, Bool, true, false, not, ◌&&◌, ◌||◌, cond, Option, Some, None, is_some, refl, sym, ap, subst, ◌∙◌, arith}
 use Rattle.std.specs.List.{list_all}
 use Rattle.std.proofs.lemmas.Bool.Decides.{nat_tests}
 use Rattle.std.proofs.lemmas.List.{length-append}
@@ -12,7 +12,7 @@ use Rattle.portal_model.specs.declared.request.AddRequest.{AddRequest}
 use Rattle.portal_model.specs.declared.state.Connection.{Connection}
 use Rattle.portal_model.specs.declared.state.Document.{Document}
 use Rattle.portal_model.specs.Add.{Added, add, add_allowed, add_file, add_looking, add_presented, add_shown, added, added_files, adding_rights, are_of_kind, caller_rights, first_number, may_list_all, new_document, taken_from_queue, use_document, used_again, with_new_document, with_rights_of}
-use Rattle.portal_model.specs.AddArguments.{are_add_arguments, are_flags, are_presented, document_paths, files_limit, is_file_name, is_left_out, is_named_well, names_nobody, paths_presented, paths_shown}
+use Rattle.portal_model.specs.AddArguments.{are_add_arguments, are_flags, are_presented, document_paths, exports, files_limit, is_file_name, is_left_out, is_named_well, names_nobody, paths_presented, paths_shown}
 use Rattle.portal_model.specs.Arguments.{ahead_of_end, has_end}
 use Rattle.portal_model.specs.Grant.{exceeds_limits, given_rights}
 use Rattle.portal_model.specs.Present.{requeued, with_queue}
@@ -22,7 +22,7 @@ use Rattle.portal_model.specs.Verdict.{Doing}
 use Rattle.portal_model.proofs.DocumentChanges.{both, documented-new, first_of_both, second_of_both}
 use Rattle.portal_model.proofs.WalkDoings.{OnWalk, if-passes, on-looks, walk-passes}
 use Rattle.portal_model.proofs.DrawnNumbers.{Unused}
-use Rattle.portal_model.proofs.ListLookups.{found_in_all}
+use Rattle.portal_model.proofs.ListLookups.{found_in_all, nat_is}
 use Rattle.portal_model.proofs.GrantValid.{given-sound}
 use Rattle.portal_model.proofs.LiveDocuments.{IsLiveId, live-again}
 use Rattle.portal_model.proofs.OpenHandles.{requeued-handles}
@@ -57,6 +57,16 @@ paths_by : (named well : Bool) (name : List ℕ) (paths : List (List ℕ)) → l
 paths_by true well name paths p h = second_of_both well (list_all is_host_path (map (λ (path : List ℕ). child_of path name) paths)) h
 paths_by false well name paths p h = all_themselves paths p
 
+-- ---- no folder is exported
+
+-- by the flags from 8 on, which are none or 16
+none_exported : (high : ℕ) (b c : Bool) → (high == 0) ≡ b → (high == 2) ≡ c → (b || c) ≡ true → (high % 2 == 1) ≡ false
+none_exported high true c e f h = ap (λ (n : ℕ). n % 2 == 1) (nat_is high 0 e)
+none_exported high false true e f h = ap (λ (n : ℕ). n % 2 == 1) (nat_is high 2 f)
+none_exported high false false e f h = cc
+
+-- ---- the arguments
+
 module _ (queue : List (List ℕ)) (a : AddRequest) (sound : list_all is_host_path queue ≡ true) (presented : are_presented queue a ≡ true) (arguments : are_add_arguments queue a ≡ true) where
   abbrev few : Bool
   few = nat_le (length a.handles) files_limit
@@ -72,6 +82,11 @@ module _ (queue : List (List ℕ)) (a : AddRequest) (sound : list_all is_host_pa
 
   pub named-somebody : (names_nobody a || is_app_name a.app) ≡ true
   named-somebody = first_of_both named_for (are_right_names a.names && is_named_well queue a) behind_flags
+
+  pub no-folder : exports a ≡ false
+  no-folder =
+      let flags : are_flags a.flags ≡ true = first_of_both (are_flags a.flags) (named_for && (are_right_names a.names && is_named_well queue a)) behind_few in
+      none_exported (a.flags / 8) (a.flags / 8 == 0) (a.flags / 8 == 2) refl refl flags
 
   pub paths-sound : list_all is_host_path (document_paths queue a) ≡ true
   paths-sound =
@@ -139,8 +154,8 @@ now_live d (x ∷ xs) = by_first (x.id.number == d.id.number) (now_live d xs)
 below : (n : ℕ) → n < 2 ^ 32 → nat_lt n (2 ^ 32) ≡ true
 below n l = grind (arith, nat_tests)
 
-new-sound : (d : Document) (s : State) → is_made s.made d.id.number ≡ false → d.id.number < 2 ^ 32 → is_host_path d.path ≡ true → Sound s → Sound (with_new_document d s)
-new-sound d s f l p k = sound-lists s (s.documents ++ d ∷ []) (s.made ++ d.id ∷ []) s.rights s.applications k (documented-new s.documents s.made s.rights s.applications d f (below d.id.number l) p k.documented)
+new-sound : (d : Document) (s : State) → is_made s.made d.id.number ≡ false → d.id.number < 2 ^ 32 → is_host_path d.path ≡ true → not d.folder ≡ true → Sound s → Sound (with_new_document d s)
+new-sound d s f l p plain k = sound-lists s (s.documents ++ d ∷ []) (s.made ++ d.id ∷ []) s.rights s.applications k (documented-new s.documents s.made s.rights s.applications d f (below d.id.number l) p plain k.documented)
     (more-made s.made d.id s.handles k.handles_made)
 
 used_made : (who : Who) (a : AddRequest) (path : List ℕ) (done : Added) (id : DocId) → (use_document who a path done (Some id)).state.made ≡ done.state.made
@@ -167,7 +182,7 @@ files_grow who a (path ∷ paths) done =
     let more : length (add_file who a done path).state.made ≤ length (fold (add_file who a) (add_file who a done path) paths).state.made = files_grow who a paths (add_file who a done path) in
     omega arith
 
-module _ (who : Who) (a : AddRequest) (caller : is_caller who ≡ true) (named : (names_nobody a || is_app_name a.app) ≡ true) (end : ℕ) where
+module _ (who : Who) (a : AddRequest) (caller : is_caller who ≡ true) (named : (names_nobody a || is_app_name a.app) ≡ true) (plain : exports a ≡ false) (end : ℕ) where
   again-going : (path : List ℕ) (done : Added) (id : DocId) → is_live done.state.documents id.number ≡ true → Going done end → Going (use_document who a path done (Some id)) end
   again-going path done id l g =
       let made = used_made who a path done id in
@@ -190,7 +205,7 @@ module _ (who : Who) (a : AddRequest) (caller : is_caller who ≡ true) (named :
       let had : end ≤ length done.state.made + length (n ∷ ns) = subst (λ (xs : List DocId). end ≤ length done.state.made + length xs) e g.enough in
       let still : end ≤ length (done.state.made ++ n ∷ []) + length ns = grind arith in
       record {
-        sound = rights-sound who a caller named (first_number done.numbers) (with_new_document d done.state) (now_live d done.state.documents) (new-sound d done.state f l p g.sound);
+        sound = rights-sound who a caller named (first_number done.numbers) (with_new_document d done.state) (now_live d done.state.documents) (new-sound d done.state f l p (ap not plain) g.sound);
         unused = subst (λ (m : List DocId). Unused m (drop 1 done.numbers)) (sym made) (subst (Unused (done.state.made ++ n ∷ [])) (sym rest) u.2);
         enough = subst (λ (m : List DocId). end ≤ length m + length (drop 1 done.numbers)) (sym made) (subst (λ (xs : List DocId). end ≤ length (done.state.made ++ n ∷ []) + length xs) (sym rest) still);
       }
@@ -256,7 +271,7 @@ module _ (P : Doing → Type 0) (s : State) (c found : Connection) (a : AddReque
         enough = subst (λ (m : List DocId). length done.state.made ≤ length m + length numbers) (sym made) enough;
       } in
       let end : Going done (length done.state.made) =
-      files-going c.who a caller (named-somebody c.queue a queue-sound presented arguments) (length done.state.made) (document_paths c.queue a) begun (paths-sound c.queue a queue-sound presented arguments) (le_itself (length done.state.made)) going in
+      files-going c.who a caller (named-somebody c.queue a queue-sound presented arguments) (no-folder c.queue a queue-sound presented arguments) (length done.state.made) (document_paths c.queue a) begun (paths-sound c.queue a queue-sound presented arguments) (le_itself (length done.state.made)) going in
       sound-valid done.state e end.sound
 
   pub add-valid : OnWalk P (add s c a numbers)

@@ -230,7 +230,7 @@ module _ (P : State → Type 0)
   kept-holds s Fault.Tree d h k = k
   kept-holds s Fault.Keeper d h k = h
 
-  full-holds : (s refused : State) (full : Bool) (fault : Fault) (d : Doing) → P s → P refused → P d.state → P (settled s refused (record { now = None; words = []; numbers = []; looks = []; full = full; fault = fault }) (Some (Does d))).0
+  full-holds : (s refused : State) (full : Bool) (fault : Fault) (d : Doing) → P s → P refused → P d.state → P (settled s refused (record { now = None; words = []; numbers = []; looks = []; listed = None; generation = None; full = full; fault = fault }) (Some (Does d))).0
   full-holds s refused true fault d h k l = k
   full-holds s refused false fault d h k l = kept-holds s fault d h l
 

@@ -72,6 +72,7 @@ module _ (ds : List Document) (made : List DocId) (rights : List Triple) (apps :
     numbers_made = k.numbers_made;
     identifiers = k.identifiers;
     paths = k.paths;
+    folders_none = k.folders_none;
     applications_differ = numbered_differ apps app (is_numbered apps app) refl k.applications_differ;
     names = numbered_named apps app (is_numbered apps app) named k.names;
     rights_in_order = ordered-add_rights app id set rights;
@@ -92,6 +93,7 @@ module _ (ds : List Document) (made : List DocId) (rights : List Triple) (apps :
     numbers_made = k.numbers_made;
     identifiers = k.identifiers;
     paths = k.paths;
+    folders_none = k.folders_none;
     applications_differ = k.applications_differ;
     names = k.names;
     rights_in_order = ordered-take_rights app number set rights k.rights_in_order;
@@ -133,9 +135,9 @@ still_live : (d : Document) (n : ℕ) (ds : List Document) → is_live ds n ≡ 
 still_live d n [] h = cc
 still_live d n (x ∷ xs) h = live_first d x n xs (x.id.number == n) (still_live d n xs) h
 
-pub documented-new : (ds : List Document) (made : List DocId) (rights : List Triple) (apps : List (List ℕ)) (d : Document) → is_made made d.id.number ≡ false → has_identifier d ≡ true → is_host_path d.path ≡ true →
+pub documented-new : (ds : List Document) (made : List DocId) (rights : List Triple) (apps : List (List ℕ)) (d : Document) → is_made made d.id.number ≡ false → has_identifier d ≡ true → is_host_path d.path ≡ true → not d.folder ≡ true →
     Documented ds made rights apps → Documented (ds ++ d ∷ []) (made ++ d.id ∷ []) rights apps
-documented-new ds made rights apps d f short p k = record {
+documented-new ds made rights apps d f short p plain k = record {
   numbers_differ = subst (IsDistinct nat_eq) (sym (new_numbers d ds)) (IsDistinct-push nat_eq_equiv (numbers ds) d.id.number k.numbers_differ (none_live made d.id.number ds f k.numbers_made));
   numbers_made = list_all-append (λ (x : Document). is_made (made ++ d.id ∷ []) x.id.number) ds (d ∷ [])
       ∙ both (list_all (λ (x : Document). is_made (made ++ d.id ∷ []) x.id.number) ds) (is_made (made ++ d.id ∷ []) d.id.number && true)
@@ -143,6 +145,7 @@ documented-new ds made rights apps d f short p k = record {
       (both (is_made (made ++ d.id ∷ []) d.id.number) true (now_made made d.id) refl);
   identifiers = list_all-append has_identifier ds (d ∷ []) ∙ both (list_all has_identifier ds) (has_identifier d && true) k.identifiers (both (has_identifier d) true short refl);
   paths = list_all-append (λ (x : Document). is_host_path x.path) ds (d ∷ []) ∙ both (list_all (λ (x : Document). is_host_path x.path) ds) (is_host_path d.path && true) k.paths (both (is_host_path d.path) true p refl);
+  folders_none = list_all-append (λ (x : Document). not x.folder) ds (d ∷ []) ∙ both (list_all (λ (x : Document). not x.folder) ds) (not d.folder && true) k.folders_none (both (not d.folder) true plain refl);
   applications_differ = k.applications_differ;
   names = k.names;
   rights_in_order = k.rights_in_order;
@@ -186,6 +189,7 @@ documented-deleted ds made rights apps number k = record {
   numbers_made = list_all-filter (λ (d : Document). is_made made d.id.number) _ ds k.numbers_made;
   identifiers = list_all-filter has_identifier _ ds k.identifiers;
   paths = list_all-filter (λ (d : Document). is_host_path d.path) _ ds k.paths;
+  folders_none = list_all-filter (λ (d : Document). not d.folder) _ ds k.folders_none;
   applications_differ = k.applications_differ;
   names = k.names;
   rights_in_order = ordered-forget_document number rights k.rights_in_order;

@@ -31,6 +31,7 @@ valid_read_write = record {
   numbers_made = refl;
   identifiers = refl;
   paths = rw a_path refl;
+  folders_none = refl;
   applications_differ = (tt, tt);
   names = rw editor_name refl;
   rights_in_order = refl;
@@ -47,6 +48,7 @@ valid_read_write = record {
   files_apart = refl;
   files_named = rw a_path refl;
   files_told = λ e. cc;
+  taken_none = refl;
   documents_within = omega arith;
   made_within = omega arith;
   applications_within = omega arith;
@@ -61,6 +63,7 @@ valid_of_other = record {
   numbers_made = refl;
   identifiers = refl;
   paths = rw a_path refl;
+  folders_none = refl;
   applications_differ = (tt, tt);
   names = rw other_name refl;
   rights_in_order = refl;
@@ -77,6 +80,7 @@ valid_of_other = record {
   files_apart = refl;
   files_named = rw a_path refl;
   files_told = λ e. cc;
+  taken_none = refl;
   documents_within = omega arith;
   made_within = omega arith;
   applications_within = omega arith;
@@ -91,6 +95,7 @@ valid_of_nobody = record {
   numbers_made = refl;
   identifiers = refl;
   paths = refl;
+  folders_none = refl;
   applications_differ = tt;
   names = refl;
   rights_in_order = refl;
@@ -107,6 +112,7 @@ valid_of_nobody = record {
   files_apart = refl;
   files_named = rw a_path refl;
   files_told = λ e. cc;
+  taken_none = refl;
   documents_within = omega arith;
   made_within = omega arith;
   applications_within = omega arith;
@@ -121,15 +127,15 @@ costs = record { enter = refl; attributes = refl; leave = refl; collect = refl; 
 
 pub attributes : AttributesOfGrantedFile
 attributes = record {
-  legal = record { opening = valid_read_write; lawful = (record { given = (editor_name, refl) }, (record { given = record { clock = refl; words = refl; numbers = refl; full = refl; keeper = λ e. cc; looks = (refl, (refl, refl)) } }, tt)) };
+  legal = record { opening = valid_read_write; lawful = (record { given = (editor_name, refl) }, (record { given = record { clock = refl; listed = refl; generation = refl; words = refl; numbers = refl; full = refl; keeper = λ e. cc; looks = (refl, (refl, refl)) } }, tt)) };
   replies_are = refl;
 }
 
 pub foreign : ForeignIsAsMissing
 foreign = record {
-  legal_foreign = record { opening = valid_of_other; lawful = (record { given = (editor_name, refl) }, (record { given = record { clock = refl; words = refl; numbers = refl; full = refl; keeper = λ e. cc; looks = (refl, refl) } }, tt)) };
+  legal_foreign = record { opening = valid_of_other; lawful = (record { given = (editor_name, refl) }, (record { given = record { clock = refl; listed = refl; generation = refl; words = refl; numbers = refl; full = refl; keeper = λ e. cc; looks = (refl, refl) } }, tt)) };
   foreign = refl;
-  legal_missing = record { opening = valid_of_nobody; lawful = (record { given = (editor_name, refl) }, (record { given = record { clock = refl; words = refl; numbers = refl; full = refl; keeper = λ e. cc; looks = (refl, refl) } }, tt)) };
+  legal_missing = record { opening = valid_of_nobody; lawful = (record { given = (editor_name, refl) }, (record { given = record { clock = refl; listed = refl; generation = refl; words = refl; numbers = refl; full = refl; keeper = λ e. cc; looks = (refl, refl) } }, tt)) };
   missing = refl;
 }
 
@@ -140,7 +146,7 @@ seats = record {
   twice = refl;
   on_a_bus = refl;
   by_handle = refl;
-  by_handle_given = record { clock = refl; words = refl; numbers = refl; full = refl; keeper = λ e. cc; looks = (refl, refl) };
+  by_handle_given = record { clock = refl; listed = refl; generation = refl; words = refl; numbers = refl; full = refl; keeper = λ e. cc; looks = (refl, refl) };
 }
 
 pub endings : LeaveAndCollect
@@ -159,5 +165,5 @@ endings = record {
 pub failed : FailedLook
 failed = record {
   reply = refl;
-  lawful = record { given = record { clock = refl; words = refl; numbers = refl; full = refl; keeper = λ e. cc; looks = refl } };
+  lawful = record { given = record { clock = refl; listed = refl; generation = refl; words = refl; numbers = refl; full = refl; keeper = λ e. cc; looks = refl } };
 }

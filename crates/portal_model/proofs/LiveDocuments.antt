@@ -10,7 +10,7 @@ use Rattle.portal_model.specs.declared.request.AddRequest.{AddRequest}
 use Rattle.portal_model.specs.declared.state.Document.{Document}
 use Rattle.portal_model.specs.declared.state.Triple.{Triple}
 use Rattle.portal_model.specs.Add.{used_again}
-use Rattle.portal_model.specs.AddArguments.{makes_strict, persists, reuses}
+use Rattle.portal_model.specs.AddArguments.{exports, makes_strict, persists, reuses}
 use Rattle.portal_model.specs.Arguments.{document_named, if_reached, reached}
 use Rattle.portal_model.specs.Documents.{id_of_document, serves}
 use Rattle.portal_model.specs.Rights.{held_by}
@@ -71,6 +71,6 @@ live_id_of ds (Some d) h = h
 pub live-again : (ds : List Document) (a : AddRequest) (path : List ℕ) → IsLiveId ds (used_again ds a path)
 live-again ds a path = by_flag (reuses a)
   where
-    by_flag : (b : Bool) → IsLiveId ds (cond b (option_map id_of_document (find (serves path (persists a) (makes_strict a)) ds)) None)
-    by_flag true = live_id_of ds (find (serves path (persists a) (makes_strict a)) ds) (live-of (serves path (persists a) (makes_strict a)) ds (find (serves path (persists a) (makes_strict a)) ds) refl)
+    by_flag : (b : Bool) → IsLiveId ds (cond b (option_map id_of_document (find (serves path (persists a) (makes_strict a) (exports a)) ds)) None)
+    by_flag true = live_id_of ds (find (serves path (persists a) (makes_strict a) (exports a)) ds) (live-of (serves path (persists a) (makes_strict a) (exports a)) ds (find (serves path (persists a) (makes_strict a) (exports a)) ds) refl)
     by_flag false = tt

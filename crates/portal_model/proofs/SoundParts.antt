@@ -33,6 +33,7 @@ pub record Documented (ds : List Document) (made : List DocId) (rights : List Tr
   pub numbers_made : list_all (λ (d : Document). is_made made d.id.number) ds ≡ true
   pub identifiers : list_all has_identifier ds ≡ true
   pub paths : list_all (λ (d : Document). is_host_path d.path) ds ≡ true
+  pub folders_none : list_all (λ (d : Document). not d.folder) ds ≡ true
   pub applications_differ : IsDistinct is_same apps
   pub names : list_all is_app_name apps ≡ true
   pub rights_in_order : are_in_order rights ≡ true
@@ -51,6 +52,7 @@ pub record Connected (s : State) : Type 0 where
   pub files_apart : list_all (λ (f : File). not (is_folder s.files f.path)) s.files ≡ true
   pub files_named : list_all (λ (f : File). is_host_path f.path) s.files ≡ true
   pub files_told : s.told ≡ false → s.files ≡ []
+  pub taken_none : s.taken ≡ []
   pub made_limit : s.limits.made < 2 ^ 32
   pub queued_limit : s.limits.queued < 2 ^ 32
 
@@ -66,6 +68,7 @@ valid-sound s v = record {
     numbers_made = v.numbers_made;
     identifiers = v.identifiers;
     paths = v.paths;
+    folders_none = v.folders_none;
     applications_differ = v.applications_differ;
     names = v.names;
     rights_in_order = v.rights_in_order;
@@ -83,6 +86,7 @@ valid-sound s v = record {
     files_apart = v.files_apart;
     files_named = v.files_named;
     files_told = v.files_told;
+    taken_none = v.taken_none;
     made_limit = v.made_limit;
     queued_limit = v.queued_limit;
   };
@@ -113,6 +117,7 @@ sound-valid s e k =
       numbers_made = k.documented.numbers_made;
       identifiers = k.documented.identifiers;
       paths = k.documented.paths;
+      folders_none = k.documented.folders_none;
       applications_differ = k.documented.applications_differ;
       names = k.documented.names;
       rights_in_order = k.documented.rights_in_order;
@@ -129,6 +134,7 @@ sound-valid s e k =
       files_apart = k.connected.files_apart;
       files_named = k.connected.files_named;
       files_told = k.connected.files_told;
+      taken_none = k.connected.taken_none;
       documents_within = within s.limits.documents (length s.documents) (neither_first documents (made || applications) e);
       made_within = within s.limits.made (length s.made) (neither_first made applications later);
       applications_within = within applications_limit (length s.applications) (neither_second made applications later);
@@ -155,6 +161,7 @@ sound-lists s ds made rights apps k d m = record {
     files_apart = k.connected.files_apart;
     files_named = k.connected.files_named;
     files_told = k.connected.files_told;
+    taken_none = k.connected.taken_none;
     made_limit = k.connected.made_limit;
     queued_limit = k.connected.queued_limit;
   };
@@ -168,6 +175,7 @@ fewer-lists s ds rights v d fewer = record {
   numbers_made = d.numbers_made;
   identifiers = d.identifiers;
   paths = d.paths;
+  folders_none = d.folders_none;
   applications_differ = d.applications_differ;
   names = d.names;
   rights_in_order = d.rights_in_order;
@@ -184,6 +192,7 @@ fewer-lists s ds rights v d fewer = record {
   files_apart = v.files_apart;
   files_named = v.files_named;
   files_told = v.files_told;
+  taken_none = v.taken_none;
   documents_within = fewer;
   made_within = v.made_within;
   applications_within = v.applications_within;
@@ -222,6 +231,7 @@ Valid-open s cs hs files v k h m f = record {
   numbers_made = v.numbers_made;
   identifiers = v.identifiers;
   paths = v.paths;
+  folders_none = v.folders_none;
   applications_differ = v.applications_differ;
   names = v.names;
   rights_in_order = v.rights_in_order;
@@ -238,6 +248,7 @@ Valid-open s cs hs files v k h m f = record {
   files_apart = f.apart;
   files_named = f.named;
   files_told = f.none;
+  taken_none = v.taken_none;
   documents_within = v.documents_within;
   made_within = v.made_within;
   applications_within = v.applications_within;
@@ -255,6 +266,7 @@ Valid-entries s entries v d e = record {
   numbers_made = v.numbers_made;
   identifiers = v.identifiers;
   paths = v.paths;
+  folders_none = v.folders_none;
   applications_differ = v.applications_differ;
   names = v.names;
   rights_in_order = v.rights_in_order;
@@ -271,6 +283,7 @@ Valid-entries s entries v d e = record {
   files_apart = v.files_apart;
   files_named = v.files_named;
   files_told = v.files_told;
+  taken_none = v.taken_none;
   documents_within = v.documents_within;
   made_within = v.made_within;
   applications_within = v.applications_within;

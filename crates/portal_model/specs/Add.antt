@@ -12,7 +12,7 @@ use Rattle.portal_model.specs.declared.request.AddRequest.{AddRequest}
 use Rattle.portal_model.specs.declared.state.Connection.{Connection}
 use Rattle.portal_model.specs.declared.state.Document.{Document}
 use Rattle.portal_model.specs.declared.state.Triple.{Triple}
-use Rattle.portal_model.specs.AddArguments.{are_add_arguments, are_presented, document_paths, is_left_out, makes_strict, names_nobody, paths_shown, persists, reuses}
+use Rattle.portal_model.specs.AddArguments.{are_add_arguments, are_presented, document_paths, exports, is_left_out, makes_strict, names_nobody, paths_shown, persists, reuses}
 use Rattle.portal_model.specs.Documents.{reusable_of}
 use Rattle.portal_model.specs.Grant.{exceeds_limits, given_rights}
 use Rattle.portal_model.specs.Present.{with_queue}
@@ -30,7 +30,7 @@ adding_rights a =
 -- the live document that is used again for a file, where there is one
 abbrev pub used_again : List Document → AddRequest → List ℕ → Option DocId
 used_again documents a path =
-    cond (reuses a) (reusable_of documents path (persists a) (makes_strict a)) None
+    cond (reuses a) (reusable_of documents path (persists a) (makes_strict a) (exports a)) None
 
 -- the rights that an application then has in the document: in a new one, and in one that it may
 -- have had
@@ -86,6 +86,7 @@ new_document a id path = record {
   persistent = persists a;
   reusable = reuses a;
   strict = makes_strict a;
+  folder = exports a;
 }
 
 abbrev pub with_new_document : Document → State → State

@@ -28,6 +28,10 @@ is_as_needed a = a.flags / 4 % 2 == 1
 abbrev pub makes_strict : AddRequest → Bool
 makes_strict a = a.flags / 16 % 2 == 1
 
+-- a folder becomes a document
+abbrev pub exports : AddRequest → Bool
+exports a = a.flags / 8 % 2 == 1
+
 -- 1, 2, 4 and 16. This project's own rule: 8, to export a folder, is refused as every unknown flag
 -- is.
 abbrev pub are_flags : ℕ → Bool

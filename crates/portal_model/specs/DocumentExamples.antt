@@ -49,6 +49,8 @@ asked_drawing seat request looks words numbers = record {
     words = words;
     numbers = map id_of numbers;
     looks = looks;
+    listed = None;
+    generation = None;
     full = false;
     fault = Fault.None;
   };

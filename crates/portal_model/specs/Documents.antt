@@ -11,19 +11,21 @@ abbrev pub same_flag : Bool → Bool → Bool
 same_flag true b = b
 same_flag false b = not b
 
--- the document may stand for a new one of this path that is persistent and strict or isn't
-abbrev pub serves : List ℕ → Bool → Bool → Document → Bool
-serves path persistent strict d =
+-- the document may stand for a new one of this path that is persistent, strict and a folder or
+-- isn't
+abbrev pub serves : List ℕ → Bool → Bool → Bool → Document → Bool
+serves path persistent strict folder d =
     is_same d.path path
-    && (same_flag d.persistent persistent && (same_flag d.strict strict && d.reusable))
+    && (same_flag d.persistent persistent
+    && (same_flag d.strict strict && (same_flag d.folder folder && d.reusable)))
 
 abbrev pub id_of_document : Document → DocId
 id_of_document d = d.id
 
 -- the first that may stand for a new one
-abbrev pub reusable_of : List Document → List ℕ → Bool → Bool → Option DocId
-reusable_of documents path persistent strict =
-    option_map id_of_document (find (serves path persistent strict) documents)
+abbrev pub reusable_of : List Document → List ℕ → Bool → Bool → Bool → Option DocId
+reusable_of documents path persistent strict folder =
+    option_map id_of_document (find (serves path persistent strict folder) documents)
 
 -- the first of a path
 abbrev pub first_of : List Document → List ℕ → Option DocId

@@ -7,10 +7,19 @@ use Rattle.portal_model.specs.declared.reply.Code.TheVariants as Code
 use Rattle.portal_model.specs.declared.state.Connection.{Connection}
 use Rattle.portal_model.specs.State.{State, connection_of}
 
--- a connection with nothing presented, opened or unsent
+-- a connection with nothing presented, opened, unsent or named, and no temporary
 abbrev pub new_connection : ℕ → Who → Kind → Connection
-new_connection seat who kind =
-    record { seat = seat; who = who; kind = kind; queue = []; opens = 0; unsent = [] }
+new_connection seat who kind = record {
+  seat = seat;
+  who = who;
+  kind = kind;
+  queue = [];
+  opens = 0;
+  unsent = [];
+  namings = [];
+  temps = [];
+  added = 0;
+}
 
 -- the connections after an Enter of a seat with that open connection
 abbrev pub entered : ℕ → Who → Kind → List Connection → Option Connection → List Connection

@@ -27,7 +27,7 @@ use Rattle.portal_model.specs.History.{Legal, replies, cost_of}
 use Rattle.portal_model.specs.State.{State}
 use Rattle.portal_model.specs.Lawful.{Lawful, LawfulGiven}
 use Rattle.portal_model.specs.Step.{after, reply_at, step}
-use Rattle.portal_model.specs.Opening.{opened, id_of, first_named, each, names_kept}
+use Rattle.portal_model.specs.Opening.{opened, id_of, first_item, first_named, each, names_kept}
 
 -- ---- what the examples are made of
 
@@ -48,7 +48,7 @@ limits = record {
 }
 
 abbrev pub file : List ℕ → List ℕ → FileItem
-file path content = record { path = path; content = content; moment = 0 }
+file path content = first_item path content 0
 
 -- rights are given by their bits: read 1, write 2, grant-permissions 4, delete 8
 abbrev pub grant : List ℕ → ℕ → GrantRecord
@@ -59,6 +59,7 @@ document number path grants = record {
   kept =
       record { number = number; path = path; reusable = true; strict = false; grants = grants };
   persistent = true;
+  folder = false;
 }
 
 abbrev pub made_of : List OpeningDocument → List DocId
@@ -72,6 +73,7 @@ opening documents files = record {
   applications = first_named (each names_kept documents);
   entries = [];
   files = files;
+  taken = [];
 }
 
 abbrev pub given : List Look → Given
@@ -80,6 +82,8 @@ given looks = record {
   words = [];
   numbers = [];
   looks = looks;
+  listed = None;
+  generation = None;
   full = false;
   fault = Fault.None;
 }
@@ -222,6 +226,9 @@ waiting_state = record read_write_state {
         queue = [];
         opens = 0;
         unsent = change ∷ [];
+        namings = [];
+        temps = [];
+        added = 0;
       } ∷ [];
 }
 
@@ -252,6 +259,8 @@ failed_look = record {
     words = [];
     numbers = [];
     looks = [];
+    listed = None;
+    generation = None;
     full = false;
     fault = Fault.Tree;
   };

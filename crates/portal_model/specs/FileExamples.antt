@@ -32,6 +32,8 @@ shown looks now = record {
   words = [];
   numbers = [];
   looks = looks;
+  listed = None;
+  generation = None;
   full = false;
   fault = Fault.None;
 }

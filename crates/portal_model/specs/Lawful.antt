@@ -21,6 +21,8 @@ nothing_given = record {
   words = [];
   numbers = [];
   looks = [];
+  listed = None;
+  generation = None;
   full = false;
   fault = Fault.None;
 }

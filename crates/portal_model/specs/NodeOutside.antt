@@ -1,5 +1,5 @@
 -- What the outside may have given to a request on a node.
-use Rattle.std.specs.Prelude.{◌≡◌, [], false, is_some}
+use Rattle.std.specs.Prelude.{◌≡◌, [], false, None, is_some}
 use Rattle.portal_model.specs.declared.entry.Fault.{Fault}
 use Rattle.portal_model.specs.declared.entry.Given.{Given}
 use Rattle.portal_model.specs.declared.request.NodeRequest.{NodeRequest}
@@ -17,6 +17,9 @@ pub record LawfulNode (s : State) (c : Connection) (r : NodeRequest) (given : Gi
   pub looks : Gives (files_told s) (walk_on_node s c r) given.looks (is_tree given.fault)
   -- the clock is read where a file is changed or made
   pub clock : is_some given.now ≡ reads_clock (walk_on_node s c r) given.looks
+  -- no folder is listed, and no file is made to be renamed later
+  pub listed : given.listed ≡ None
+  pub generation : given.generation ≡ None
   pub words : given.words ≡ []
   pub numbers : given.numbers ≡ []
   pub full : given.full ≡ false

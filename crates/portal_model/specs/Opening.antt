@@ -28,6 +28,7 @@ document_kept d = record {
   persistent = d.persistent;
   reusable = d.kept.reusable;
   strict = d.kept.strict;
+  folder = d.folder;
 }
 
 -- whether a record of rights has this one
@@ -62,6 +63,19 @@ each f xs = flat_map f xs
 abbrev pub file_of : FileItem → File
 file_of f = record { path = f.path; generation = 0; bytes = f.content; moment = f.moment }
 
+-- the first file of a path, which stands there
+abbrev pub first_item : List ℕ → List ℕ → ℕ → FileItem
+first_item path content moment = record {
+  path = path;
+  content = content;
+  moment = moment;
+  generation = 0;
+  present = true;
+}
+
+abbrev pub is_first_item : FileItem → Bool
+is_first_item f = f.generation == 0 && f.present
+
 abbrev pub is_told : Option (List File) → Bool
 is_told None = false
 is_told (Some files) = true
@@ -82,6 +96,7 @@ opened_over files o = record {
   handles = [];
   told = is_told files;
   files = files_of files;
+  taken = o.taken;
   entries = o.entries;
 }
 
@@ -132,6 +147,10 @@ pub record SoundOpening (o : OpeningState) : Type 0 where
   pub files_differ : IsDistinct is_same (map (λ f. f.path) o.files)
   pub files_apart : list_all (λ f. not (is_folder (map file_of o.files) f.path)) o.files ≡ true
   pub files_named : list_all (λ f. is_host_path f.path) o.files ≡ true
+  -- not yet: no document is a folder, and each file is the first that its path has
+  pub no_folders : list_all (λ d. not d.folder) o.documents ≡ true
+  pub files_first : list_all is_first_item o.files ≡ true
+  pub none_taken : o.taken ≡ []
   pub documents_within : length o.documents ≤ o.limits.documents
   pub made_within : length o.documents ≤ o.limits.made
   pub applications_within : length o.applications ≤ applications_limit

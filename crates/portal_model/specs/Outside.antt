@@ -54,6 +54,9 @@ pub record LawfulBus (s : State) (c : Connection) (request : Request) (given : G
   pub looks : Gives (files_told s) (walk_of s c request given) given.looks (is_tree given.fault)
   -- the clock is read where a file is changed
   pub clock : is_some given.now ≡ reads_clock (walk_of s c request given) given.looks
+  -- no folder is listed, and no file is made to be renamed later
+  pub listed : given.listed ≡ None
+  pub generation : given.generation ≡ None
   pub words : length given.words ≡ words_drawn (verdict_of s c request given)
   pub numbers : AreDrawn s.made given.words given.numbers
   pub full : given.full ≡ meets_limit (verdict_of s c request given)

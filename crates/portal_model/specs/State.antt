@@ -11,6 +11,7 @@ use Rattle.portal_base.specs.declared.who.Kind.{Kind}
 use Rattle.portal_base.specs.declared.who.Who.{Who}
 use Rattle.portal_model.specs.declared.handle.Handle.{Handle}
 use Rattle.portal_model.specs.declared.handle.OpenHandle.{OpenHandle}
+use Rattle.portal_model.specs.declared.opening.TakenGeneration.{TakenGeneration}
 use Rattle.portal_model.specs.declared.rights.Right.{Right}
 use Rattle.portal_model.specs.declared.rights.Right.TheVariants.{Read, Write, GrantPermissions, Delete}
 use Rattle.portal_model.specs.declared.state.Connection.{Connection}
@@ -36,6 +37,8 @@ pub record State : Type 0 where
   -- whether the tree of files tells what it has; where it does not, there are no files here
   pub told : Bool
   pub files : List File
+  -- the last generation taken for a file of a path, by path, none twice
+  pub taken : List TakenGeneration
   -- the entries of the permission store, in order of creation
   pub entries : List StoredEntry
 

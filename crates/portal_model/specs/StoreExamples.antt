@@ -50,6 +50,9 @@ bus seat who unsent = record {
   queue = [];
   opens = 0;
   unsent = unsent;
+  namings = [];
+  temps = [];
+  added = 0;
 }
 
 -- two buses of the host and one of an application; the host's wait for these changes
@@ -134,6 +137,8 @@ keeper_fails = record {
   words = [];
   numbers = [];
   looks = [];
+  listed = None;
+  generation = None;
   full = false;
   fault = Fault.Keeper;
 }

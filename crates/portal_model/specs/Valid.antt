@@ -75,12 +75,19 @@ is_caller (Who.App app) = is_app_name app
 
 -- A connection is bound to a caller. Only the host's buses wait for changes; these tell of entries
 -- that are valid, or were.
-abbrev pub is_sound_connection : ℕ → Connection → Bool
-is_sound_connection queued c =
+abbrev pub is_bound_connection : ℕ → Connection → Bool
+is_bound_connection queued c =
     is_caller c.who
     && ((is_none c.unsent || is_host_bus c.who c.kind)
     && (list_all is_sound_change c.unsent
     && (list_all is_host_path c.queue && nat_le (length c.queue) queued)))
+
+-- not yet: nothing was named on it below a folder, and no temporary was made
+abbrev pub has_no_names : Connection → Bool
+has_no_names c = is_none c.namings && (is_none c.temps && c.added == 0)
+
+abbrev pub is_sound_connection : ℕ → Connection → Bool
+is_sound_connection queued c = has_no_names c && is_bound_connection queued c
 
 -- the greatest number of applications that may be numbered
 abbrev pub applications_limit : ℕ
@@ -138,6 +145,8 @@ pub record Valid (s : State) : Type 0 where
   pub numbers_made : list_all (λ d. is_made s.made d.id.number) s.documents ≡ true
   pub identifiers : list_all has_identifier s.documents ≡ true
   pub paths : list_all (λ d. is_host_path d.path) s.documents ≡ true
+  -- not yet: no document is a folder
+  pub folders_none : list_all (λ d. not d.folder) s.documents ≡ true
   pub applications_differ : IsDistinct is_same s.applications
   pub names : list_all is_app_name s.applications ≡ true
   -- rights stand in their one order, none twice
@@ -158,6 +167,8 @@ pub record Valid (s : State) : Type 0 where
   pub files_apart : list_all (λ f. not (is_folder s.files f.path)) s.files ≡ true
   pub files_named : list_all (λ f. is_host_path f.path) s.files ≡ true
   pub files_told : s.told ≡ false → s.files ≡ []
+  -- not yet: no generation was taken
+  pub taken_none : s.taken ≡ []
   pub documents_within : length s.documents ≤ s.limits.documents
   pub made_within : length s.made ≤ s.limits.made
   pub applications_within : length s.applications ≤ applications_limit

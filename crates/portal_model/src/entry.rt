@@ -1,7 +1,7 @@
 //! Entries of the history: a request, and what the outside gave it.
 
 use crate::request::Request;
-use portal_base::files::Look;
+use portal_base::files::{ChildName, Look};
 use portal_base::list::List;
 use portal_base::names::doc_id::DocId;
 
@@ -27,6 +27,10 @@ pub struct Given {
     pub numbers: List<DocId>,
     /// What the tree showed, in the order of its calls.
     pub looks: List<Look>,
+    /// What the tree listed of a folder, in byte order of the names.
+    pub listed: Option<List<ChildName>>,
+    /// The generation of the file that was made to be renamed later.
+    pub generation: Option<u64>,
     /// Whether a limit of documents or of applications was met.
     pub full: bool,
     /// The device that failed.

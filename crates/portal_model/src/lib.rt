@@ -12,6 +12,7 @@
 //! | `request`, `reply`, `entry` | what is asked, what is answered, and one request with what the outside gave it |
 //! | `asked` | what a seat is answered that waits for nobody |
 //! | `state`, `rights`, `handle`, `place` | the items of the portal's lists, the four rights, open handles, the numbers of nodes |
+//! | `naming`, `temporary` | names below exported folders, and files that are renamed later |
 //! | `opening`, `records` | what a run begins with, and the records that outlive it |
 //! | `store`, `datum` | the calls of the permission store, its entries and their data |
 //! | `errno` | the numbers of errors on nodes |
@@ -37,6 +38,7 @@ pub mod examples;
 pub mod file_examples;
 pub mod handle;
 pub mod laws;
+pub mod naming;
 pub mod node_laws;
 pub mod opening;
 pub mod place;
@@ -48,3 +50,4 @@ pub mod state;
 pub mod store;
 pub mod store_examples;
 pub mod store_laws;
+pub mod temporary;

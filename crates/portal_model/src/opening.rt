@@ -16,6 +16,8 @@ pub struct OpeningDocument {
     pub kept: DocRecord,
     /// Whether it outlives the run.
     pub persistent: bool,
+    /// Whether it is a folder.
+    pub folder: bool,
 }
 
 /// A file of the tree that is there from the start.
@@ -27,6 +29,19 @@ pub struct FileItem {
     pub content: ByteList,
     /// When it changed last, in seconds.
     pub moment: u64,
+    /// Which of the files that the path has had.
+    pub generation: u64,
+    /// Whether it is the one that stands at the path.
+    pub present: bool,
+}
+
+/// The last generation that was taken for a file of a path.
+#[derive(Drop)]
+pub struct TakenGeneration {
+    /// The path on the host.
+    pub path: ByteList,
+    /// The generation, from 1.
+    pub last: u64,
 }
 
 /// The state that a portal opens with.
@@ -44,6 +59,8 @@ pub struct OpeningState {
     pub entries: List<StoredEntry>,
     /// The files of the tree.
     pub files: List<FileItem>,
+    /// The last generations taken, of which each path has one at most.
+    pub taken: List<TakenGeneration>,
 }
 
 impl Replica for OpeningDocument {
@@ -51,6 +68,7 @@ impl Replica for OpeningDocument {
         Ok(OpeningDocument {
             kept: self.kept.replica(alloc)?,
             persistent: self.persistent,
+            folder: self.folder,
         })
     }
 }
@@ -61,6 +79,17 @@ impl Replica for FileItem {
             path: self.path.replica(alloc)?,
             content: self.content.replica(alloc)?,
             moment: self.moment,
+            generation: self.generation,
+            present: self.present,
+        })
+    }
+}
+
+impl Replica for TakenGeneration {
+    fn replica(&self, alloc: Global) -> Result<TakenGeneration, WantOfMemory> {
+        Ok(TakenGeneration {
+            path: self.path.replica(alloc)?,
+            last: self.last,
         })
     }
 }

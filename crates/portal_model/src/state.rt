@@ -3,8 +3,10 @@
 ghost use Rattle.std.specs.Prelude.{◌≡◌};
 ghost use Rattle.portal_model.specs.Valid.{applications_limit};
 
+use crate::naming::Naming;
 use crate::reply::Change;
 use crate::rights::Right;
+use crate::temporary::OwnTemp;
 pub use portal_base::files::File;
 use portal_base::list::List;
 use portal_base::memory::{Replica, WantOfMemory};
@@ -37,6 +39,8 @@ pub struct Document {
     pub reusable: bool,
     /// Whether open handles of its file follow later revocations.
     pub strict: bool,
+    /// Whether it is a folder.
+    pub folder: bool,
 }
 
 // Triples stand in one order, by the document's number, the name and the right: so they don't
@@ -67,6 +71,14 @@ pub struct Connection {
     pub opens: u64,
     /// The changes of the permission store that were not told yet.
     pub unsent: List<Change>,
+    /// What was named on it below folders that are documents; naming k is the
+    /// k-th.
+    pub namings: List<Naming>,
+    /// The temporaries that were made on it and are still there, in the order in
+    /// which they were made.
+    pub temps: List<OwnTemp>,
+    /// The number of temporaries that were made on it.
+    pub added: u32,
 }
 
 impl Replica for Document {
@@ -77,6 +89,7 @@ impl Replica for Document {
             persistent: self.persistent,
             reusable: self.reusable,
             strict: self.strict,
+            folder: self.folder,
         })
     }
 }

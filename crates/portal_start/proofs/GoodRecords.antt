@@ -148,6 +148,11 @@ no_files : IsDistinct is_same []
 unfolding IsDistinct
 no_files = tt
 
+-- no record is of a folder
+none_folders : (ds : List DocRecord) → list_all (λ (d : OpeningDocument). not d.folder) (map document_loaded ds) ≡ true
+none_folders [] = refl
+none_folders (d ∷ ds) = none_folders ds
+
 -- ---- the whole
 
 pub sound_records : (limits : Limits) (records : Records) (entries : Entries) → KeepEntries records.entries entries → AreGood limits records → list_all is_narrow (opening_loaded entries limits records).made ≡ true → limits.made < 2 ^ 32 → limits.queued < 2 ^ 32 → SoundOpening (opening_loaded entries limits records)
@@ -168,6 +173,9 @@ sound_records limits records entries kept good narrow made queued =
       files_differ = no_files;
       files_apart = refl;
       files_named = refl;
+      no_folders = none_folders ds;
+      files_first = refl;
+      none_taken = refl;
       documents_within = rw (length-map ds document_loaded) (let within = few records.version limits ds [] limits.documents (λ e d k. k.live) (omega arith) good.documents in omega (arith, within));
       made_within = rw (length-map ds document_loaded) (let within = few records.version limits ds [] limits.made (λ e d k. k.made) (omega arith) good.documents in omega (arith, within));
       applications_within = few_named records.version limits ds [] (omega arith) good.documents;
@@ -212,6 +220,7 @@ with_files o files v t = record {
   numbers_made = v.numbers_made;
   identifiers = v.identifiers;
   paths = v.paths;
+  folders_none = v.folders_none;
   applications_differ = v.applications_differ;
   names = v.names;
   rights_in_order = v.rights_in_order;
@@ -228,6 +237,7 @@ with_files o files v t = record {
   files_apart = each_apart files files t.placed.no_root t.placed.apart;
   files_named = sym (list_all-map is_host_path (λ (f : File). f.path) files) ∙ t.names;
   files_told = λ e. cc;
+  taken_none = v.taken_none;
   documents_within = v.documents_within;
   made_within = v.made_within;
   applications_within = v.applications_within;

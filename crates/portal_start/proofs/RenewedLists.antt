@@ -219,6 +219,7 @@ opened_again s most_live most_made v none closed = λ i. record {
   handles = sym closed i;
   told = told_again s.told s.files i;
   files = files_again s.told s.files v.files_told i;
+  taken = sym v.taken_none i;
   entries = s.entries;
 }
 

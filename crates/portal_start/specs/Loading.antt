@@ -21,9 +21,9 @@ use Rattle.portal_start.specs.declared.start.Lists.{Lists}
 use Rattle.portal_start.specs.declared.start.StartError.{StartError}
 use Rattle.portal_start.specs.declared.start.StartError.TheVariants.{KeeperFault, BadVersion, BadRecord, Memory}
 
--- each kept document persists
+-- each kept document persists, and none is a folder
 abbrev pub document_loaded : DocRecord → OpeningDocument
-document_loaded d = record { kept = d; persistent = true }
+document_loaded d = record { kept = d; persistent = true; folder = false }
 
 -- The opening state that stands for records, with these entries: no document was made but those
 -- that are kept, and the applications are numbered as the records first name them. The tree tells
@@ -36,6 +36,7 @@ opening_loaded entries limits records = record {
   applications = applications_of records.documents;
   entries = entries;
   files = [];
+  taken = [];
 }
 
 -- the state that records open with: its entries are those that the records keep

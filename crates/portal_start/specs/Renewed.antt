@@ -11,7 +11,11 @@ use Rattle.portal_model.specs.Store.{Entries}
 
 -- a live document with the rights in it
 abbrev pub document_again : List Triple → Document → OpeningDocument
-document_again rights d = record { kept = document_record rights d; persistent = d.persistent }
+document_again rights d = record {
+  kept = document_record rights d;
+  persistent = d.persistent;
+  folder = d.folder;
+}
 
 -- The live documents with their rights, all numbers that were made, the applications by their
 -- numbers, and the entries of the permission store. The tree tells the files.
@@ -23,4 +27,5 @@ opening_of limits documents rights applications entries = record {
   applications = applications;
   entries = entries;
   files = [];
+  taken = [];
 }

@@ -41,6 +41,7 @@ pub fn opening_loaded(
         applications,
         entries: kept_entries(alloc, entries)?,
         files: List::new(alloc),
+        taken: List::new(alloc),
     })
 }
 
@@ -97,6 +98,7 @@ fn persistent(alloc: Global, items: List<DocRecord>) -> Result<List<OpeningDocum
         documents.push(OpeningDocument {
             kept,
             persistent: true,
+            folder: false,
         })?;
     }
     Ok(List::from_vec(documents))

@@ -37,6 +37,7 @@ pub fn opening_of(
         applications: copies(alloc, applications.names())?,
         entries: copies_of_entries(alloc, tables.entries())?,
         files: List::new(alloc),
+        taken: List::new(alloc),
     })
 }
 
@@ -73,5 +74,6 @@ fn document_again(
     Ok(OpeningDocument {
         kept,
         persistent: document.persistent,
+        folder: document.folder,
     })
 }

@@ -28,10 +28,10 @@ use Rattle.portal_model.specs.Place.{place_named, reach_of_subject, sight_at, su
 use Rattle.portal_model.specs.State.{State, connection_of, handle_of, is_mount}
 use Rattle.portal_model.specs.Step.{all_told, mount_of, node_step, reply_with, told_of, with_signals}
 use Rattle.portal_model.specs.Walk.{Walk, Gives, reads_clock}
-use Rattle.portal_model.specs.Valid.{Valid, is_caller, is_host_bus, is_none, is_sound_change, is_sound_connection}
+use Rattle.portal_model.specs.Valid.{Valid, has_no_names, is_bound_connection, is_caller, is_host_bus, is_none, is_sound_change, is_sound_connection}
 use Rattle.portal_model.proofs.DocumentChanges.{both, first_of_both, second_of_both}
 use Rattle.portal_model.proofs.OpenHandles.{Alike as AlikeConnections, mapped-handles}
-use Rattle.portal_model.proofs.Queues.{is_sound_queue, seats}
+use Rattle.portal_model.proofs.Queues.{is_sound_queue, seats, sound_bound, sound_unnamed}
 use Rattle.portal_model.proofs.SoundParts.{Valid-connections, valid-handles}
 use Rattle.portal_model.proofs.WhoWaits.{node_step-quiet}
 use Rattle.portal_steps.proofs.Boxes.{kept-waits, mount-silent, silent-found, told-silent}
@@ -67,8 +67,10 @@ quiet-one queued c h =
     let waits = is_none c.unsent || is_host_bus c.who c.kind in
     let changes = list_all is_sound_change c.unsent in
     let queue = is_sound_queue queued c.queue in
-    let later = second_of_both waits (changes && queue) (second_of_both (is_caller c.who) (waits && (changes && queue)) h) in
-    both (is_caller c.who) queue (first_of_both (is_caller c.who) (waits && (changes && queue)) h) (second_of_both changes queue later)
+    let bound = sound_bound queued c h in
+    let later = second_of_both waits (changes && queue) (second_of_both (is_caller c.who) (waits && (changes && queue)) bound) in
+    both (has_no_names c) (is_bound_connection queued (silent c)) (sound_unnamed queued c h)
+    (both (is_caller c.who) queue (first_of_both (is_caller c.who) (waits && (changes && queue)) bound) (second_of_both changes queue later))
 
 quiet-sound : (queued : ℕ) (cs : List Connection) → list_all (is_sound_connection queued) cs ≡ true → list_all (is_sound_connection queued) (map silent cs) ≡ true
 quiet-sound queued [] h = refl
@@ -200,6 +202,8 @@ module _ (s : State) (v : Valid s) (seat : ℕ) (r : NodeRequest) (given : Given
   lawful-loud (Some c) l = record {
     looks = subst (λ (w : Walk NodeVerdict). Gives (files_told s) w given.looks (is_tree given.fault)) (walk-told c) l.looks;
     clock = l.clock ∙ ap (λ (w : Walk NodeVerdict). reads_clock w given.looks) (walk-told c);
+    listed = l.listed;
+    generation = l.generation;
     words = l.words;
     numbers = l.numbers;
     full = l.full;

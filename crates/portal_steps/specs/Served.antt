@@ -19,6 +19,8 @@ looked looks fault = record {
   words = [];
   numbers = [];
   looks = looks;
+  listed = None;
+  generation = None;
   full = false;
   fault = fault;
 }

@@ -49,6 +49,8 @@ pub fn node_entry(alloc: Global, seat: u32, request: NodeRequest, done: NodeDone
         words: List::new(alloc),
         numbers: List::new(alloc),
         looks,
+        listed: None,
+        generation: None,
         full: false,
         fault,
     };
@@ -75,6 +77,8 @@ pub fn entry_made(alloc: Global, seat: u32, request: Request) -> Entry
             words: List::new(alloc),
             numbers: List::new(alloc),
             looks: List::new(alloc),
+            listed: None,
+            generation: None,
             full: false,
             fault: Fault::None,
         },
@@ -92,6 +96,9 @@ pub fn opened_connection(alloc: Global, seat: u32, who: Who, kind: Kind) -> Conn
         queue: List::new(alloc),
         opens: 0,
         unsent: List::new(alloc),
+        namings: List::new(alloc),
+        temps: List::new(alloc),
+        added: 0,
     }
 }
 

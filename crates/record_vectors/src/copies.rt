@@ -144,6 +144,7 @@ fn records(alloc: Global) -> Result<(), VectorError> {
         OpeningDocument {
             kept,
             persistent: true,
+            folder: true,
         },
     )?;
     let path = List::copied(alloc, b"/home/a.txt")?;
@@ -154,6 +155,8 @@ fn records(alloc: Global) -> Result<(), VectorError> {
             path,
             content,
             moment: 7,
+            generation: 2,
+            present: false,
         },
     )
 }
@@ -184,6 +187,7 @@ fn documents(alloc: Global) -> Result<(), VectorError> {
             persistent: true,
             reusable: false,
             strict: true,
+            folder: true,
         },
     )?;
     let app = given(alloc, AppId::read(alloc, b"org.ed"))?;

@@ -81,7 +81,12 @@ fn put_step(
             put_found(
                 alloc,
                 out,
-                documents.reusable(&path, first.contains('p'), first.contains('s')),
+                documents.reusable(
+                    &path,
+                    first.contains('p'),
+                    first.contains('s'),
+                    first.contains('f'),
+                ),
             )
         }
         "first" => {
@@ -133,5 +138,6 @@ fn document_of(alloc: Global, id: DocId, rest: &str) -> Result<Document, VectorE
         persistent: flags.contains('p'),
         reusable: flags.contains('r'),
         strict: flags.contains('s'),
+        folder: flags.contains('f'),
     })
 }

@@ -14,7 +14,7 @@ use Rattle.portal_model.specs.declared.request.Request.{Request}
 use Rattle.portal_model.specs.declared.state.Connection.{Connection}
 use Rattle.portal_model.specs.declared.state.Document.{Document}
 use Rattle.portal_model.specs.Add.{Added, add, add_allowed, add_file, add_looking, add_presented, added, added_files, adding_rights, are_of_kind, caller_rights, first_number, may_list_all, new_document, use_document, used_again, with_new_document, with_rights_of}
-use Rattle.portal_model.specs.AddArguments.{are_add_arguments, are_presented, document_paths, is_left_out, makes_strict, names_nobody, paths_shown, persists, reuses}
+use Rattle.portal_model.specs.AddArguments.{are_add_arguments, are_presented, document_paths, exports, is_left_out, makes_strict, names_nobody, paths_shown, persists, reuses}
 use Rattle.portal_model.specs.Add.{taken_from_queue}
 use Rattle.portal_model.specs.Bus.{bus_walk}
 use Rattle.portal_model.specs.Documents.{id_of_document, reusable_of, same_flag, serves}
@@ -33,36 +33,36 @@ abbrev AreAlike : List Document → List Document → Type 0
 AreAlike [] [] = Unit {0}
 AreAlike [] (e ∷ es) = ⊥
 AreAlike (d ∷ ds) [] = ⊥
-AreAlike (d ∷ ds) (e ∷ es) = (d.path ≡ e.path) × (d.persistent ≡ e.persistent) × (d.reusable ≡ e.reusable) × (d.strict ≡ e.strict) × AreAlike ds es
+AreAlike (d ∷ ds) (e ∷ es) = (d.path ≡ e.path) × (d.persistent ≡ e.persistent) × (d.reusable ≡ e.reusable) × (d.strict ≡ e.strict) × (d.folder ≡ e.folder) × AreAlike ds es
 
 alike_itself : (ds : List Document) → AreAlike ds ds
 alike_itself [] = tt
-alike_itself (d ∷ ds) = (refl, refl, refl, refl, alike_itself ds)
+alike_itself (d ∷ ds) = (refl, refl, refl, refl, refl, alike_itself ds)
 
-alike_last : (ds es : List Document) (d e : Document) → d.path ≡ e.path → d.persistent ≡ e.persistent → d.reusable ≡ e.reusable → d.strict ≡ e.strict → AreAlike ds es → AreAlike (ds ++ d ∷ []) (es ++ e ∷ [])
-alike_last [] [] d e p q r t h = (p, q, r, t, tt)
-alike_last [] (y ∷ ys) d e p q r t h = absurd h
-alike_last (x ∷ xs) [] d e p q r t h = absurd h
-alike_last (x ∷ xs) (y ∷ ys) d e p q r t h = (h.0, h.1, h.2, h.3, alike_last xs ys d e p q r t h.4)
+alike_last : (ds es : List Document) (d e : Document) → d.path ≡ e.path → d.persistent ≡ e.persistent → d.reusable ≡ e.reusable → d.strict ≡ e.strict → d.folder ≡ e.folder → AreAlike ds es → AreAlike (ds ++ d ∷ []) (es ++ e ∷ [])
+alike_last [] [] d e p q r t u h = (p, q, r, t, u, tt)
+alike_last [] (y ∷ ys) d e p q r t u h = absurd h
+alike_last (x ∷ xs) [] d e p q r t u h = absurd h
+alike_last (x ∷ xs) (y ∷ ys) d e p q r t u h = (h.0, h.1, h.2, h.3, h.4, alike_last xs ys d e p q r t u h.5)
 
 alike_long : (ds es : List Document) → AreAlike ds es → length ds ≡ length es
 alike_long [] [] h = refl
 alike_long [] (e ∷ es) h = absurd h
 alike_long (d ∷ ds) [] h = absurd h
-alike_long (d ∷ ds) (e ∷ es) h = let more = alike_long ds es h.4 in omega arith
+alike_long (d ∷ ds) (e ∷ es) h = let more = alike_long ds es h.5 in omega arith
 
-serve_alike : (path : List ℕ) (persistent strict : Bool) (d e : Document) → d.path ≡ e.path → d.persistent ≡ e.persistent → d.reusable ≡ e.reusable → d.strict ≡ e.strict → serves path persistent strict d ≡ serves path persistent strict e
-serve_alike path persistent strict d e p q r t = λ i. is_same (p i) path && (same_flag (q i) persistent && (same_flag (t i) strict && r i))
+serve_alike : (path : List ℕ) (persistent strict folder : Bool) (d e : Document) → d.path ≡ e.path → d.persistent ≡ e.persistent → d.reusable ≡ e.reusable → d.strict ≡ e.strict → d.folder ≡ e.folder → serves path persistent strict folder d ≡ serves path persistent strict folder e
+serve_alike path persistent strict folder d e p q r t u = λ i. is_same (p i) path && (same_flag (q i) persistent && (same_flag (t i) strict && (same_flag (u i) folder && r i)))
 
 -- of both one may stand for a new document, or of none
-found_alike : (path : List ℕ) (persistent strict : Bool) (ds es : List Document) → AreAlike ds es → is_some (reusable_of ds path persistent strict) ≡ is_some (reusable_of es path persistent strict)
-found_alike path persistent strict [] [] h = refl
-found_alike path persistent strict [] (e ∷ es) h = absurd h
-found_alike path persistent strict (d ∷ ds) [] h = absurd h
-found_alike path persistent strict (d ∷ ds) (e ∷ es) h = by_first (serves path persistent strict d) (serves path persistent strict e) (serve_alike path persistent strict d e h.0 h.1 h.2 h.3) (found_alike path persistent strict ds es h.4)
+found_alike : (path : List ℕ) (persistent strict folder : Bool) (ds es : List Document) → AreAlike ds es → is_some (reusable_of ds path persistent strict folder) ≡ is_some (reusable_of es path persistent strict folder)
+found_alike path persistent strict folder [] [] h = refl
+found_alike path persistent strict folder [] (e ∷ es) h = absurd h
+found_alike path persistent strict folder (d ∷ ds) [] h = absurd h
+found_alike path persistent strict folder (d ∷ ds) (e ∷ es) h = by_first (serves path persistent strict folder d) (serves path persistent strict folder e) (serve_alike path persistent strict folder d e h.0 h.1 h.2 h.3 h.4) (found_alike path persistent strict folder ds es h.5)
   where
-    by_first : (b c : Bool) → b ≡ c → is_some (reusable_of ds path persistent strict) ≡ is_some (reusable_of es path persistent strict)
-        → is_some (option_map id_of_document (cond b (Some d) (find (serves path persistent strict) ds))) ≡ is_some (option_map id_of_document (cond c (Some e) (find (serves path persistent strict) es)))
+    by_first : (b c : Bool) → b ≡ c → is_some (reusable_of ds path persistent strict folder) ≡ is_some (reusable_of es path persistent strict folder)
+        → is_some (option_map id_of_document (cond b (Some d) (find (serves path persistent strict folder) ds))) ≡ is_some (option_map id_of_document (cond c (Some e) (find (serves path persistent strict folder) es)))
     by_first true true k more = refl
     by_first true false k more = absurd (cc)
     by_first false true k more = absurd (cc)
@@ -71,8 +71,8 @@ found_alike path persistent strict (d ∷ ds) (e ∷ es) h = by_first (serves pa
 again_alike : (a : AddRequest) (path : List ℕ) (ds es : List Document) → AreAlike ds es → is_some (used_again ds a path) ≡ is_some (used_again es a path)
 again_alike a path ds es h = by_flag (reuses a)
   where
-    by_flag : (b : Bool) → is_some (cond b (reusable_of ds path (persists a) (makes_strict a)) None) ≡ is_some (cond b (reusable_of es path (persists a) (makes_strict a)) None)
-    by_flag true = found_alike path (persists a) (makes_strict a) ds es h
+    by_flag : (b : Bool) → is_some (cond b (reusable_of ds path (persists a) (makes_strict a) (exports a)) None) ≡ is_some (cond b (reusable_of es path (persists a) (makes_strict a) (exports a)) None)
+    by_flag true = found_alike path (persists a) (makes_strict a) (exports a) ds es h
     by_flag false = refl
 
 -- ---- and states
@@ -112,7 +112,7 @@ rights_counts who a i j s t h =
 
 new_counts : (a : AddRequest) (path : List ℕ) (i j : DocId) (s t : State) → SameCounts s t → SameCounts (with_new_document (new_document a i path) s) (with_new_document (new_document a j path) t)
 new_counts a path i j s t h = record {
-  documents = alike_last s.documents t.documents (new_document a i path) (new_document a j path) refl refl refl refl h.documents;
+  documents = alike_last s.documents t.documents (new_document a i path) (new_document a j path) refl refl refl refl refl h.documents;
   made = length-append s.made (i ∷ []) ∙ (ap (λ (n : ℕ). n + 1) h.made ∙ sym (length-append t.made (j ∷ [])));
   applications = h.applications;
   limits = h.limits;

@@ -96,11 +96,8 @@ numbers_one made (w ∷ words) (n ∷ ns) (m ∷ ms) a b =
 
 -- ---- what is given
 
-abbrev given : Option ℕ → List ℕ → List DocId → List Look → Bool → Fault → Given
-given now words numbers looks full fault = record { now = now; words = words; numbers = numbers; looks = looks; full = full; fault = fault }
-
-given_is : (g h : Given) → g.now ≡ h.now → g.words ≡ h.words → g.numbers ≡ h.numbers → g.looks ≡ h.looks → g.full ≡ h.full → g.fault ≡ h.fault → g ≡ h
-given_is g h n w u l f d = λ i. given (n i) (w i) (u i) (l i) (f i) (d i)
+given_is : (g h : Given) → g.now ≡ h.now → g.words ≡ h.words → g.numbers ≡ h.numbers → g.looks ≡ h.looks → g.listed ≡ h.listed → g.generation ≡ h.generation → g.full ≡ h.full → g.fault ≡ h.fault → g ≡ h
+given_is g h n w u l k t f d = λ i. record { now = n i; words = w i; numbers = u i; looks = l i; listed = k i; generation = t i; full = f i; fault = d i }
 
 no_moment : (now : Option ℕ) → is_some now ≡ false → now ≡ None
 no_moment None h = refl
@@ -153,7 +150,7 @@ node_one s r g h calls moment (Some x) t c d m n l k =
     let read : is_some g.now ≡ is_some h.now = l.clock ∙ (ap (reads_clock w) both.0 ∙ sym k.clock) in
     given_is g h
     (moment_one g.now h.now moment read m n)
-    (l.words ∙ sym k.words) (l.numbers ∙ sym k.numbers) both.0 (l.full ∙ sym k.full)
+    (l.words ∙ sym k.words) (l.numbers ∙ sym k.numbers) both.0 (l.listed ∙ sym k.listed) (l.generation ∙ sym k.generation) (l.full ∙ sym k.full)
     (fault_is g.fault h.fault both.1 (no_keeper g.fault l.keeper ∙ sym (no_keeper h.fault k.keeper)))
 
 -- ---- on documents
@@ -185,7 +182,7 @@ module _ (s : State) (o : Outside) (request : Request) (g h : Given) (left also 
       let same : verdict_of at x request g ≡ verdict_of at x request h = λ i. walked (bus_walk at x request (numbers i)) (moment_given (clock i)) (both.0 i) (both.1 i) in
       let changes : ChangesRecords at (verdict_of at x request h) → ChangesRecords at (verdict_of at x request g) = λ z. subst (ChangesRecords at) (sym same) z in
       let here : ChangesRecords at (verdict_of at x request g) → ChangesRecords at (verdict_of at x request h) = λ z. subst (ChangesRecords at) same z in
-      given_is g h clock words numbers both.0 (l.full ∙ (ap meets_limit same ∙ sym k.full))
+      given_is g h clock words numbers both.0 (l.listed ∙ sym k.listed) (l.generation ∙ sym k.generation) (l.full ∙ (ap meets_limit same ∙ sym k.full))
       (fault_is g.fault h.fault both.1
       (keeper_is g.fault h.fault (is_to_fail (next_call o.keeper)) (ChangesRecords at (verdict_of at x request g)) l.keeper (λ e. changes (k.keeper e)) (p x refl) (λ z. q x refl (here z))))
 

@@ -3,7 +3,7 @@
 ghost use Rattle.std.specs.Prelude.{◌≡◌, IfOk, OnOk, map};
 ghost use Rattle.host_tree.specs.Trees.{file_with, put_file};
 ghost use Rattle.portal_base.specs.Content.{ArePlaced, paths_of};
-ghost use Rattle.portal_model.specs.Opening.{file_of};
+ghost use Rattle.portal_model.specs.Opening.{file_of, first_item};
 ghost use Rattle.script_form.specs.Devices.{tree_files, with_files};
 ghost use Rattle.script_form.specs.Opening.{file_in, time_behind};
 ghost use Rattle.script_form.specs.Order.{IsScript};
@@ -48,6 +48,7 @@ fn holding(opening: OpeningState, files: List<FileItem>) -> OpeningState
         applications,
         entries,
         files: _,
+        taken,
     } = opening;
     OpeningState {
         limits,
@@ -56,6 +57,7 @@ fn holding(opening: OpeningState, files: List<FileItem>) -> OpeningState
         applications,
         entries,
         files,
+        taken,
     }
 }
 
@@ -149,11 +151,13 @@ fn item(
     moment: u64,
 ) -> Result<FileItem, WantOfMemory>
     ensures { IfOk result (λ item. item
-        ≡ record { path = path.now; content = content.now; moment = moment }) }
+        ≡ first_item path.now content.now moment) }
 {
     Ok(FileItem {
         path: List::copied(alloc, path.as_bytes())?,
         content: content.replica(alloc)?,
         moment,
+        generation: 0,
+        present: true,
     })
 }

@@ -14,7 +14,7 @@ use Rattle.script_form.specs.Opening.{HoldsScripts, IsOpening, entries_of, files
 use Rattle.script_form.specs.Order.{IsScript}
 use Rattle.script_lines.specs.declared.script.ScriptLine.{ScriptLine}
 use Rattle.script_form.proofs.RecordsFacts.{good_entries}
-use Rattle.script_form.proofs.SoundFacts.{all_clear, applications_few, clear_differ, documents_few, files_apart, files_named, grants_are, grants_differ, identifiers_are, names_are, no_root, none_above, numbers_differ, paths, paths_are}
+use Rattle.script_form.proofs.SoundFacts.{all_clear, applications_few, clear_differ, documents_few, files_apart, files_first, files_named, grants_are, grants_differ, identifiers_are, names_are, no_root, none_above, none_folders, numbers_differ, paths, paths_are}
 
 sound : (limits : Limits) (lines : List ScriptLine) (entries : Entries) → IsScript lines → HoldsScripts limits → KeepEntries (entries_of lines) entries → SoundOpening (opening_with entries limits lines)
 unfolding IsDistinct
@@ -36,6 +36,9 @@ sound limits lines entries good holds kept =
       files_differ = clear_differ (paths 0 lines) (all_clear lines [] 0 good);
       files_apart = files_apart (files_of lines) (files_of lines) (no_root lines [] 0 good) (none_above (paths 0 lines) (all_clear lines [] 0 good));
       files_named = files_named lines [] 0 good;
+      no_folders = none_folders lines;
+      files_first = files_first lines 0;
+      none_taken = refl;
       documents_within = omega arith;
       made_within = omega arith;
       applications_within = applications_few lines [] (omega arith) good;

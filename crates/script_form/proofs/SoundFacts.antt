@@ -11,7 +11,7 @@ use Rattle.std.proofs.lemmas.List.Folds.{list_any-append}
 use Rattle.std.proofs.lemmas.List.Sums.{sum_by-append}
 use Rattle.portal_base.specs.Names.{is_same, is_app_name, is_host_path, root}
 use Rattle.portal_model.specs.Content.{is_above, is_folder}
-use Rattle.portal_model.specs.Opening.{has_grants, is_grant, names_kept, file_of, GrantsDiffer}
+use Rattle.portal_model.specs.Opening.{has_grants, is_first_item, is_grant, names_kept, file_of, GrantsDiffer}
 use Rattle.portal_model.specs.Valid.{applications_limit}
 use Rattle.portal_model.specs.declared.opening.FileItem.{FileItem}
 use Rattle.portal_model.specs.declared.opening.OpeningDocument.{OpeningDocument}
@@ -213,6 +213,17 @@ pub files_named : (lines earlier : List ScriptLine) (time : ℕ) → StandBehind
 files_named [] earlier time all = refl
 files_named (File p content ∷ ls) earlier time all = both_true (is_host_path p) _ (path_is p all.0.itself.0) (files_named ls _ time all.1)
 files_named (line ∷ ls) earlier time all = files_named ls _ (time_behind time line) all.1
+
+-- each file is the first of its path, and no document is a folder
+pub files_first : (lines : List ScriptLine) (time : ℕ) → list_all is_first_item (files_from time lines) ≡ true
+files_first [] time = refl
+files_first (File p content ∷ ls) time = files_first ls time
+files_first (line ∷ ls) time = files_first ls (time_behind time line)
+
+pub none_folders : (lines : List ScriptLine) → list_all (λ (d : OpeningDocument). not d.folder) (documents_of lines) ≡ true
+none_folders [] = refl
+none_folders (Doc id reusable strict path grants ∷ ls) = none_folders ls
+none_folders (line ∷ ls) = none_folders ls
 
 same_clear : (p : List ℕ) (qs : List (List ℕ)) → Clear p qs → AllByRecursion (λ q. is_same p q ≡ false) qs
 same_clear p [] clear = tt

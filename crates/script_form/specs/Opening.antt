@@ -1,8 +1,8 @@
 -- The state that a script opens with.
-use Rattle.std.specs.Prelude.{◌≡◌, ℕ, ◌^◌, ◌<◌, ◌≤◌, true, List, [], ◌∷◌, ◌++◌, map}
+use Rattle.std.specs.Prelude.{◌≡◌, ℕ, ◌^◌, ◌<◌, ◌≤◌, true, false, List, [], ◌∷◌, ◌++◌, map}
 use Rattle.portal_base.specs.declared.limits.Limits.{Limits}
 use Rattle.portal_model.specs.RecordChanges.{records_version}
-use Rattle.portal_model.specs.Opening.{each, first_named, id_of, names_kept}
+use Rattle.portal_model.specs.Opening.{each, first_item, first_named, id_of, names_kept}
 use Rattle.portal_model.specs.declared.opening.FileItem.{FileItem}
 use Rattle.portal_model.specs.declared.opening.OpeningDocument.{OpeningDocument}
 use Rattle.portal_model.specs.declared.opening.OpeningState.{OpeningState}
@@ -17,7 +17,11 @@ use Rattle.script_lines.specs.declared.script.ScriptLine.TheVariants.{File, Doc,
 -- the document that a line keeps
 abbrev pub document_in : ScriptLine → List OpeningDocument
 document_in (Doc id reusable strict path grants) =
-    record { kept = kept_document id reusable strict path grants; persistent = true } ∷ []
+    record {
+      kept = kept_document id reusable strict path grants;
+      persistent = true;
+      folder = false;
+    } ∷ []
 document_in line = []
 
 -- the entry that a line keeps
@@ -38,7 +42,7 @@ time_behind time line = time
 
 -- the file that a line adds, with the moment now in force
 abbrev pub file_in : ℕ → ScriptLine → List FileItem
-file_in time (File path content) = record { path = path; content = content; moment = time } ∷ []
+file_in time (File path content) = first_item path content time ∷ []
 file_in time line = []
 
 -- the files that lines add behind this time
@@ -64,6 +68,7 @@ opening_with entries limits lines = record {
   applications = applications_of lines;
   entries = entries;
   files = files_of lines;
+  taken = [];
 }
 
 -- the state that a script opens with: its entries are those that the lines keep

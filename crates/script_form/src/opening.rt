@@ -57,6 +57,7 @@ fn state_of(alloc: Global, script: &Script, limits: Limits) -> Result<OpeningSta
         applications,
         entries,
         files,
+        taken: List::new(alloc),
     })
 }
 
@@ -98,6 +99,7 @@ fn add_document(
                 grants: grants.replica(alloc)?,
             },
             persistent: true,
+            folder: false,
         }),
         _ => Ok(()),
     }
@@ -183,6 +185,8 @@ fn add_file(
             path: List::copied(alloc, path.as_bytes())?,
             content: content.replica(alloc)?,
             moment: time,
+            generation: 0,
+            present: true,
         }),
         _ => Ok(()),
     }

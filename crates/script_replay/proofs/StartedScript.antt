@@ -76,6 +76,7 @@ over files documents made applications entries = opened_over files (record {
   applications = applications;
   entries = entries;
   files = [];
+  taken = [];
 })
 
 -- the state that stands for the records of a script is the one that the script opens with

@@ -114,5 +114,6 @@ fn own(alloc: Global, words: &str) -> Result<TraceItem, LineError> {
         looks: 0,
         full: false,
         fault: Fault::None,
+        generation: None,
     })
 }

@@ -16,12 +16,15 @@ use Rattle.portal_base.proofs.text.Text.TheSendSync as text
 use Rattle.portal_base.proofs.who.Kind.TheSendSync as kind
 use Rattle.portal_base.proofs.who.Who.TheSendSync as who
 use Rattle.portal_model.proofs.entry.Given.TheSendSync as given
+use Rattle.portal_model.proofs.naming.Naming.TheSendSync as naming
 use Rattle.portal_model.proofs.opening.FileItem.TheSendSync as file
 use Rattle.portal_model.proofs.opening.OpeningDocument.TheSendSync as document
+use Rattle.portal_model.proofs.opening.TakenGeneration.TheSendSync as taken
 use Rattle.portal_model.proofs.records.Row.TheSendSync as row
 use Rattle.portal_model.proofs.request.AddRequest.TheSendSync as add
 use Rattle.portal_model.proofs.request.NodeRequest.TheSendSync as node
 use Rattle.portal_model.proofs.request.RightsCall.TheSendSync as rights
+use Rattle.portal_model.proofs.temporary.OwnTemp.TheSendSync as temporary
 use Rattle.change_signals.specs.contracts.outboxes.Outboxes as Outboxes
 use Rattle.dbus_types.specs.contracts.shared.Shared as Shared
 use Rattle.permission_table.specs.contracts.indexed.IndexedEntries as IndexedEntries
@@ -81,10 +84,10 @@ pub tables : IsSend Tables.the_row
 tables = search (indexed, crosses, sendable) depth 60 fits 20000
 
 pub opening : IsSend (OpeningState.the_field).row
-opening = search (stored, document.the_send, file.the_send, list.the_send, crosses, sendable) depth 60 fits 20000
+opening = search (stored, document.the_send, file.the_send, taken.the_send, list.the_send, crosses, sendable) depth 60 fits 20000
 
 connection : IsSend Connection.the_row
-connection = search (change, list.the_send, crosses, sendable) depth 60 fits 20000
+connection = search (change, naming.the_send, temporary.the_send, list.the_send, crosses, sendable) depth 60 fits 20000
 
 pub connections : IsSend (List.the_row Connection.the_row)
 connections = list.the_send Connection.the_row connection

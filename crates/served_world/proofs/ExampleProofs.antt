@@ -21,6 +21,7 @@ valid_alone = record {
   numbers_made = refl;
   identifiers = refl;
   paths = rw a_path refl;
+  folders_none = refl;
   applications_differ = (tt, tt);
   names = rw editor_name refl;
   rights_in_order = refl;
@@ -37,6 +38,7 @@ valid_alone = record {
   files_apart = refl;
   files_named = refl;
   files_told = λ e. refl;
+  taken_none = refl;
   documents_within = omega arith;
   made_within = omega arith;
   applications_within = omega arith;
@@ -51,6 +53,7 @@ valid_among = record {
   numbers_made = refl;
   identifiers = refl;
   paths = rw (a_path, b_path) refl;
+  folders_none = refl;
   applications_differ = ((refl, tt), (tt, tt));
   names = rw (editor_name, other_name) refl;
   rights_in_order = refl;
@@ -67,6 +70,7 @@ valid_among = record {
   files_apart = refl;
   files_named = refl;
   files_told = λ e. refl;
+  taken_none = refl;
   documents_within = omega arith;
   made_within = omega arith;
   applications_within = omega arith;
@@ -76,8 +80,8 @@ valid_among = record {
 
 pub worlds : OneTraceOfTwoWorlds
 worlds = record {
-  legal_alone = record { opening = valid_alone; lawful = (record { given = (editor_name, refl) }, (record { given = record { looks = (tt, (refl, refl)); clock = refl; words = refl; numbers = refl; full = refl; keeper = λ e. cc } }, (record { given = record { looks = tt; clock = refl; words = refl; numbers = refl; full = refl; keeper = λ e. cc } }, (record { given = record { looks = (tt, (refl, refl)); clock = refl; words = refl; numbers = refl; full = refl; keeper = λ e. cc } }, tt)))) };
-  legal_among = record { opening = valid_among; lawful = (record { given = (other_name, refl) }, (record { given = (editor_name, refl) }, (record { given = record { looks = (tt, (refl, refl)); clock = refl; words = refl; numbers = refl; full = refl; keeper = λ e. cc } }, (record { given = record { looks = (tt, (refl, refl)); clock = refl; words = refl; numbers = refl; full = refl; keeper = λ e. cc } }, (record { given = record { looks = (tt, (refl, refl)); clock = refl; words = refl; numbers = refl; full = refl; keeper = λ e. cc } }, (record { given = record { looks = tt; clock = refl; words = refl; numbers = refl; full = refl; keeper = λ e. cc } }, (record { given = record { looks = tt; clock = refl; words = refl; numbers = refl; full = refl; keeper = λ e. cc } }, (record { given = (refl, refl) }, (record { given = record { looks = (tt, (refl, refl)); clock = refl; words = refl; numbers = refl; full = refl; keeper = λ e. cc } }, tt))))))))) };
+  legal_alone = record { opening = valid_alone; lawful = (record { given = (editor_name, refl) }, (record { given = record { looks = (tt, (refl, refl)); clock = refl; listed = refl; generation = refl; words = refl; numbers = refl; full = refl; keeper = λ e. cc } }, (record { given = record { looks = tt; clock = refl; listed = refl; generation = refl; words = refl; numbers = refl; full = refl; keeper = λ e. cc } }, (record { given = record { looks = (tt, (refl, refl)); clock = refl; listed = refl; generation = refl; words = refl; numbers = refl; full = refl; keeper = λ e. cc } }, tt)))) };
+  legal_among = record { opening = valid_among; lawful = (record { given = (other_name, refl) }, (record { given = (editor_name, refl) }, (record { given = record { looks = (tt, (refl, refl)); clock = refl; listed = refl; generation = refl; words = refl; numbers = refl; full = refl; keeper = λ e. cc } }, (record { given = record { looks = (tt, (refl, refl)); clock = refl; listed = refl; generation = refl; words = refl; numbers = refl; full = refl; keeper = λ e. cc } }, (record { given = record { looks = (tt, (refl, refl)); clock = refl; listed = refl; generation = refl; words = refl; numbers = refl; full = refl; keeper = λ e. cc } }, (record { given = record { looks = tt; clock = refl; listed = refl; generation = refl; words = refl; numbers = refl; full = refl; keeper = λ e. cc } }, (record { given = record { looks = tt; clock = refl; listed = refl; generation = refl; words = refl; numbers = refl; full = refl; keeper = λ e. cc } }, (record { given = (refl, refl) }, (record { given = record { looks = (tt, (refl, refl)); clock = refl; listed = refl; generation = refl; words = refl; numbers = refl; full = refl; keeper = λ e. cc } }, tt))))))))) };
   items = refl;
   same = refl;
   replies = refl;
@@ -94,6 +98,7 @@ valid_over bytes = record {
   numbers_made = refl;
   identifiers = refl;
   paths = rw a_path refl;
+  folders_none = refl;
   applications_differ = (tt, tt);
   names = rw editor_name refl;
   rights_in_order = refl;
@@ -110,6 +115,7 @@ valid_over bytes = record {
   files_apart = refl;
   files_named = rw a_path refl;
   files_told = λ e. cc;
+  taken_none = refl;
   documents_within = omega arith;
   made_within = omega arith;
   applications_within = omega arith;
@@ -119,8 +125,8 @@ valid_over bytes = record {
 
 pub contents : ContentsDifferAlone
 contents = record {
-  legal_whole = record { opening = valid_over (codes "hello"); lawful = (record { given = (editor_name, refl) }, (record { given = record { looks = (refl, (refl, refl)); clock = refl; words = refl; numbers = refl; full = refl; keeper = λ e. cc } }, (record { given = record { looks = refl; clock = refl; words = refl; numbers = refl; full = refl; keeper = λ e. cc } }, tt))) };
-  legal_cut = record { opening = valid_over (codes "world"); lawful = (record { given = (refl, refl) }, (record { given = (editor_name, refl) }, (record { given = record { looks = (refl, (refl, refl)); clock = refl; words = refl; numbers = refl; full = refl; keeper = λ e. cc } }, (record { given = record { looks = (refl, refl); clock = refl; words = refl; numbers = refl; full = refl; keeper = λ e. cc } }, (record { given = record { looks = refl; clock = refl; words = refl; numbers = refl; full = refl; keeper = λ e. cc } }, tt))))) };
+  legal_whole = record { opening = valid_over (codes "hello"); lawful = (record { given = (editor_name, refl) }, (record { given = record { looks = (refl, (refl, refl)); clock = refl; listed = refl; generation = refl; words = refl; numbers = refl; full = refl; keeper = λ e. cc } }, (record { given = record { looks = refl; clock = refl; listed = refl; generation = refl; words = refl; numbers = refl; full = refl; keeper = λ e. cc } }, tt))) };
+  legal_cut = record { opening = valid_over (codes "world"); lawful = (record { given = (refl, refl) }, (record { given = (editor_name, refl) }, (record { given = record { looks = (refl, (refl, refl)); clock = refl; listed = refl; generation = refl; words = refl; numbers = refl; full = refl; keeper = λ e. cc } }, (record { given = record { looks = (refl, refl); clock = refl; listed = refl; generation = refl; words = refl; numbers = refl; full = refl; keeper = λ e. cc } }, (record { given = record { looks = refl; clock = refl; listed = refl; generation = refl; words = refl; numbers = refl; full = refl; keeper = λ e. cc } }, tt))))) };
   same = refl;
   whole = refl;
   cut = refl;
@@ -135,7 +141,7 @@ others = record { written = refl; revoked = refl; deleted = refl; steps = refl; 
 pub added : AddedByLooks
 unfolding is_host_path is_app_name is_utf8 chars encode child_of own_folder is_in_own_folder is_doc_id hex_number doc_text parent_of
 added = record {
-  lawful = (record { given = record { looks = (refl, refl); clock = refl; words = refl; numbers = tt; full = refl; keeper = λ e. no_keeper e } }, (record { given = record { looks = (tt, (refl, refl)); clock = refl; words = refl; numbers = tt; full = refl; keeper = λ e. no_keeper e } }, (record { given = record { looks = (refl, refl); clock = refl; words = refl; numbers = tt; full = refl; keeper = λ e. no_keeper e } }, (record { given = record { looks = (tt, (refl, refl)); clock = refl; words = refl; numbers = (omega arith, omega arith, record { unused = refl; first = none_nearer [] 5 }, tt); full = refl; keeper = λ e. no_keeper e } }, (record { given = record { looks = (refl, refl); clock = refl; words = refl; numbers = tt; full = refl; keeper = λ e. no_keeper e } }, (record { given = record { looks = (refl, refl); clock = refl; words = refl; numbers = tt; full = refl; keeper = λ e. no_keeper e } }, (record { given = record { looks = (refl, refl); clock = refl; words = refl; numbers = tt; full = refl; keeper = λ e. no_keeper e } }, tt)))))));
+  lawful = (record { given = record { looks = (refl, refl); clock = refl; listed = refl; generation = refl; words = refl; numbers = tt; full = refl; keeper = λ e. no_keeper e } }, (record { given = record { looks = (tt, (refl, refl)); clock = refl; listed = refl; generation = refl; words = refl; numbers = tt; full = refl; keeper = λ e. no_keeper e } }, (record { given = record { looks = (refl, refl); clock = refl; listed = refl; generation = refl; words = refl; numbers = tt; full = refl; keeper = λ e. no_keeper e } }, (record { given = record { looks = (tt, (refl, refl)); clock = refl; listed = refl; generation = refl; words = refl; numbers = (omega arith, omega arith, record { unused = refl; first = none_nearer [] 5 }, tt); full = refl; keeper = λ e. no_keeper e } }, (record { given = record { looks = (refl, refl); clock = refl; listed = refl; generation = refl; words = refl; numbers = tt; full = refl; keeper = λ e. no_keeper e } }, (record { given = record { looks = (refl, refl); clock = refl; listed = refl; generation = refl; words = refl; numbers = tt; full = refl; keeper = λ e. no_keeper e } }, (record { given = record { looks = (refl, refl); clock = refl; listed = refl; generation = refl; words = refl; numbers = tt; full = refl; keeper = λ e. no_keeper e } }, tt)))))));
   answers = refl;
 }
 

@@ -169,6 +169,7 @@ plain_own e = record {
   looks = e.given.looks;
   full = e.given.full;
   fault = e.given.fault;
+  generation = e.given.generation;
 }
 
 own-plain : (s : State) (seat : ℕ) (request : Request) (given : Given) → UsesNoneAgain request → served_own s (asks seat request given) ≡ plain_own (asks seat request given)

@@ -108,6 +108,7 @@ own_item request looks = item.Own (record {
   looks = looks;
   full = false;
   fault = Fault.None;
+  generation = None;
 })
 
 -- the attributes of a file of five bytes since the moment 7: 0o100400 is 33024

@@ -24,6 +24,8 @@ pub record ServedOwn : Type 0 where
   pub looks : List Look
   pub full : Bool
   pub fault : Fault
+  -- the generation of a file that was made to be renamed later
+  pub generation : Option ℕ
 
 -- what the history has of an entry that the application makes
 abbrev pub served_own : State → Entry → ServedOwn
@@ -36,6 +38,7 @@ served_own s e = record {
   looks = e.given.looks;
   full = e.given.full;
   fault = e.given.fault;
+  generation = e.given.generation;
 }
 
 -- ---- over a tree that tells its files
@@ -59,4 +62,5 @@ told_own own = record {
   looks = length own.looks;
   full = own.full;
   fault = own.fault;
+  generation = own.generation;
 }

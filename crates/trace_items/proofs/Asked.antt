@@ -95,7 +95,7 @@ module _ (s : State) (c : Connection) (a : AddRequest) (numbers : List DocId) wh
 -- ---- a state and a connection in which the plan is made
 
 abbrev pub host_with : List (List ℕ) → Connection
-host_with queue = record { seat = 0; who = Who.Host; kind = Kind.Bus; queue = queue; opens = 0; unsent = [] }
+host_with queue = record { seat = 0; who = Who.Host; kind = Kind.Bus; queue = queue; opens = 0; unsent = []; namings = []; temps = []; added = 0 }
 
 -- ---- where something is not in order
 

@@ -10,7 +10,7 @@ use Rattle.portal_model.specs.declared.request.AddRequest.{AddRequest}
 use Rattle.portal_model.specs.declared.state.Connection.{Connection}
 use Rattle.portal_model.specs.declared.state.Document.{Document}
 use Rattle.portal_model.specs.Add.{Added, add_file, first_number, new_document, taken_from_queue, use_document, used_again, with_new_document, with_rights_of}
-use Rattle.portal_model.specs.AddArguments.{are_presented, document_paths, is_left_out, makes_strict, persists, reuses}
+use Rattle.portal_model.specs.AddArguments.{are_presented, document_paths, exports, is_left_out, makes_strict, persists, reuses}
 use Rattle.portal_model.specs.Content.{content_at}
 use Rattle.portal_model.specs.Documents.{id_of_document, serves}
 use Rattle.portal_model.specs.Present.{with_queue}
@@ -37,9 +37,9 @@ find-joined p (x ∷ xs) ys = by_first (p x) (find-joined p xs ys)
 again-joined : (xs ys : List Document) (a : AddRequest) (path : List ℕ) → used_again (xs ++ ys) a path ≡ own_again (used_again xs a path) (used_again ys a path)
 again-joined xs ys a path = by_flag (reuses a)
   where
-    by_flag : (b : Bool) → cond b (option_map id_of_document (find (serves path (persists a) (makes_strict a)) (xs ++ ys))) None
-        ≡ own_again (cond b (option_map id_of_document (find (serves path (persists a) (makes_strict a)) xs)) None) (cond b (option_map id_of_document (find (serves path (persists a) (makes_strict a)) ys)) None)
-    by_flag true = find-joined (serves path (persists a) (makes_strict a)) xs ys
+    by_flag : (b : Bool) → cond b (option_map id_of_document (find (serves path (persists a) (makes_strict a) (exports a)) (xs ++ ys))) None
+        ≡ own_again (cond b (option_map id_of_document (find (serves path (persists a) (makes_strict a) (exports a)) xs)) None) (cond b (option_map id_of_document (find (serves path (persists a) (makes_strict a) (exports a)) ys)) None)
+    by_flag true = find-joined (serves path (persists a) (makes_strict a) (exports a)) xs ys
     by_flag false = refl
 
 -- ---- documents that were shared

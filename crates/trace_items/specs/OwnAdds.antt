@@ -56,6 +56,7 @@ own_told e shown reused = item.Own (record {
   looks = length e.given.looks;
   full = e.given.full;
   fault = e.given.fault;
+  generation = e.given.generation;
 })
 
 -- ---- of another's

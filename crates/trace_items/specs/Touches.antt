@@ -26,5 +26,6 @@ shown_in documents rights files = record {
   handles = [];
   told = true;
   files = files;
+  taken = [];
   entries = [];
 }

@@ -9,7 +9,7 @@ ghost use Rattle.app_world.specs.TraceItem.{item_of};
 ghost use Rattle.portal_base.specs.Names.{is_in_own_folder};
 ghost use Rattle.portal_model.specs.declared.request.AddRequest.{AddRequest as Asked};
 ghost use Rattle.portal_model.specs.Add.{first_number, new_document as document_of_number, used_again as used_of};
-ghost use Rattle.portal_model.specs.AddArguments.{are_presented as presented, document_path, document_paths, is_as_needed, is_left_out as left_out, makes_strict, paths_shown as paths_of_call, persists as does_persist, reuses as does_reuse};
+ghost use Rattle.portal_model.specs.AddArguments.{are_presented as presented, document_path, document_paths, exports as does_export, is_as_needed, is_left_out as left_out, makes_strict, paths_shown as paths_of_call, persists as does_persist, reuses as does_reuse};
 ghost use Rattle.portal_model.specs.Documents.{serves as serves_for};
 ghost use Rattle.rights_rule.specs.Rights.{rights_named};
 ghost use Rattle.trace_items.specs.OwnAdds.{IsPlanned, Shared, is_given as given_in, is_in_order, looked_at, none_shared, presented_by as presented_path, reused_here, share_file as file_shared, shared_files, shared_with};
@@ -214,6 +214,13 @@ fn is_strict(add: &AddRequest) -> bool
     add.flags / 16 % 2 == 1
 }
 
+/// Says whether the documents of a call are folders.
+fn exports(add: &AddRequest) -> bool
+    ensures { result ≡ does_export add.now }
+{
+    add.flags / 8 % 2 == 1
+}
+
 /// Says whether the documents of a call outlive the run.
 fn persists(add: &AddRequest) -> bool
     ensures { result ≡ does_persist add.now }
@@ -226,7 +233,7 @@ fn used_again(documents: &Documents, add: &AddRequest, path: &HostPath) -> Optio
     ensures { result ≡ used_of documents.now.live add.now path.now }
 {
     if reuses(add) {
-        documents.reusable(path, persists(add), is_strict(add))
+        documents.reusable(path, persists(add), is_strict(add), exports(add))
     } else {
         None
     }
@@ -356,7 +363,7 @@ fn made_for(add: &AddRequest, made: &[Document], path: &HostPath) -> Option<DocI
     if !reuses(add) {
         return None;
     }
-    let document = first_for(made, path, persists(add), is_strict(add))?;
+    let document = first_for(made, path, persists(add), is_strict(add), exports(add))?;
     Some(document.id)
 }
 
@@ -366,20 +373,27 @@ fn first_for<'a>(
     path: &HostPath,
     persistent: bool,
     strict: bool,
+    folder: bool,
 ) -> Option<&'a Document>
-    ensures { option_copied result ≡ find (serves_for path.now persistent strict) made.now }
+    ensures { option_copied result ≡ find (serves_for path.now persistent strict folder) made.now }
 {
-    made.iter()
-        .find(|document| serves(document, path, persistent, strict))
+    made.iter().find(|document| serves(document, path, persistent, strict, folder))
 }
 
 /// Says whether a document may stand for a new one of a path.
-fn serves(document: &Document, path: &HostPath, persistent: bool, strict: bool) -> bool
-    ensures { result ≡ serves_for path.now persistent strict document.now }
+fn serves(
+    document: &Document,
+    path: &HostPath,
+    persistent: bool,
+    strict: bool,
+    folder: bool,
+) -> bool
+    ensures { result ≡ serves_for path.now persistent strict folder document.now }
 {
     document.path == *path
         && document.persistent == persistent
         && document.strict == strict
+        && document.folder == folder
         && document.reusable
 }
 
@@ -408,6 +422,7 @@ fn new_document(
         persistent: persists(add),
         reusable: reuses(add),
         strict: is_strict(add),
+        folder: exports(add),
     })
 }
 

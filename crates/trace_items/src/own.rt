@@ -197,5 +197,6 @@ fn item_with(
         looks,
         full: entry.given.full,
         fault: entry.given.fault,
+        generation: entry.given.generation,
     })
 }

@@ -15,11 +15,11 @@ returns-in_err-ids c =
     ∙ ap ids_or_none (ap option_copied c.in_err-ids.was) in
     c.from_residual.ensures
     ∙ (ap (find (λ (id : DocId). number_serves c.self.inside.placed.live c.args.persistent
-    c.args.strict id.number)) (sym none ∙ c.self.invariant c.args.path.now)
-    ∙ (serving-found c.self.inside.placed.live c.args.path.now c.args.persistent c.args.strict
+    c.args.strict c.args.folder id.number)) (sym none ∙ c.self.invariant c.args.path.now)
+    ∙ (serving-found c.self.inside.placed.live c.args.path.now c.args.persistent c.args.strict c.args.folder
     c.known.ensures.live_differ
     ∙ ap (λ (s : DocumentList). reusable_of s.live c.args.path.now c.args.persistent
-    c.args.strict) c.self.view_is))
+    c.args.strict c.args.folder) c.self.view_is))
 
 pub returns : goal.returns
 returns c =
@@ -28,9 +28,9 @@ returns c =
     ∙ ap ids_or_none (ap option_copied c.in_ok-ids.was) in
     c.first_with_flags.ensures
     ∙ (ap (find (λ (id : DocId). number_serves c.self.inside.placed.live c.args.persistent
-    c.args.strict id.number))
+    c.args.strict c.args.folder id.number))
     (c.as_slice.ensures ∙ (sym found ∙ c.self.invariant c.args.path.now))
-    ∙ (serving-found c.self.inside.placed.live c.args.path.now c.args.persistent c.args.strict
+    ∙ (serving-found c.self.inside.placed.live c.args.path.now c.args.persistent c.args.strict c.args.folder
     c.known.ensures.live_differ
     ∙ ap (λ (s : DocumentList). reusable_of s.live c.args.path.now c.args.persistent
-    c.args.strict) c.self.view_is))
+    c.args.strict c.args.folder) c.self.view_is))

@@ -9,5 +9,5 @@ pub returns : goal.returns
 returns c =
     c.copied.ensures
     ∙ find_from_yields_List (λ (id : DocId). number_serves c.args.self.now.live c.args.persistent
-    c.args.strict id.number) _ _ _ c.find.ensures.ran
+    c.args.strict c.args.folder id.number) _ _ _ c.find.ensures.ran
     (YieldsList-from_slice c.args.ids.now cc) (λ x b q k. search (rules, tests))
