@@ -56,9 +56,11 @@ module _ {T K C W : Type 0} (tree_is : T → TreeIs) (keeper_is : K → KeeperIs
   spends_counted request s = record {
     tree = s.tree;
     few = s.few;
+    looks = s.looks;
     keeper = s.keeper;
     clock = s.clock;
     words = s.words;
+    drawn = s.drawn;
     story = s.story;
     unkept = s.unkept;
     unasked = s.unasked;
