@@ -17,16 +17,16 @@ asked-calling (suc n) failed old new k =
     let rest = asked-calling n failed (after_call old TreeCall.Look false old.told) new k.1 in
     record { goes = rest.goes; fails = (k.0, rest.fails) }
 
+so-many : (n : ℕ) → length (replicate n TreeCall.Look) ≡ n
+so-many zero = refl
+so-many (suc n) = ap suc (so-many n)
+
 pub was-asked-called : (most : ℕ) (old new : TreeIs) → WasAsked most old new → WasCalledUpTo most old new
 was-asked-called most old new k = (
   replicate k.0 TreeCall.Look,
   subst (λ (calls : List Call). Calling old calls old.told new) (listed-none k.0) (asked-calling k.0 false old new k.1),
   subst (λ (n : ℕ). n ≤ most) (sym (so-many k.0)) k.2,
 )
-  where
-    so-many : (n : ℕ) → length (replicate n TreeCall.Look) ≡ n
-    so-many zero = refl
-    so-many (suc n) = ap suc (so-many n)
 
 -- ---- what stays of the tree
 

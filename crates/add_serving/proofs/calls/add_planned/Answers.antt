@@ -3,7 +3,7 @@ use Rattle.add_calls.proofs.PlacingLemmas.{drew-none}
 use Rattle.add_calls.specs.Placing.{book_of}
 use Rattle.add_serving.proofs.AddSteps.{full-follow, kinds-follow, placed-follow, unseen-follows}
 use Rattle.add_serving.proofs.Bounded.{looks-few, was-asked, was-asked-none, words-few}
-use Rattle.add_serving.specs.Adds.{most_looks}
+use Rattle.add_serving.specs.Adds.{most_looks, most_words}
 use Rattle.add_serving.proofs.calls.add_planned.Goals as goal
 
 pub returns-then-shown-clause-ok : goal.returns-then-shown-clause-ok
@@ -31,10 +31,10 @@ returns-in-Ok-place_kept-clause-ok g c =
 -- ---- want of memory
 
 pub returns-in-Err-clause-tree : goal.returns-in-Err-clause-tree
-returns-in-Err-clause-tree g c = was-asked-none _ _ _ c.in-Err.ensures.err
+returns-in-Err-clause-tree g c = was-asked-none (most_looks c.args.add.now) (g.T.HostTree.is c.args.tree.now) (g.T.HostTree.is c.look.new.tree) c.in-Err.ensures.err
 
 pub returns-in-Err-clause-words : goal.returns-in-Err-clause-words
-returns-in-Err-clause-words g c = drew-none _ _ _ refl
+returns-in-Err-clause-words g c = drew-none (most_words c.args.add.now) (g.W.Words.told c.args.words.now) (g.W.Words.told c.args.words.now) refl
 
 pub returns-in-Err-place_kept-clause-tree : goal.returns-in-Err-place_kept-clause-tree
 returns-in-Err-place_kept-clause-tree g c =

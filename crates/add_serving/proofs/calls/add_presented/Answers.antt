@@ -1,5 +1,6 @@
 use Rattle.std.proofs.Common.{refl}
 use Rattle.add_calls.specs.Placing.{book_of}
+use Rattle.add_serving.specs.Adds.{most_looks, most_words}
 use Rattle.add_serving.proofs.AddSteps.{plan-error}
 use Rattle.add_calls.proofs.PlacingLemmas.{drew-none}
 use Rattle.add_serving.proofs.Bounded.{on-err, was-asked-none}
@@ -11,7 +12,7 @@ returns-in-Err-clause-ok g c =
     c.in-Err.error c.refused_plan.result c.refused_plan.ensures c.in-Err.ensures.err
 
 pub returns-in-Err-clause-tree : goal.returns-in-Err-clause-tree
-returns-in-Err-clause-tree g c = on-err c.refused_plan.result (was-asked-none _ _ _ refl)
+returns-in-Err-clause-tree g c = on-err c.refused_plan.result (was-asked-none (most_looks c.args.add.now) (g.T.HostTree.is c.args.tree.now) (g.T.HostTree.is c.args.tree.now) refl)
 
 pub returns-in-Err-clause-words : goal.returns-in-Err-clause-words
-returns-in-Err-clause-words g c = on-err c.refused_plan.result (drew-none _ _ _ refl)
+returns-in-Err-clause-words g c = on-err c.refused_plan.result (drew-none (most_words c.args.add.now) (g.W.Words.told c.args.words.now) (g.W.Words.told c.args.words.now) refl)
