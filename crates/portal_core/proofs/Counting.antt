@@ -24,11 +24,6 @@ only_counts {T = T} {K = K} {C = C} {W = W} old mid new n e same =
     let count : n ≡ new.refusals = sym (ap (λ (p : PortalIs T K C W). p.refusals) e) in
     e ∙ (ap (λ (p : PortalIs T K C W). counted_at p n) same ∙ (λ i. record old { refusals = count i }))
 
--- what holds at all holds of a refusal
-pub of_refusal : {T E P : Type 0} (r : Result T E) → P → OnErr r P
-of_refusal (Ok value) h = tt
-of_refusal (Err why) h = h
-
 pub as_before_err : {T K C W : Type 0} (r : Result Reply Refused) (old mid new : PortalIs T K C W) (n : ℕ) → new ≡ counted_at mid n → OnErr r (IsAsBefore old mid) → OnErr r (IsAsBefore old new)
 as_before_err (Ok reply) old mid new n e h = h
 as_before_err (Err why) old mid new n e h = as_before old mid new n e h

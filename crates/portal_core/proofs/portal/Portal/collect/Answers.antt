@@ -10,7 +10,7 @@ use Rattle.portal_steps.proofs.NodeSteps.{alike-same}
 use Rattle.portal_steps.proofs.WentDevices.{went-plain}
 use Rattle.portal_model.specs.Opening.{opened_over}
 use Rattle.portal_core.proofs.HeldCounts.{held_same}
-use Rattle.portal_core.proofs.Counting.{of_refusal}
+use Rattle.std.proofs.lemmas.Result.{err_from_is_err_and}
 use Rattle.portal_core.proofs.portal.Portal.collect.Goals as goal
 
 pub invariant_of-self-2 : goal.invariant_of-self-2
@@ -45,4 +45,6 @@ returns-clause-ok g c =
 -- ---- memory that was taken ahead
 
 pub returns-in_err-signals-clause-remains : goal.returns-in_err-signals-clause-remains
-returns-in_err-signals-clause-remains g c = of_refusal _ (omega (arith, ap (λ (p : PortalIs _ _ _ _). p.spare) c.self.view_is, c.in_err-signals.ensures.spare))
+returns-in_err-signals-clause-remains g c =
+    let is_err = err_from_is_err_and c.from_residual.result c.from_residual.ensures.1 in
+    rw is_err.1 (omega (arith, ap (λ (p : PortalIs _ _ _ _). p.spare) c.self.view_is, c.in_err-signals.ensures.spare))

@@ -14,7 +14,7 @@ use Rattle.portal_steps.proofs.WentDevices.{went-plain}
 use Rattle.portal_model.specs.Opening.{opened_over}
 use Rattle.portal_core.proofs.HeldCounts.{held_same}
 use Rattle.portal_model.specs.declared.state.Connection.{Connection}
-use Rattle.portal_core.proofs.Counting.{of_refusal}
+use Rattle.std.proofs.lemmas.Result.{err_from_is_err_and}
 use Rattle.portal_core.proofs.portal.Portal.enter.Goals as goal
 
 pub invariant_of-self-then-is_here : goal.invariant_of-self-then-is_here
@@ -98,12 +98,17 @@ returns-clause-ok g c =
 -- ---- memory that was taken ahead
 
 pub returns-in_err-name-clause-remains : goal.returns-in_err-name-clause-remains
-returns-in_err-name-clause-remains g c = of_refusal _ (omega (arith, ap (λ (p : PortalIs _ _ _ _). p.spare) c.self.view_is))
+returns-in_err-name-clause-remains g c =
+    let is_err = err_from_is_err_and c.from_residual.result c.from_residual.ensures.1 in
+    rw is_err.1 (omega (arith, ap (λ (p : PortalIs _ _ _ _). p.spare) c.self.view_is))
 
 pub returns-in_err-make_room-clause-remains : goal.returns-in_err-make_room-clause-remains
-returns-in_err-make_room-clause-remains g c = of_refusal _ (omega (arith, ap (λ (p : PortalIs _ _ _ _). p.spare) c.self.view_is, c.in_err-make_room.ensures.spare))
+returns-in_err-make_room-clause-remains g c =
+    let is_err = err_from_is_err_and c.from_residual-in_err-make_room.result c.from_residual-in_err-make_room.ensures.1 in
+    rw is_err.1 (omega (arith, ap (λ (p : PortalIs _ _ _ _). p.spare) c.self.view_is, c.in_err-make_room.ensures.spare))
 
 pub returns-in_err-enter-clause-remains : goal.returns-in_err-enter-clause-remains
 returns-in_err-enter-clause-remains g c =
     let as_many = ap (λ (l : List Connection). length l) c.in_err-enter.ensures.connections in
-    of_refusal _ (omega (arith, ap (λ (p : PortalIs _ _ _ _). p.spare) c.self.view_is, as_many, c.in_ok-make_room.ensures.spare))
+    let is_err = err_from_is_err_and c.from_residual-in_err-enter.result c.from_residual-in_err-enter.ensures.1 in
+    rw is_err.1 (omega (arith, ap (λ (p : PortalIs _ _ _ _). p.spare) c.self.view_is, as_many, c.in_ok-make_room.ensures.spare))

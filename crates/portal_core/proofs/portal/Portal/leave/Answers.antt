@@ -13,7 +13,7 @@ use Rattle.portal_steps.proofs.NodeSteps.{alike-same}
 use Rattle.portal_steps.proofs.WentDevices.{went-plain}
 use Rattle.portal_model.specs.Opening.{opened_over}
 use Rattle.portal_core.proofs.HeldCounts.{held_left}
-use Rattle.portal_core.proofs.Counting.{of_refusal}
+use Rattle.std.proofs.lemmas.Result.{err_from_is_err_and}
 use Rattle.portal_core.proofs.portal.Portal.leave.Goals as goal
 
 pub invariant_of-self-then-not-is_here : goal.invariant_of-self-then-not-is_here
@@ -88,4 +88,6 @@ returns-clause-freed g c = λ h.
 -- ---- memory that was taken ahead
 
 pub returns-in_err-make_room-clause-remains : goal.returns-in_err-make_room-clause-remains
-returns-in_err-make_room-clause-remains g c = of_refusal _ (omega (arith, ap (λ (p : PortalIs _ _ _ _). p.spare) c.self.view_is, c.in_err-make_room.ensures.spare))
+returns-in_err-make_room-clause-remains g c =
+    let is_err = err_from_is_err_and c.from_residual.result c.from_residual.ensures.1 in
+    rw is_err.1 (omega (arith, ap (λ (p : PortalIs _ _ _ _). p.spare) c.self.view_is, c.in_err-make_room.ensures.spare))
