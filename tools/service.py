@@ -17,6 +17,9 @@ from docportal_client import Bus, Mount, socket_path  # noqa: E402
 PROGRAM = os.environ.get("DOCPORTAL") or os.path.join(
     TOP, "crates", "docportal", "out", "docportal")
 
+# As the unit runs it (contrib/docportal.service), where nothing else is told.
+ENVIRONMENT = {"MALLOC_ARENA_MAX": "1", **os.environ}
+
 
 class Service:
     """`docportal serve` over three places in a folder: `files`, `store.db`, `sockets`."""
@@ -34,7 +37,7 @@ class Service:
         """Starts it under limits, and waits for the line that tells that its sockets stand."""
         self.process = subprocess.Popen([PROGRAM, "serve", *self.words], stdin=subprocess.DEVNULL,
                                         stdout=subprocess.PIPE, stderr=subprocess.PIPE,
-                                        preexec_fn=under(limits))
+                                        env=ENVIRONMENT, preexec_fn=under(limits))
         ready, _, _ = select.select([self.process.stdout], [], [], seconds)
         line = self.process.stdout.readline().decode() if ready else ""
         if not line:
