@@ -18,7 +18,7 @@ PROGRAM = os.environ.get("DOCPORTAL") or os.path.join(
     TOP, "crates", "docportal", "out", "docportal")
 
 # As the unit runs it (contrib/docportal.service), where nothing else is told.
-ENVIRONMENT = {"MALLOC_ARENA_MAX": "1", **os.environ}
+ENVIRONMENT = {"MALLOC_ARENA_MAX": "1"}
 
 
 class Service:
@@ -37,7 +37,8 @@ class Service:
         """Starts it under limits, and waits for the line that tells that its sockets stand."""
         self.process = subprocess.Popen([PROGRAM, "serve", *self.words], stdin=subprocess.DEVNULL,
                                         stdout=subprocess.PIPE, stderr=subprocess.PIPE,
-                                        env=ENVIRONMENT, preexec_fn=under(limits))
+                                        env={**ENVIRONMENT, **os.environ},
+                                        preexec_fn=under(limits))
         ready, _, _ = select.select([self.process.stdout], [], [], seconds)
         line = self.process.stdout.readline().decode() if ready else ""
         if not line:
