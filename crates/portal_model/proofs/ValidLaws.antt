@@ -224,7 +224,7 @@ node_step-Valid s seat r given (Some c) e v l =
     let there = mount_is (connection_of s.connections seat) c e in
     let own : c.seat ≡ seat = nat_is c.seat seat (found_passes (λ (x : Connection). x.seat == seat) s.connections c there.0) in
     let here : connection_of s.connections c.seat ≡ Some c = subst (λ (n : ℕ). connection_of s.connections n ≡ Some c) (sym own) there.0 in
-    node-valid (all_told c.seat s) c (record c { unsent = [] }) (found_told c.seat c s.connections here) refl refl there.1 (all_told-Valid s c.seat v) r given l
+    node-valid (all_told c.seat s) c (record c { unsent = [] }) (found_told c.seat c s.connections here) refl refl refl there.1 (all_told-Valid s c.seat v) r given l
 
 request_step-Valid : (s : State) (seat : ℕ) (request : Request) (given : Given) → LawfulGiven s seat request given → Valid s → Valid (request_step s seat request given).0
 request_step-Valid s seat (Request.Enter who kind) given l v =

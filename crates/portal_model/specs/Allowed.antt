@@ -206,6 +206,13 @@ never x = false
 abbrev pub always : {X : Type 0} → X → Bool
 always x = true
 
+-- a folder that is there
+abbrev pub may_list : State → Folder → Bool
+may_list s (RootOf view numbers has_views) = true
+may_list s (Views applications) = true
+may_list s (FolderOf view d may_write) = true
+may_list s (Exported view d path may_write) = is_folder_look (look_told s path)
+
 -- a GETATTR of an open folder asks its node
 abbrev pub may_get_attr : State → Reaching → Bool → Option Sight → Option Handle → Bool
 may_get_attr s reach by_handle sight handle =
@@ -265,7 +272,7 @@ may_ask_at s reach (NodeOp.Write fh offset content) sight handle =
 may_ask_at s reach (NodeOp.Flush fh) sight handle = is_file_handle (handle fh)
 may_ask_at s reach (NodeOp.Fsync fh) sight handle = on_handle s always (handle fh)
 may_ask_at s reach (NodeOp.Release fh) sight handle = is_file_handle (handle fh)
-may_ask_at s reach NodeOp.OpenDir sight handle = at_sight s never always sight
+may_ask_at s reach NodeOp.OpenDir sight handle = at_sight s never (may_list s) sight
 may_ask_at s reach (NodeOp.ReadDir fh offset size) sight handle =
     not (nat_lt read_limit size) && is_folder_handle (handle fh)
 may_ask_at s reach (NodeOp.ReleaseDir fh) sight handle = is_folder_handle (handle fh)
@@ -281,12 +288,19 @@ abbrev pub has_number : List Naming → ℕ → Document → Option (List ℕ) �
 has_number namings view d None = true
 has_number namings view d (Some path) = not (lacks_number namings (naming_in view d path))
 
+abbrev pub folder_within : List Naming → List ℕ → Folder → Bool
+folder_within namings name (RootOf view numbers has_views) = true
+folder_within namings name (Views applications) = true
+folder_within namings name (FolderOf view d may_write) = true
+folder_within namings name (Exported view d path may_write) =
+    has_number namings view d (named_child path name)
+
 abbrev pub names_within : List Naming → List ℕ → Option Sight → Bool
 names_within namings name None = true
 names_within namings name (Some (SightOfFile d may_write)) = true
 names_within namings name (Some (SightBelow view d path may_write)) =
-    has_number namings view d (named_child path name)
-names_within namings name (Some (SightOfFolder f)) = true
+    folder_within namings name (Exported view d path may_write)
+names_within namings name (Some (SightOfFolder f)) = folder_within namings name f
 
 -- no limit is met: those of open handles and of names below exported folders, and that of a file's
 -- length
