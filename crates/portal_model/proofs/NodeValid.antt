@@ -417,6 +417,11 @@ has_place limit handles h = not_not (nat_lt (length handles) limit) h
     not_not true e = refl
     not_not false e = cc
 
+abbrev pub NamesKept : Option NodeVerdict → Type 0
+NamesKept None = Unit {0}
+NamesKept (Some (Errs errno)) = Unit {0}
+NamesKept (Some (Yields d)) = d.names ≡ NamesStay
+
 none_named_yet : (ns : List Naming) → is_none ns ≡ true → ns ≡ []
 none_named_yet [] h = refl
 none_named_yet (n ∷ ns) h = cc
@@ -426,6 +431,19 @@ pub unnamed-connection : (s : State) (seat : ℕ) (found : Connection) → conne
 unnamed-connection s seat found here v =
     let sound : is_sound_connection s.limits.queued found ≡ true = found_in_all (λ (x : Connection). x.seat == seat) (is_sound_connection s.limits.queued) s.connections found here v.connections_sound in
     none_named_yet found.namings (first_of_both (is_none found.namings) (is_none found.temps && found.added == 0) (sound_unnamed s.limits.queued found sound))
+
+fine-kept : (a : Asking) (tree : Option (List File)) (room : Room) (o : Option NodeVerdict) → IfMet tree (Fine a tree room) o → NamesKept o
+fine-kept a tree room None h = tt
+fine-kept a tree room (Some (Errs errno)) h = tt
+fine-kept a tree room (Some (Yields d)) h = h.2
+
+-- not yet: nothing is named
+pub names-kept : (s : State) (c : Connection) → c.namings ≡ [] → Valid s → (r : NodeRequest) (given : Given) → LawfulNode s c r given → NamesKept (node_given (walk_on_node s c r) given)
+names-kept s c none v r given l =
+    let a : Asking = record { who = c.who; made = s.made } in
+    fine-kept a (files_told s) (room_of s c) (node_given (walk_on_node s c r) given)
+    (on-given (files_told s) (Fine a (files_told s) (room_of s c)) (walk_on_node s c r) (moment_given given.now) given.listed given.looks (is_tree given.fault) l.looks
+    (walk-fine a (files_told s) (facts_of s c r.node) r (place-sound s v c r.node none) r.op))
 
 -- c is the connection that asks, which the state has as `found`
 module _ (s : State) (c found : Connection) (here : connection_of s.connections c.seat ≡ Some found) (opens : found.opens ≡ c.opens) (same : found.who ≡ c.who) (named : found.namings ≡ c.namings) (mount : is_mount found.kind ≡ true) (v : Valid s) where
@@ -480,9 +498,10 @@ module _ (s : State) (c found : Connection) (here : connection_of s.connections 
   settled-valid (Some (Errs errno)) h = v
   settled-valid (Some (Yields d)) h = done-valid d h
 
+  node-fine : (r : NodeRequest) (given : Given) → LawfulNode s c r given → IfMet (files_told s) (Fine asks (files_told s) (room_of s c)) (node_given (walk_on_node s c r) given)
+  node-fine r given l =
+      on-given (files_told s) (Fine asks (files_told s) (room_of s c)) (walk_on_node s c r) (moment_given given.now) given.listed given.looks (is_tree given.fault) l.looks
+      (walk-fine asks (files_told s) (facts_of s c r.node) r (place-sound s v c r.node (sym named ∙ unnamed-connection s c.seat found here v)) r.op)
+
   pub node-valid : (r : NodeRequest) (given : Given) → LawfulNode s c r given → Valid (node_answer s c r given).0
-  node-valid r given l =
-      let f = facts_of s c r.node in
-      settled-valid (node_given (walk_on_node s c r) given)
-      (on-given (files_told s) (Fine asks (files_told s) (room_of s c)) (walk_on_node s c r) (moment_given given.now) given.listed given.looks (is_tree given.fault) l.looks
-      (walk-fine asks (files_told s) f r (place-sound s v c r.node (sym named ∙ unnamed-connection s c.seat found here v)) r.op))
+  node-valid r given l = settled-valid (node_given (walk_on_node s c r) given) (node-fine r given l)
