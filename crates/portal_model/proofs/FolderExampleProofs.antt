@@ -1,10 +1,10 @@
 -- The worked examples of a folder that is a document, by computation.
 use Rattle.std.proofs.Common.{refl}
-use Rattle.portal_base.specs.Names.{child_of, doc_text, hex_number, is_app_name, is_doc_id, is_host_path, name_of, named_child, parent_of}
+use Rattle.portal_base.specs.Names.{child_of, doc_text, hex_number, is_app_name, is_doc_id, is_host_path, name_of, parent_of}
 use Rattle.portal_model.specs.FolderExamples.{NamesBelow, NotBelow}
 
 pub below : NamesBelow
-unfolding doc_text hex_number is_app_name is_doc_id is_host_path name_of named_child child_of parent_of
+unfolding doc_text hex_number is_app_name is_doc_id is_host_path name_of child_of parent_of
 below = record {
   document = refl;
   itself = refl;
@@ -18,7 +18,7 @@ below = record {
 }
 
 pub not_below : NotBelow
-unfolding doc_text hex_number is_app_name is_doc_id is_host_path name_of named_child child_of parent_of
+unfolding doc_text hex_number is_app_name is_doc_id is_host_path name_of child_of parent_of
 not_below = record {
   other_folder = refl;
   other_name = refl;

@@ -384,8 +384,7 @@ module _ (s : State) (v : Valid s) where
   at_sound caller node (Some p) e = there_sound caller node p e
 
   none_of : (k : ℕ) → naming_of [] k ≡ None
-  none_of zero = refl
-  none_of (suc k) = refl
+  none_of k = elim (k == 0) as (λ b. cond b None (slice_get {Naming} [] (k - 1)) ≡ None) [ true ↦ refl | false ↦ refl ]
 
   -- of a connection that has named nothing
   pub place-sound : (c : Connection) (node : ℕ) → c.namings ≡ [] → IsSoundSight (asking_in c.who) node (sight_on s c node)

@@ -1,7 +1,7 @@
 -- What a connection has named below exported folders: paths, by their places in its own list. They
 -- count from 1, on each connection by itself.
-use Rattle.std.specs.Prelude.{ℕ, zero, suc, ◌+◌, ◌==◌, ◌&&◌, nat_lt, List, [], ◌∷◌, ◌++◌, length, Bool, not, Option, Some, None, cond, slice_get}
-use Rattle.std.specs.List.{list_any, position}
+use Rattle.std.specs.Prelude.{ℕ, ◌+◌, ◌-◌, ◌==◌, ◌&&◌, nat_lt, List, [], ◌∷◌, ◌++◌, length, Bool, not, Option, None, cond, slice_get}
+use Rattle.std.specs.List.{list_any, position_or_len}
 use Rattle.portal_base.specs.Names.{is_same}
 use Rattle.portal_model.specs.declared.naming.Naming.{Naming}
 
@@ -12,22 +12,16 @@ abbrev pub same_naming : Naming → Naming → Bool
 same_naming a b =
     a.view == b.view && (a.document.number == b.document.number && is_same a.path b.path)
 
--- naming k is the k-th
+-- naming k is the k-th, from 1
 abbrev pub naming_of : List Naming → ℕ → Option Naming
-naming_of namings zero = None
-naming_of namings (suc k) = slice_get namings k
+naming_of namings k = cond (k == 0) None (slice_get namings (k - 1))
 
 abbrev pub is_named_before : List Naming → Naming → Bool
 is_named_before namings naming = list_any (same_naming naming) namings
 
 -- the number that it has, or gets
-abbrev pub next_naming : Option ℕ → ℕ → ℕ
-next_naming None count = count + 1
-next_naming (Some place) count = place + 1
-
 abbrev pub number_of_naming : List Naming → Naming → ℕ
-number_of_naming namings naming =
-    next_naming (position (same_naming naming) namings) (length namings)
+number_of_naming namings naming = position_or_len (same_naming naming) namings + 1
 
 -- one that was named before keeps its number
 abbrev pub with_naming : List Naming → Naming → List Naming
