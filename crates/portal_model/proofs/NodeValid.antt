@@ -298,9 +298,12 @@ root_or_views view id seen doc true b e = cc
 root_or_views view id seen doc false true e = cc
 root_or_views view id seen doc false false e = cc
 
+none_counted : (view id seen : ℕ) (doc : DocId) (b : Bool) → cond b None (Some (Place.Named view id)) ≡ Some (Place.File seen doc) → seen ≡ view
+none_counted view id seen doc true e = cc
+none_counted view id seen doc false e = cc
+
 none_named : (view id seen : ℕ) (doc : DocId) (b : Bool) → cond b (place_from_one (Place.Named view) id) None ≡ Some (Place.File seen doc) → seen ≡ view
-none_named view zero seen doc true e = cc
-none_named view (suc k) seen doc true e = cc
+none_named view id seen doc true e = none_counted view id seen doc (id == 0) e
 none_named view id seen doc false e = cc
 
 file_seen : (view id seen : ℕ) (doc : DocId) (a b c d : Bool) → cond a (place_of_kind_0 view id) (cond b (Some (Place.Folder view (record { number = id }))) (cond c (Some (Place.File view (record { number = id }))) (cond d (place_from_one (Place.Named view) id) None))) ≡ Some (Place.File seen doc) → seen ≡ view

@@ -26,10 +26,9 @@ place_of_kind_0 view id =
     cond (id == 1) (Some (Place.Root view))
     (cond (id == 2 && view == 0) (Some Place.ByApp) None)
 
--- what a connection named itself has numbers from 1
+-- what a connection named has numbers from 1
 abbrev pub place_from_one : (ℕ → Place) → ℕ → Option Place
-place_from_one place zero = None
-place_from_one place (suc k) = Some (place (suc k))
+place_from_one place k = cond (k == 0) None (Some (place k))
 
 -- kind 1 is a document's folder, kind 2 a document's file or the folder that it exports, kind 4 a
 -- name below an exported folder
