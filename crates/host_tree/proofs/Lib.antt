@@ -1,3 +1,4 @@
+pub mod NamesFound
 pub mod PathsBelow
 pub mod Bytes
 pub mod FileCreated

@@ -10,6 +10,9 @@ use Rattle.portal_base.specs.declared.files.File.{File}
 use Rattle.portal_base.specs.declared.files.FileName.{FileName}
 use Rattle.host_tree.specs.declared.tree.AttrAnswer.{AttrAnswer}
 use Rattle.host_tree.specs.declared.tree.AttrAnswer.TheVariants as attr
+use Rattle.portal_base.specs.FolderNames.{AreInOrder, names_in}
+use Rattle.host_tree.specs.declared.tree.ListAnswer.{ListAnswer}
+use Rattle.host_tree.specs.declared.tree.ListAnswer.TheVariants as list
 use Rattle.host_tree.specs.declared.tree.LookAnswer.{LookAnswer}
 use Rattle.host_tree.specs.declared.tree.LookAnswer.TheVariants as look
 use Rattle.host_tree.specs.declared.tree.TreeCall.{TreeCall}
@@ -77,6 +80,12 @@ is_attr_fault (attr.Is size moment) = false
 is_attr_fault attr.NotFile = false
 is_attr_fault attr.Failed = true
 
+abbrev pub is_list_fault : ListAnswer → Bool
+is_list_fault (list.Names names) = false
+is_list_fault list.NotFolder = false
+is_list_fault list.Failed = true
+is_list_fault list.Memory = false
+
 abbrev pub is_read_fault : TreeRead → Bool
 is_read_fault (read.Got bytes) = false
 is_read_fault read.NotFile = false
@@ -103,6 +112,14 @@ Attrs told name (attr.Is size moment) =
     IfSome told (λ files. option_map attributes_of (file_named files name) ≡ Some (size, moment))
 Attrs told name attr.NotFile = IfSome told (λ files. file_named files name ≡ None)
 Attrs told name attr.Failed = Unit {0}
+
+-- the names in a folder, in byte order
+abbrev pub Lists : Option (List File) → List ℕ → ListAnswer → Type 0
+Lists told path (list.Names names) = AreInOrder names
+    × IfSome told (λ files. (is_folder files path ≡ true) × (names ≡ names_in files path))
+Lists told path list.NotFolder = IfSome told (λ files. is_folder files path ≡ false)
+Lists told path list.Failed = Unit {0}
+Lists told path list.Memory = Unit {0}
 
 abbrev pub Gets : Option (List File) → FileName → ℕ → ℕ → TreeRead → Type 0
 Gets told name offset size (read.Got bytes) = (length bytes ≤ size)

@@ -3,8 +3,10 @@
 ghost use Rattle.std.specs.Prelude.{◌≡◌, ◌≤◌, ◌+◌, ◌-◌, [], Some, None, false, true, IfOk, OnOk, OnErr, length, take, drop, ◌++◌, map, option_map, option_copied};
 ghost use Rattle.std.specs.List.{list_any, list_all};
 ghost use Rattle.portal_base.specs.Content.{look_at, is_folder, is_above, file_named, file_at, IsTree, ArePlaced, paths_of};
+ghost use Rattle.portal_base.specs.FolderNames.{names_in};
 ghost use Rattle.host_tree.specs.Trees.{overlaid, cut_to, bytes_from, Does, has_file, change_named, written, resized, may_create, put_file, file_with, without, new_file, is_done_fault};
 
+use crate::names::FolderNames;
 use crate::tree::TreeDone;
 use portal_base::files::{FileName, Look};
 use portal_base::list::{ByteList, List};
@@ -164,7 +166,7 @@ impl Files {
     }
 
     /// Says whether a path is a folder.
-    fn is_folder(&self, path: &HostPath) -> bool
+    pub(crate) fn is_folder(&self, path: &HostPath) -> bool
         ensures { result ≡ is_folder self.now path.now }
     {
         is_root(path.as_bytes()) || self.has_file_below(path)
@@ -181,6 +183,19 @@ impl Files {
             Some((first, _)) => lies_above(path.as_bytes(), first.as_bytes()),
             None => false,
         }
+    }
+
+    /// The names by which the paths of the files below a path go on.
+    pub(crate) fn names_below(
+        &self,
+        alloc: Global,
+        path: &HostPath,
+    ) -> Result<FolderNames, WantOfMemory>
+        ensures { IfOk result (λ names. names ≡ names_in self.now path.now) }
+    {
+        let mut names = FolderNames::new(alloc);
+        put_paths(alloc, &self.map, path, &mut names)?;
+        Ok(names)
     }
 
     /// Adds a file where the paths then are those of a tree.
@@ -293,6 +308,64 @@ fn replica_of(
         copy.insert(path.replica(alloc)?, stored.replica(alloc)?)?;
     }
     Ok(copy)
+}
+
+ghost use Rattle.std.specs.Prelude.{fold, MatchOption};
+ghost use Rattle.portal_base.specs.FolderNames.{is_below, length_above, put_path};
+
+/// Puts the names by which the paths in a map go on below a folder among others.
+fn put_paths(
+    alloc: Global,
+    map: &BTreeMap<HostPath, Stored>,
+    folder: &HostPath,
+    names: &mut FolderNames,
+) -> Result<(), WantOfMemory>
+    ensures { OnOk result (names.new ≡ fold (put_path folder.now) names.old (keys map.now)) }
+{
+    let above = folder.as_bytes();
+    for path in map.keys() {
+        let bytes = path.as_bytes();
+        put_path(alloc, above, bytes, names)?;
+    }
+    Ok(())
+}
+
+/// Puts the name by which a path goes on below a folder, where it lies below it.
+fn put_path(
+    alloc: Global,
+    folder: &[u8],
+    path: &[u8],
+    names: &mut FolderNames,
+) -> Result<(), WantOfMemory>
+    ensures { OnOk result (names.new ≡ put_path folder.now names.old path.now) }
+{
+    match behind_folder(folder, path) {
+        Some(rest) => names.put_first_part(alloc, rest),
+        None => Ok(()),
+    }
+}
+
+/// What of a path stands behind that of a folder and a slash, where it lies below
+/// the folder.
+fn behind_folder<'a>(folder: &[u8], path: &'a [u8]) -> Option<&'a [u8]>
+    ensures { MatchOption result (is_below folder.now path.now ≡ false)
+        (λ rest. (is_below folder.now path.now ≡ true)
+        × (rest.now ≡ drop (length_above folder.now) path.now)) }
+{
+    if is_root(folder) {
+        return Some(behind(path, 1));
+    }
+    if lies_above(folder, path) {
+        return Some(behind(path, folder.len() + 1));
+    }
+    None
+}
+
+/// The bytes from a place on.
+fn behind(bytes: &[u8], start: usize) -> &[u8]
+    ensures { result.now ≡ drop start bytes.now }
+{
+    bytes.split_at(bytes.len().min(start)).1
 }
 
 /// Writes over the bytes of a file in a map by path.

@@ -9,8 +9,8 @@ ghost use Rattle.host_tree.specs.Trees.{unnoted};
 
 use crate::files::{Files, bytes_from};
 use crate::made::CallsMade;
-use crate::tree::{AttrAnswer, HostTree, LookAnswer, TreeCall, TreeDone, TreeRead};
-use portal_base::files::FileName;
+use crate::tree::{AttrAnswer, HostTree, ListAnswer, LookAnswer, TreeCall, TreeDone, TreeRead};
+use portal_base::files::{ChildName, FileName};
 use portal_base::list::{ByteList, List};
 use portal_base::memory::{Replica, WantOfMemory};
 use portal_base::names::HostPath;
@@ -114,6 +114,13 @@ impl HostTree for MemoryTree {
             return AttrAnswer::Failed;
         }
         attributes(&self.files, file)
+    }
+
+    fn list(&mut self, path: &HostPath) -> ListAnswer {
+        if self.made.next_fails(TreeCall::List) {
+            return ListAnswer::Failed;
+        }
+        listed(self.alloc, &self.files, path)
     }
 
     fn read(&mut self, file: &FileName, offset: u64, size: u32) -> TreeRead {
@@ -235,6 +242,11 @@ impl HostTree for QuietTree {
         attributes(&self.files, name)
     }
 
+    fn list(&mut self, path: &HostPath) -> ListAnswer {
+        self.made = self.made.saturating_add(1);
+        listed(self.alloc, &self.files, path)
+    }
+
     fn read(&mut self, name: &FileName, offset: u64, size: u32) -> TreeRead {
         self.made = self.made.saturating_add(1);
         content(self.alloc, &self.files, name, offset, size)
@@ -271,7 +283,10 @@ impl HostTree for QuietTree {
     }
 }
 
-ghost use Rattle.host_tree.specs.Trees.{Attrs, Gets, Does, has_file, as_before, is_attr_fault, is_read_fault, is_done_fault};
+ghost use Rattle.std.specs.Prelude.{IfOk, MatchOption, true};
+ghost use Rattle.portal_base.specs.Content.{is_folder};
+ghost use Rattle.portal_base.specs.FolderNames.{AreInOrder, names_in};
+ghost use Rattle.host_tree.specs.Trees.{Attrs, Gets, Lists, Does, has_file, as_before, is_attr_fault, is_list_fault, is_read_fault, is_done_fault};
 
 /// Adds a file to two lists of files, or to none of them.
 fn add_to_both(
@@ -312,6 +327,35 @@ fn attributes(files: &Files, name: &FileName) -> AttrAnswer
         },
         None => AttrAnswer::NotFile,
     }
+}
+
+/// The names in a folder.
+fn listed(alloc: Global, files: &Files, path: &HostPath) -> ListAnswer
+    ensures lists { Lists (Some files.now) path.now result }
+    ensures no_fault { is_list_fault result ≡ false }
+{
+    match names_in(alloc, files, path) {
+        Ok(Some(names)) => ListAnswer::Names(names),
+        Ok(None) => ListAnswer::NotFolder,
+        Err(_) => ListAnswer::Memory,
+    }
+}
+
+/// The names in a folder; none where there is no folder.
+fn names_in(
+    alloc: Global,
+    files: &Files,
+    path: &HostPath,
+) -> Result<Option<List<ChildName>>, WantOfMemory>
+    ensures { IfOk result (λ found. MatchOption found (is_folder files.now path.now ≡ false)
+        (λ names. AreInOrder names × (is_folder files.now path.now ≡ true)
+        × (names ≡ names_in files.now path.now))) }
+{
+    if !files.is_folder(path) {
+        return Ok(None);
+    }
+    let names = files.names_below(alloc, path)?;
+    Ok(Some(names.into_list(alloc)?))
 }
 
 /// Bytes of a file.

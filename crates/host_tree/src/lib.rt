@@ -12,6 +12,7 @@
 //! |---|---|
 //! | `tree` | the trait [`HostTree`] and its answers |
 //! | `in_memory` | [`MemoryTree`], whose told calls fail, and [`QuietTree`], which never fails |
+//! | `names` | the names in a folder as they are found |
 //! | `files` | the files of a tree in memory, by path |
 //! | `made` | the calls of a tree in memory |
 //!
@@ -24,7 +25,9 @@
 mod files;
 mod in_memory;
 mod made;
+pub mod names;
 mod tree;
 
 pub use in_memory::{MemoryTree, QuietTree};
-pub use tree::{AttrAnswer, HostTree, LookAnswer, TreeCall, TreeDone, TreeRead};
+pub use portal_base::files::ChildName;
+pub use tree::{AttrAnswer, HostTree, ListAnswer, LookAnswer, TreeCall, TreeDone, TreeRead};

@@ -13,8 +13,8 @@
 ghost use Rattle.std.specs.Prelude.{◌≡◌, IfSome, IsOk, None, OnErr, OnOk};
 ghost use Rattle.portal_base.specs.Content.{IsTree};
 
-use portal_base::files::{FileName, Look};
-use portal_base::list::ByteList;
+use portal_base::files::{ChildName, FileName, Look};
+use portal_base::list::{ByteList, List};
 use portal_base::memory::WantOfMemory;
 use portal_base::names::HostPath;
 
@@ -41,6 +41,19 @@ pub enum AttrAnswer {
     NotFile,
     /// A fault of the tree.
     Failed,
+}
+
+/// The answer of a call for the names in a folder.
+#[derive(Drop)]
+pub enum ListAnswer {
+    /// The names of the files and folders in it, in byte order, each once.
+    Names(List<ChildName>),
+    /// The tree has no folder there.
+    NotFolder,
+    /// A fault of the tree.
+    Failed,
+    /// There was no memory for the names.
+    Memory,
 }
 
 /// The answer of a read.
@@ -77,6 +90,8 @@ pub enum TreeCall {
     Look,
     /// [`HostTree::attr`].
     Attr,
+    /// [`HostTree::list`].
+    List,
     /// [`HostTree::read`].
     Read,
     /// [`HostTree::write`].
@@ -91,7 +106,7 @@ pub enum TreeCall {
 
 /// A tree of files.
 pub trait HostTree {
-    ghost use Rattle.host_tree.specs.Trees.{TreeIs, Asks, AreNoted, Changes, Looks, Attrs, Gets, is_look_fault, is_attr_fault, is_read_fault, has_file, change_named, written, resized, may_create, put_file, new_file, as_before, settled};
+    ghost use Rattle.host_tree.specs.Trees.{TreeIs, Asks, AreNoted, Changes, Looks, Attrs, Lists, Gets, is_look_fault, is_attr_fault, is_list_fault, is_read_fault, has_file, change_named, written, resized, may_create, put_file, new_file, as_before, settled};
 
     /// What the tree means.
     ghost is: { Self → TreeIs };
@@ -105,6 +120,11 @@ pub trait HostTree {
     fn attr(&mut self, file: &FileName) -> AttrAnswer
         ensures asks { Asks TreeCall.Attr (is self.old) (is_attr_fault result) (is self.new) }
         ensures attrs { Attrs (is self.old).told file.now result };
+
+    /// The names in a folder. What is neither a file nor a folder has none.
+    fn list(&mut self, path: &HostPath) -> ListAnswer
+        ensures asks { Asks TreeCall.List (is self.old) (is_list_fault result) (is self.new) }
+        ensures lists { Lists (is self.old).told path.now result };
 
     /// The bytes of a file from an offset on, at most `size`.
     fn read(&mut self, file: &FileName, offset: u64, size: u32) -> TreeRead

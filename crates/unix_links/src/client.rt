@@ -152,9 +152,7 @@ impl<'a> ClientReader<'a> {
                     }
                 }
                 answer => {
-                    if 0 < look && look <= looks {
-                        self.eagerness.pays_off();
-                    }
+                    self.eagerness.is_served(look, looks);
                     return answer;
                 }
             }

@@ -4,7 +4,7 @@ use Rattle.worker_gate.specs.Working.{sides}
 use Rattle.serve_posts.specs.Posts.{all_unserved, halls}
 use Rattle.serve_posts.specs.Rounds.{Turns, stand}
 use Rattle.serve_posts.proofs.Rounds.{AllClosed}
-use Rattle.serve_posts.proofs.shift.serve_over.Given as goal
+use Rattle.serve_posts.proofs.shift.serve_all.Given as goal
 
 -- one turn, and so many more
 abbrev pub invariant-turns : goal.invariant-turns

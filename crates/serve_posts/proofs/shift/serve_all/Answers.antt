@@ -10,7 +10,7 @@ use Rattle.worker_gate.specs.Working.{Hall, Sides, sides}
 use Rattle.serve_posts.specs.Posts.{all_unserved, halls, is_left, unserved}
 use Rattle.serve_posts.specs.Rounds.{OneTurn, Stand, stand}
 use Rattle.serve_posts.proofs.Rounds.{AllClosed, one_round_more, one_turn_more, renewed_closed, served_all, turn_closed, turns_lengths}
-use Rattle.serve_posts.proofs.shift.serve_over.Goals as goal
+use Rattle.serve_posts.proofs.shift.serve_all.Goals as goal
 
 -- no seat has an open connection behind a turn
 closed_after : {L S K : Type 0} (s : Sides S K) (hall_of : L → Hall S K) (settings : Settings) (a b : Stand L) → OneTurn s hall_of settings a b → length a.ends ≡ length a.posts → AllClosed a.opening a.entries → AllClosed b.opening b.entries
