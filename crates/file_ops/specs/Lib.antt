@@ -1,4 +1,5 @@
 pub mod OpenedFolders
+pub mod SeatNames
 pub mod Sets
 pub mod Tries
 pub mod Creates

@@ -12,7 +12,7 @@ use Rattle.portal_model.specs.declared.request.NodeRequest.{NodeRequest}
 use Rattle.portal_model.specs.Errno.{eio}
 use Rattle.portal_model.specs.NodeVerdict.{HandlesStay, Opens, next_handle}
 use Rattle.portal_model.specs.OpenDir.{open_dir}
-use Rattle.portal_model.specs.Place.{FolderOf, RootOf, Sight, SightOfFile, SightOfFolder, Views}
+use Rattle.portal_model.specs.Place.{Exported, FolderOf, RootOf, Sight, SightBelow, SightOfFile, SightOfFolder, Views}
 use Rattle.portal_model.specs.Walk.{Answers}
 use Rattle.app_view.specs.Entries.{behind_look, opened_with}
 use Rattle.open_handles.specs.Opened.{HandleTable}
@@ -36,9 +36,11 @@ ListsBehind r sight seat (look.Is shown) table answer after =
 ListsBehind r sight seat look.Failed table answer after =
     (answer ≡ Answer.Refused (Code.Errno eio)) × Handled seat HandlesStay table after
 
--- the path that is looked at where the folder is opened
+-- the path that is looked at where a folder is opened whose names aren't listed
 abbrev pub path_in : Sight → Option (List ℕ)
 path_in (SightOfFile d may_write) = None
+path_in (SightBelow view d path may_write) = None
 path_in (SightOfFolder (RootOf view numbers has_views)) = None
 path_in (SightOfFolder (Views applications)) = None
 path_in (SightOfFolder (FolderOf view d may_write)) = Some d.path
+path_in (SightOfFolder (Exported view d path may_write)) = None

@@ -1,13 +1,15 @@
 //! What a caller sees at a node.
 
-ghost use Rattle.std.specs.Prelude.{◌≡◌, ◌<◌, ◌^◌, IfSome, option_copied, option_map};
+ghost use Rattle.std.specs.Prelude.{◌≡◌, ◌<◌, ◌^◌, IfSome, false, nat_lt, option_copied, option_map, true};
+ghost use Rattle.portal_model.specs.NodeNumbers.{kind_of_node};
 ghost use Rattle.portal_model.specs.Place.{place_of, sight_of_place};
 ghost use Rattle.portal_model.specs.State.{State};
 ghost use Rattle.portal_base.specs.declared.who.Who.{Who as WhoNow};
 ghost use Rattle.app_view.specs.Books.{Lends};
+ghost use Rattle.app_view.specs.Places.{is_folder_place};
 ghost use Rattle.app_view.specs.Sights.{file_sight};
 ghost use Rattle.app_view.specs.declared.book.ViewBook.{ViewBook as ViewBookNow};
-ghost use Rattle.node_looks.specs.Sights.{sight_of, view_of};
+ghost use Rattle.node_looks.specs.Sights.{is_below, sight_of, view_of};
 
 use app_view::{
     SeenBelow, SeenDocument, Subject, ViewBook, place_of, seen_document, seen_naming, subject_of,
@@ -53,7 +55,9 @@ pub enum SeenPlace<'a> {
 }
 
 /// What a caller sees at a node; `None` exactly where it sees nothing there. `naming`
-/// is what the connection that asks has named by the number in the node.
+/// is what the connection that asks has named by the number in the node. At the node of
+/// a root, of the folder of all views or of a document's folder no look tells what is
+/// there.
 pub fn seen_place<'a>(
     book: &ViewBook<'a>,
     who: &'a Who,
@@ -64,8 +68,13 @@ pub fn seen_place<'a>(
         place_of s who.now (option_copied naming.entry) node
         ≡ option_map (sight_of book.now who.now) result }
     ensures small { IfSome result (λ seen. view_of seen < 2 ^ 28) }
+    ensures plain { IfSome result (λ seen.
+        nat_lt (kind_of_node node) 2 ≡ true → is_below seen ≡ false) }
 {
-    seen_at(book, who, place_of(node)?, naming)
+    match place_of(node) {
+        Some(place) => seen_at(book, who, place, naming),
+        None => None,
+    }
 }
 
 /// What a caller sees at a place.
@@ -79,6 +88,8 @@ pub fn seen_at<'a>(
         sight_of_place s who.now (option_copied naming.entry) place
         ≡ option_map (sight_of book.now who.now) result }
     ensures small { IfSome result (λ seen. view_of seen < 2 ^ 28) }
+    ensures plain { IfSome result (λ seen.
+        is_folder_place place ≡ true → is_below seen ≡ false) }
 {
     match place {
         Place::File { view, id } => match seen_document(book, who, view, id) {
