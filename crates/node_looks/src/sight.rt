@@ -1,7 +1,8 @@
 //! What a caller sees at a node.
 
-ghost use Rattle.std.specs.Prelude.{◌≡◌, ◌<◌, ◌^◌, IfSome, false, nat_lt, option_copied, option_map, true};
+ghost use Rattle.std.specs.Prelude.{◌≡◌, ◌<◌, ◌^◌, IfSome, Option, Some, false, nat_lt, option_copied, option_map, true};
 ghost use Rattle.portal_model.specs.NodeNumbers.{kind_of_node};
+ghost use Rattle.portal_model.specs.declared.naming.Naming.{Naming as NamingNow};
 ghost use Rattle.portal_model.specs.Place.{place_of, sight_of_place};
 ghost use Rattle.portal_model.specs.State.{State};
 ghost use Rattle.portal_base.specs.declared.who.Who.{Who as WhoNow};
@@ -77,7 +78,8 @@ pub fn seen_place<'a>(
     }
 }
 
-/// What a caller sees at a place.
+/// What a caller sees at a place. What isn't told by a look is the same whatever was
+/// named.
 pub fn seen_at<'a>(
     book: &ViewBook<'a>,
     who: &'a Who,
@@ -90,6 +92,9 @@ pub fn seen_at<'a>(
     ensures small { IfSome result (λ seen. view_of seen < 2 ^ 28) }
     ensures plain { IfSome result (λ seen.
         is_folder_place place ≡ true → is_below seen ≡ false) }
+    ensures others { (s : State) (named : Option NamingNow) → Lends book.now s →
+        IfSome result (λ seen. is_below seen ≡ false →
+        sight_of_place s who.now named place ≡ Some (sight_of book.now who.now seen)) }
 {
     match place {
         Place::File { view, id } => match seen_document(book, who, view, id) {
