@@ -37,6 +37,6 @@ mod sight;
 
 pub use book::{Subject, ViewBook, may_read, may_write, subject_of};
 pub use entries::{listing, listing_below};
-pub use nodes::{node_of, place_of};
+pub use nodes::{id_of, node_of, place_of};
 pub use rights_now::{Reach, reach_at};
 pub use sight::{SeenBelow, SeenDocument, is_folder, resolve, seen_document, seen_naming};

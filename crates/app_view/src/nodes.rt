@@ -2,7 +2,7 @@
 //! they name.
 
 ghost use Rattle.std.specs.Prelude.{◌≡◌, ◌<◌, ◌^◌, IfSome, Some, true};
-ghost use Rattle.portal_model.specs.Place.{place_named, place_of_kind_0, place_from_one, node_of, node_number, root_node, by_app_node, folder_node, file_node, named_node, view_of_node};
+ghost use Rattle.portal_model.specs.Place.{place_named, place_of_kind_0, place_from_one, node_of, node_number, root_node, by_app_node, folder_node, file_node, named_node, id_of_node, view_of_node};
 ghost use Rattle.portal_model.specs.declared.place.Place.TheVariants as Place;
 ghost use Rattle.app_view.specs.Places.{is_counted, view_in};
 
@@ -40,7 +40,7 @@ pub fn place_of(node: u64) -> Option<Place>
     ensures back { IfSome result (λ place. node_of place ≡ node) }
 {
     let view = view_of(node);
-    let id = (node & ID_MASK) as u32;
+    let id = id_of(node);
     match (node >> KIND_SHIFT) & KIND_MASK {
         TOP => top_place(view, id),
         DOCUMENT_FOLDER => Some(Place::Folder {
@@ -65,6 +65,13 @@ fn named_place(view: u32, k: u32) -> Option<Place>
     } else {
         Some(Place::Named { view, k })
     }
+}
+
+/// The identifier in a number: of a document, of a root, or of what was named.
+pub fn id_of(node: u64) -> u32
+    ensures { result ≡ id_of_node node }
+{
+    (node & ID_MASK) as u32
 }
 
 /// The view in a number.

@@ -1,11 +1,12 @@
 -- What a CREATE comes to, and what it leaves of the open handles and of the names.
-use Rattle.std.specs.Prelude.{◌≡◌, ℕ, List}
+use Rattle.std.specs.Prelude.{◌≡◌, ℕ, List, Some}
 use Rattle.host_tree.specs.Trees.{TreeIs}
 use Rattle.host_tree.specs.declared.tree.LookAnswer.{LookAnswer}
 use Rattle.host_tree.specs.declared.tree.LookAnswer.TheVariants as look
 use Rattle.open_handles.specs.Opened.{HandleTable}
 use Rattle.folder_documents.specs.Named.{Named}
 use Rattle.portal_base.specs.declared.files.Look.{Look}
+use Rattle.portal_model.specs.declared.naming.Naming.{Naming}
 use Rattle.portal_model.specs.declared.request.NodeRequest.{NodeRequest}
 use Rattle.portal_model.specs.Create.{Made, create_at}
 use Rattle.portal_model.specs.Errno.{eio, emfile, enotdir}
@@ -13,7 +14,7 @@ use Rattle.portal_model.specs.NodeVerdict.{NodeVerdict, HandleChange, HandlesSta
 use Rattle.portal_model.specs.Walk.{Walk}
 use Rattle.node_looks.specs.Done.{name_change}
 use Rattle.node_looks.specs.OpenHandles.{Handled}
-use Rattle.file_ops.specs.SeatNames.{SeatNamed}
+use Rattle.file_ops.specs.SeatNames.{SeatNamed, namings_on}
 use Rattle.file_ops.specs.Tries.{Goes, done_of_ended, refuses}
 use Rattle.file_ops.specs.declared.created.NewFile.{NewFile}
 use Rattle.file_ops.specs.declared.created.Target.{Target}
@@ -55,17 +56,24 @@ OpeningBehind next look.Failed seat table old ended after new =
     (ended ≡ refuses eio) × Handled seat HandlesStay table after × (new ≡ old)
 
 -- and what the seat's connection has named changes as the walk says
-pub record Naming (walk : Walk NodeVerdict) (seat : ℕ) (table : HandleTable)
+pub record Numbering (walk : Walk NodeVerdict) (seat : ℕ) (table : HandleTable)
     (names : List (ℕ × Named)) (old : TreeIs) (done : NodeDone) (after : HandleTable)
     (named : List (ℕ × Named)) (new : TreeIs) : Type 0 where
   pub opening : Opening walk seat table old done after new
   pub names : SeatNamed seat (name_change opening.goes.verdict) names named
 
+-- by what the seat's connection has named
+abbrev pub NumberingWith : (List Naming → Walk NodeVerdict) → ℕ → HandleTable → List (ℕ × Named)
+    → TreeIs → NodeDone → HandleTable → List (ℕ × Named) → TreeIs → Type 0
+NumberingWith walk seat table names old done after named new = (namings : List Naming) →
+    namings_on names seat ≡ Some namings →
+    Numbering (walk namings) seat table names old done after named new
+
 -- behind a look that was answered so
-abbrev pub NamingBehind : (Look → Walk NodeVerdict) → LookAnswer → ℕ → HandleTable
+abbrev pub NumberingBehind : (Look → Walk NodeVerdict) → LookAnswer → ℕ → HandleTable
     → List (ℕ × Named) → TreeIs → Ended → HandleTable → List (ℕ × Named) → TreeIs → Type 0
-NamingBehind next (look.Is shown) seat table names old ended after named new =
-    Naming (next shown) seat table names old (done_of_ended ended) after named new
-NamingBehind next look.Failed seat table names old ended after named new =
+NumberingBehind next (look.Is shown) seat table names old ended after named new =
+    Numbering (next shown) seat table names old (done_of_ended ended) after named new
+NumberingBehind next look.Failed seat table names old ended after named new =
     (ended ≡ refuses eio) × Handled seat HandlesStay table after
     × SeatNamed seat NamesStay names named × (new ≡ old)

@@ -1,6 +1,6 @@
 -- What connections have named below exported folders, as the table of namings has it, and how a
 -- request changes that.
-use Rattle.std.specs.Prelude.{◌≡◌, ℕ, ◌==◌, List, Bool, false, Option, option_map}
+use Rattle.std.specs.Prelude.{◌≡◌, ℕ, ◌==◌, List, false, Option, option_map}
 use Rattle.host_tree.specs.Trees.{TreeIs}
 use Rattle.open_handles.specs.Opened.{HandleTable}
 use Rattle.folder_documents.specs.Named.{Named, named_on}
