@@ -13,5 +13,5 @@ returns-clause-ok g c = λ s x.
     let done = c.in_ok-done.done in
     let after = c.serve_node.new.handles in
     let here = ap (λ (l : List Connection). mount_of (connection_of l c.args.seat)) (sym c.as_slice.ensures) ∙ (sym c.mount_of.ensures ∙ ap option_copied c.in-Some.is) in
-    subst (λ (l : List Connection). ServesSeat s c.args.seat c.args.request.now old done l after new) (sym c.number.ensures.numbered)
-    (serves-mount s c.args.book.now c.args.connections.now c.args.handles.now old done x (record { seat = c.args.seat; who = _; request = c.args.request }) after new c.in-Some.connection.now here refl c.in_ok-done.ensures.ok)
+    subst (λ (l : List Connection). ServesSeat s c.args.seat c.args.request.now old done l after c.serve_node.new.namings new) (sym c.number.ensures.numbered)
+    (serves-mount s c.args.book.now c.args.connections.now c.args.handles.now c.args.namings.now old done x (record { seat = c.args.seat; who = _; request = c.args.request }) after c.serve_node.new.namings new c.in-Some.connection.now here refl c.in_ok-done.ensures.ok)
