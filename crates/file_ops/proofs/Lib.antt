@@ -4,3 +4,5 @@ mod Tries
 mod Sets
 mod Creates
 mod Openings
+mod NeverNames
+mod DoesNames

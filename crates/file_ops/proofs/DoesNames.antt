@@ -1,0 +1,55 @@
+-- A request that is done, by what the connections have named.
+use Rattle.std.proofs.Common.{◌≡◌, ◌==◌, ℕ, List, Bool, true, false, Option, Some, None, refl, sym, ap, subst, arith, ◌∙◌}
+use Rattle.std.proofs.lemmas.Bool.Decides.{nat_tests}
+use Rattle.std.specs.Option.{option_map}
+use Rattle.host_tree.specs.Trees.{TreeIs}
+use Rattle.open_handles.specs.Opened.{HandleTable}
+use Rattle.folder_documents.specs.Named.{Named}
+use Rattle.portal_model.specs.declared.naming.Naming.{Naming}
+use Rattle.portal_model.specs.declared.state.Connection.{Connection}
+use Rattle.portal_model.specs.Node.{facts_of}
+use Rattle.portal_model.specs.NodeVerdict.{NamesStay}
+use Rattle.portal_model.specs.Place.{id_of_node, sight_on}
+use Rattle.portal_model.specs.SeatNames.{naming_of}
+use Rattle.portal_model.specs.State.{State, connection_of}
+use Rattle.node_looks.specs.Done.{Does, DoesAt, IsCalled}
+use Rattle.node_looks.specs.Served.{given_to}
+use Rattle.node_looks.specs.declared.served.FileBook.{FileBook}
+use Rattle.node_looks.specs.declared.served.NodeCall.{NodeCall}
+use Rattle.node_looks.specs.declared.served.NodeDone.{NodeDone}
+use Rattle.file_ops.specs.SeatNames.{AreNamed, DoesNaming, NamesKept, SeatNamed, namings_on}
+use Rattle.file_ops.proofs.NeverNames.{IsPlain, MayName, never-plain, never-steps}
+
+-- what the seat of a call has named
+seat-names : (s : State) (c : Connection) (seat : ℕ) (names : List (ℕ × Named)) → AreNamed s names → connection_of s.connections seat ≡ Some c → namings_on names seat ≡ Some c.namings
+seat-names s c seat names a e = a seat ∙ ap (option_map (λ (x : Connection). x.namings)) e
+
+module _ (book : FileBook) (call : NodeCall) (table : HandleTable) (names : List (ℕ × Named)) (old : TreeIs) (done : NodeDone) (after : HandleTable) (new : TreeIs) where
+  -- a request by which nothing is named, in the states in which it may be asked
+  pub does-plain : ((s : State) (c : Connection) → IsCalled s c book call table old.told → MayName call.request.now call.request.now.op → IsPlain (sight_on s c call.request.now.node)) → Does book call table old done after new → DoesNaming book call table names old done after names new
+  does-plain plain d = λ s c a n. record {
+    done = d s c a;
+    names = never-steps s c call.request.now (given_to done) names (never-plain call.request.now (facts_of s c call.request.now.node) call.request.now.op (plain s c a)) n;
+  }
+
+  -- the same, by what was named by the number in the node
+  pub at-plain : (naming : Option Naming) → ((has : List Naming) → namings_on names call.seat ≡ Some has → naming ≡ naming_of has (id_of_node call.request.now.node)) →
+      ((s : State) (c : Connection) → IsCalled s c book call table old.told → MayName call.request.now call.request.now.op → IsPlain (sight_on s c call.request.now.node)) → DoesAt naming book call table old done after new → DoesNaming book call table names old done after names new
+  at-plain naming is plain d = λ s c a n. record {
+    done = d s c a (sym (is c.namings (seat-names s c call.seat names n a.here)));
+    names = never-steps s c call.request.now (given_to done) names (never-plain call.request.now (facts_of s c call.request.now.node) call.request.now.op (plain s c a)) n;
+  }
+
+-- nothing more is named
+pub still-named : (seat : ℕ) (old new : List (ℕ × Named)) → SeatNamed seat NamesStay old new → NamesKept old new
+still-named seat old new h other = by (seat == other) refl
+  where
+    same : (o : Option (List Naming)) → option_map (λ (x : List Naming). x) o ≡ o
+    same None = refl
+    same (Some x) = refl
+
+    by : (b : Bool) → (seat == other) ≡ b → namings_on new other ≡ namings_on old other
+    by true e =
+        let is : seat ≡ other = grind (arith, nat_tests) in
+        subst (λ (n : ℕ). namings_on new n ≡ namings_on old n) is (h.there ∙ same (namings_on old seat))
+    by false e = h.elsewhere other e
