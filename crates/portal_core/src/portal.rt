@@ -31,6 +31,7 @@ use file_laws::laws::{
 use file_ops::{FileBook, LookRooms};
 use host_tree::HostTree;
 use inode_table::InodeTable;
+use folder_documents::Namings;
 use open_handles::Handles;
 use permission_table::Tables;
 use portal_base::limits::Limits;
@@ -85,6 +86,7 @@ pub struct Portal<T: HostTree, K: Keeper, C: Clock, W: Words> {
     outboxes: Outboxes,
     connections: List<Connection>,
     handles: Handles,
+    namings: Namings,
     counts: InodeTable,
     history: History,
     rooms: LookRooms,
@@ -127,7 +129,7 @@ impl<T: HostTree, K: Keeper, C: Clock, W: Words> Model for Portal<T, K, C, W> {
 
     // Room is kept for a Leave of each open connection.
     ghost invariant = { λ p. Stands (T.is p.tree).began p.opening p.history.entries p.history.limit
-        p.documents p.rights p.applications p.connections p.handles (T.is p.tree).told
+        p.documents p.rights p.applications p.connections p.handles p.namings (T.is p.tree).told
         × (length p.connections ≤ p.history.spare)
         × KeepsState (K.is p.keeper).told
         (run (opened_over (T.is p.tree).began p.opening) p.history.entries)
@@ -211,6 +213,7 @@ impl<T: HostTree, K: Keeper, C: Clock, W: Words> Portal<T, K, C, W> {
             outboxes: Outboxes::new(alloc),
             connections: List::new(alloc),
             handles,
+            namings: Namings::new(alloc),
             counts: InodeTable::new(alloc),
             history,
             rooms: LookRooms::new(alloc),
@@ -483,6 +486,7 @@ impl<T: HostTree, K: Keeper, C: Clock, W: Words> Portal<T, K, C, W> {
         seats::enter(
             &mut self.connections,
             &mut self.handles,
+            &mut self.namings,
             &mut self.outboxes,
             opened_connection(alloc, seat, who, kind),
         )?;
@@ -535,6 +539,7 @@ impl<T: HostTree, K: Keeper, C: Clock, W: Words> Portal<T, K, C, W> {
             &book,
             &mut self.connections,
             &mut self.handles,
+            &mut self.namings,
             &mut self.counts,
             &mut self.tree,
             &mut self.clock,
@@ -748,6 +753,7 @@ impl<T: HostTree, K: Keeper, C: Clock, W: Words> Portal<T, K, C, W> {
         let connections = mem::replace(&mut self.connections, List::new(alloc));
         self.connections = of_others(connections, seat);
         self.handles.leave(seat);
+        self.namings.leave(seat);
         self.counts.leave(seat);
         self.outboxes.leave(seat);
         let entry = entry_made(alloc, seat, Request::Leave);
