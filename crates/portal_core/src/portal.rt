@@ -29,9 +29,9 @@ use file_laws::laws::{
     no_open_after_a_revocation, older_handles_keep_their_rights, strict_handles_follow_revocations,
 };
 use file_ops::{FileBook, LookRooms};
+use folder_documents::Namings;
 use host_tree::HostTree;
 use inode_table::InodeTable;
-use folder_documents::Namings;
 use open_handles::Handles;
 use permission_table::Tables;
 use portal_base::limits::Limits;
@@ -306,12 +306,13 @@ impl<T: HostTree, K: Keeper, C: Clock, W: Words> Portal<T, K, C, W> {
     /// request stays too; at a request on a node what is for one request may go. Such a refusal
     /// of a request that may change the records may have asked the keeper in vain; one of an
     /// Add may have asked the tree too, once for each of its files or twice where they are
-    /// named, and have drawn one word for each; one of a READ, WRITE, FSYNC or OPENDIR may have
-    /// asked the tree once, and one of a SETATTR, OPEN or CREATE twice; and of these SETATTR,
-    /// OPEN, CREATE and WRITE may have read the clock.
+    /// named, and have drawn one word for each; one of a READ, WRITE or FSYNC may have asked the
+    /// tree once, one of a SETATTR, OPEN or OPENDIR twice, as one of a LOOKUP at the node of a
+    /// document's file or of a name below a document that is a folder, and one of a CREATE
+    /// three times; and of these SETATTR, OPEN, CREATE and WRITE may have read the clock.
     ///
-    /// A LOOKUP, GETATTR, ACCESS, FLUSH, RELEASE, RELEASEDIR, FORGET or BATCH_FORGET finds
-    /// memory where some was taken ahead ([`Portal::reserve`]), of which each takes what is
+    /// A LOOKUP in a root, in the folder of all views or in a document's folder, a GETATTR,
+    /// ACCESS, FLUSH, RELEASE, RELEASEDIR, FORGET or BATCH_FORGET finds memory where some was taken ahead ([`Portal::reserve`]), of which each takes what is
     /// for one request at most; the Leave of an open connection takes none of it.
     pub fn ask(&mut self, alloc: Global, seat: u32, request: Request) -> Result<Reply, Refused>
         ensures began { self.new.story.began ≡ self.old.story.began }

@@ -89,7 +89,7 @@ fn file_seen<'a>(book: &ViewBook<'a>, who: &Who, node: u64) -> Option<&'a HostPa
 {
     match place_of(node)? {
         Place::File { view, id } => Some(&seen_document(book, who, view, id)?.document.path),
-        Place::Root { .. } | Place::ByApp | Place::Folder { .. } => None,
+        Place::Root { .. } | Place::ByApp | Place::Folder { .. } | Place::Named { .. } => None,
     }
 }
 
@@ -100,7 +100,7 @@ fn folder_seen<'a>(book: &ViewBook<'a>, who: &Who, node: u64) -> Option<&'a Host
 {
     match place_of(node)? {
         Place::Folder { view, id } => Some(&seen_document(book, who, view, id)?.document.path),
-        Place::Root { .. } | Place::ByApp | Place::File { .. } => None,
+        Place::Root { .. } | Place::ByApp | Place::File { .. } | Place::Named { .. } => None,
     }
 }
 
