@@ -119,12 +119,13 @@ handles-silent c (Closes fh) hs = refl
 
 -- what a request comes to has nothing to do with connections
 module _ (s : State) (cs ds : List Connection) where
-  place-over : (who : Who) (o : Option Place) → sight_at (record s { connections = cs }) who o ≡ sight_at (record s { connections = ds }) who o
-  place-over who None = refl
-  place-over who (Some (Place.Root view)) = refl
-  place-over who (Some Place.ByApp) = refl
-  place-over who (Some (Place.Folder view id)) = refl
-  place-over who (Some (Place.File view id)) = refl
+  place-over : (who : Who) (naming : Option Naming) (o : Option Place) → sight_at (record s { connections = cs }) who naming o ≡ sight_at (record s { connections = ds }) who naming o
+  place-over who naming None = refl
+  place-over who naming (Some (Place.Root view)) = refl
+  place-over who naming (Some Place.ByApp) = refl
+  place-over who naming (Some (Place.Folder view id)) = refl
+  place-over who naming (Some (Place.File view id)) = refl
+  place-over who naming (Some (Place.Named view k)) = refl
 
   reach-over : (number : ℕ) (subject : Option Who) → reach_of_subject (record s { connections = cs }) number subject ≡ reach_of_subject (record s { connections = ds }) number subject
   reach-over number None = refl
