@@ -36,9 +36,7 @@ use portal_base::files::{FileName, Look};
 use portal_base::memory::{Replica, WantOfMemory};
 use portal_base::names::HostPath;
 use portal_base::outside::Clock;
-use portal_model::errno::{
-    EACCES, EEXIST, EINVAL, EIO, EMFILE, ENAMETOOLONG, ENOENT, ENOTDIR,
-};
+use portal_model::errno::{EACCES, EEXIST, EINVAL, EIO, EMFILE, ENAMETOOLONG, ENOENT, ENOTDIR};
 use portal_model::naming::Naming;
 use portal_model::reply::NodeAnswer;
 use std::alloc::Global;
@@ -58,11 +56,7 @@ pub(crate) struct Parent {
 }
 
 /// What is seen there, by copies.
-pub(crate) fn parent_of(
-    alloc: Global,
-    view: u32,
-    below: SeenBelow,
-) -> Result<Parent, WantOfMemory>
+pub(crate) fn parent_of(alloc: Global, view: u32, below: SeenBelow) -> Result<Parent, WantOfMemory>
     ensures { IfOk result (λ parent. parent ≡ parent_seen view below.entry) }
 {
     Ok(Parent {
@@ -332,7 +326,9 @@ fn made_in<T: HostTree, C: Clock>(
         document: parent.document.id,
         path,
     };
-    made_named(alloc, handles, namings, tree, clock, call, parent, naming, flags)
+    made_named(
+        alloc, handles, namings, tree, clock, call, parent, naming, flags,
+    )
 }
 
 /// How a CREATE ends on a name that may be made.
@@ -422,7 +418,9 @@ fn made_looked<T: HostTree, C: Clock>(
 {
     match look {
         LookAnswer::Is(Look::Missing) => {
-            made_file(handles, namings, tree, clock, call, parent, naming, flags, file)
+            made_file(
+                handles, namings, tree, clock, call, parent, naming, flags, file,
+            )
         }
         // Also without O_EXCL: a kernel looks the name up first, and opens what it finds.
         LookAnswer::Is(Look::Folder | Look::File { .. }) => Ok(Ended::refused(EEXIST)),

@@ -62,9 +62,7 @@ pub fn open<T: HostTree, C: Clock>(
     ensures clock_err { OnErr result (MayRead C.reads clock.old clock.new) }
 {
     let room = room_for_looks(alloc)?;
-    let tried = opened(
-        alloc, &book.view, handles, tree, clock, call, naming, flags,
-    )?;
+    let tried = opened(alloc, &book.view, handles, tree, clock, call, naming, flags)?;
     Ok(tried.done(room))
 }
 

@@ -402,9 +402,7 @@ fn set_place<T: HostTree, C: Clock>(
             seen.document,
             seen.may_write,
         ),
-        SeenPlace::Below { below, .. } => {
-            set_below(alloc, tree, clock, request, setting, below)
-        }
+        SeenPlace::Below { below, .. } => { set_below(alloc, tree, clock, request, setting, below) }
         SeenPlace::Folder { .. } => Ok(set_plain(request, setting)),
         SeenPlace::Root { .. } => Ok(set_plain(request, setting)),
         SeenPlace::Views => Ok(set_plain(request, setting)),

@@ -130,9 +130,7 @@ pub fn serve_node<T: HostTree, C: Clock>(
         NodeOp::ReleaseDir { fh } => Ok(release_dir(alloc, handles, call, *fh)),
         NodeOp::Access { mask } => {
             let naming = naming_of(namings, seat, node);
-            access(
-                alloc, rooms, &book.view, tree, who, request, naming, *mask,
-            )
+            access(alloc, rooms, &book.view, tree, who, request, naming, *mask)
         }
     }
 }
