@@ -6,3 +6,4 @@ mod Creates
 mod Openings
 mod NeverNames
 mod DoesNames
+mod Numberings

@@ -83,7 +83,7 @@ counted-found n seat (c ∷ cs) = by (c.seat == n)
     by true = first true (c.seat == seat)
     by false = first false (c.seat == seat)
 
-handled-names : (c : Connection) (change : HandleChange) (seat : ℕ) (cs : List Connection) → option_map (λ c. c.namings) (connection_of (connections_after c change cs) seat) ≡ option_map (λ c. c.namings) (connection_of cs seat)
+pub handled-names : (c : Connection) (change : HandleChange) (seat : ℕ) (cs : List Connection) → option_map (λ c. c.namings) (connection_of (connections_after c change cs) seat) ≡ option_map (λ c. c.namings) (connection_of cs seat)
 handled-names c HandlesStay seat cs = refl
 handled-names c (Opens handle) seat cs = counted-found c.seat seat cs
 handled-names c (Closes fh) seat cs = refl

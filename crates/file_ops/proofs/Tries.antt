@@ -88,6 +88,27 @@ set-both (a ∷ []) x y e = absurd (omega (arith, e))
 set-both (a ∷ b ∷ []) x y e = refl
 set-both (a ∷ b ∷ d ∷ ds) x y e = absurd (omega (arith, e))
 
+pub one-look : (xs : List Look) (a : Look) → length xs ≡ 3 → take 1 (slice_set xs 0 a) ≡ a ∷ []
+one-look [] a e = absurd (omega (arith, e))
+one-look (x ∷ xs) a e = refl
+
+pub two-looks : (xs : List Look) (a b : Look) → length xs ≡ 3 → take 2 (slice_set (slice_set xs 0 a) 1 b) ≡ a ∷ b ∷ []
+two-looks [] a b e = absurd (omega (arith, e))
+two-looks (x ∷ []) a b e = absurd (omega (arith, e))
+two-looks (x ∷ y ∷ xs) a b e = refl
+
+pub three-looks : (xs : List Look) (a b c : Look) → length xs ≡ 3 → slice_set (slice_set (slice_set xs 0 a) 1 b) 2 c ≡ a ∷ b ∷ c ∷ []
+three-looks [] a b c e = absurd (omega (arith, e))
+three-looks (x ∷ []) a b c e = absurd (omega (arith, e))
+three-looks (x ∷ y ∷ []) a b c e = absurd (omega (arith, e))
+three-looks (x ∷ y ∷ z ∷ []) a b c e = refl
+three-looks (x ∷ y ∷ z ∷ w ∷ xs) a b c e = absurd (omega (arith, e))
+
+pub first-two : (xs : List Look) → length xs ≡ 3 → length (take 2 xs) ≡ 2
+first-two [] e = absurd (omega (arith, e))
+first-two (x ∷ []) e = absurd (omega (arith, e))
+first-two (x ∷ y ∷ xs) e = refl
+
 pub shown-missing : (call : Option CallMade) (r : Bool) → r ≡ found_nothing call → r ≡ true → shown_behind call ≡ Look.Missing ∷ []
 shown-missing call r e t = ap (λ (b : Bool). cond b (Look.Missing ∷ []) []) (sym e ∙ t)
 

@@ -8,10 +8,11 @@ use Rattle.folder_documents.specs.Named.{Named}
 use Rattle.portal_base.specs.declared.files.Look.{Look}
 use Rattle.portal_model.specs.declared.naming.Naming.{Naming}
 use Rattle.portal_model.specs.declared.request.NodeRequest.{NodeRequest}
+use Rattle.portal_model.specs.Bus.{is_tree, moment_given}
 use Rattle.portal_model.specs.Create.{Made, create_at}
 use Rattle.portal_model.specs.Errno.{eio, emfile, enotdir}
-use Rattle.portal_model.specs.NodeVerdict.{NodeVerdict, HandleChange, HandlesStay, NamesStay, Room, at_file, errs, errs_if, errs_on_file}
-use Rattle.portal_model.specs.Walk.{Walk}
+use Rattle.portal_model.specs.NodeVerdict.{NodeVerdict, HandleChange, HandlesStay, NameChange, NamesStay, Room, at_file, errs, errs_if, errs_on_file}
+use Rattle.portal_model.specs.Walk.{Walk, walked_with}
 use Rattle.node_looks.specs.Done.{name_change}
 use Rattle.node_looks.specs.OpenHandles.{Handled}
 use Rattle.file_ops.specs.SeatNames.{SeatNamed, namings_on}
@@ -60,7 +61,10 @@ pub record Numbering (walk : Walk NodeVerdict) (seat : ℕ) (table : HandleTable
     (names : List (ℕ × Named)) (old : TreeIs) (done : NodeDone) (after : HandleTable)
     (named : List (ℕ × Named)) (new : TreeIs) : Type 0 where
   pub opening : Opening walk seat table old done after new
-  pub names : SeatNamed seat (name_change opening.goes.verdict) names named
+  pub change : NameChange
+  pub naming : name_change (walked_with walk (moment_given done.now) done.listed done.looks
+      (is_tree done.fault)) ≡ change
+  pub names : SeatNamed seat change names named
 
 -- by what the seat's connection has named
 abbrev pub NumberingWith : (List Naming → Walk NodeVerdict) → ℕ → HandleTable → List (ℕ × Named)
