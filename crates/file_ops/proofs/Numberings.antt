@@ -153,7 +153,7 @@ numbering-behind path next look.Failed seat table names ended after named old mi
     handled = n.1;
   };
   change = NamesStay;
-  naming = refl;
+  naming = ap (λ (e : Ended). let d = done_behind (Some look.Failed) e in name_change (walked_with (Looks (AtPath path) next) (moment_given d.now) d.listed d.looks (is_tree d.fault))) n.0;
   names = n.2;
 }
 
