@@ -12,6 +12,7 @@ use Rattle.open_handles.specs.Opened.{HandleTable}
 use Rattle.portal_base.specs.declared.who.Who.{Who}
 use Rattle.portal_model.specs.declared.entry.Given.{Given}
 use Rattle.portal_model.specs.declared.handle.OpenHandle.{OpenHandle}
+use Rattle.portal_model.specs.declared.naming.Naming.{Naming}
 use Rattle.portal_model.specs.declared.place.Place.{Place}
 use Rattle.portal_model.specs.declared.reply.Answer.{Answer}
 use Rattle.portal_model.specs.declared.reply.Reply.{Reply}
@@ -24,10 +25,10 @@ use Rattle.portal_model.specs.Lawful.{LawfulOnNode}
 use Rattle.portal_model.specs.Node.{bytes_named, connections_after, counted, files_after, handles_after, node_answer, node_given, node_walk, room_of, settled_on_node, walk_on_node}
 use Rattle.portal_model.specs.NodeVerdict.{HandleChange, HandlesStay, Opens, Closes, NodeVerdict, Errs, Yields}
 use Rattle.portal_model.specs.Outside.{files_told}
-use Rattle.portal_model.specs.Place.{place_named, reach_of_subject, sight_at, subject_of, view_of_node}
+use Rattle.portal_model.specs.Place.{place_named, reach_of_subject, sight_at, subject_of, view_of_node, naming_on}
 use Rattle.portal_model.specs.State.{State, connection_of, handle_of, is_mount}
 use Rattle.portal_model.specs.Step.{all_told, mount_of, node_step, reply_with, told_of, with_signals}
-use Rattle.portal_model.specs.Walk.{Walk, Gives, reads_clock}
+use Rattle.portal_model.specs.Walk.{Walk, Gives, reads_clock, GivesNames}
 use Rattle.portal_model.specs.Valid.{Valid, has_no_names, is_bound_connection, is_caller, is_host_bus, is_none, is_sound_change, is_sound_connection}
 use Rattle.portal_model.proofs.DocumentChanges.{both, first_of_both, second_of_both}
 use Rattle.portal_model.proofs.OpenHandles.{Alike as AlikeConnections, mapped-handles}
@@ -133,11 +134,12 @@ module _ (s : State) (cs ds : List Connection) where
 
   walk-over : (c : Connection) (r : NodeRequest) → walk_on_node (record s { connections = cs }) (silent c) r ≡ walk_on_node (record s { connections = ds }) c r
   walk-over c r = λ i. node_walk (record {
-    sight = place-over c.who (place_named r.node) i;
+    sight = place-over c.who (naming_on c r.node) (place_named r.node) i;
     handle = handle_of s.handles c.seat;
     reach = λ node number. reach-over number (subject_of s.applications c.who (view_of_node node)) i;
     bytes = bytes_named s.files;
     room = room_of s c;
+    namings = c.namings;
     file_limit = s.limits.file_bytes;
   }) r r.op
 
@@ -203,7 +205,7 @@ module _ (s : State) (v : Valid s) (seat : ℕ) (r : NodeRequest) (given : Given
   lawful-loud (Some c) l = record {
     looks = subst (λ (w : Walk NodeVerdict). Gives (files_told s) w given.looks (is_tree given.fault)) (walk-told c) l.looks;
     clock = l.clock ∙ ap (λ (w : Walk NodeVerdict). reads_clock w given.looks) (walk-told c);
-    listed = l.listed;
+    listed = subst (λ (w : Walk NodeVerdict). GivesNames (files_told s) w given.looks given.listed (is_tree given.fault)) (walk-told c) l.listed;
     generation = l.generation;
     words = l.words;
     numbers = l.numbers;
