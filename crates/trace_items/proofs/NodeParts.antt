@@ -11,7 +11,7 @@ use Rattle.portal_model.specs.Bus.{moment_given}
 use Rattle.portal_model.specs.Lawful.{Lawful, LawfulGiven}
 use Rattle.portal_model.specs.NodeVerdict.{FileChange, FilesStay}
 use Rattle.portal_model.specs.Open.{truncates}
-use Rattle.portal_model.specs.Place.{Sight, place_of}
+use Rattle.portal_model.specs.Place.{Sight, sight_on}
 use Rattle.portal_model.specs.SetAttr.{sets_by_handle, sets_size}
 use Rattle.portal_model.specs.State.{State, connection_of, is_mount}
 use Rattle.portal_model.specs.Step.{mount_of}
@@ -74,7 +74,7 @@ mount-heard : (s : State) (seat : ℕ) (o : Option Connection) (d : Connection) 
 mount-heard s seat o d e m = heard (mount_of (connection_of s.connections seat)) d (sym (mount-silent (connection_of s.connections seat)) ∙ (ap mount_of (sym e) ∙ m))
 
 abbrev pub change_by : State → (ℕ → Option Handle) → NodeRequest → Given → Connection → FileChange
-change_by s handle r given c = file_change (place_of s c.who r.node) handle given.looks (moment_given given.now) r.op
+change_by s handle r given c = file_change (sight_on s c r.node) handle given.looks (moment_given given.now) r.op
 
 module _ (lent : Lent) (s : State) (shows : Shows lent s) (seat : ℕ) (r : NodeRequest) (given : Given) where
   change-of-heard : (d : Connection) → Heard (mount_of (connection_of s.connections seat)) d → change_by s (handle_in (opened_on lent.handles.now.seats d.seat)) r given d ≡ change_at s seat r given

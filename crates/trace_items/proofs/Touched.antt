@@ -12,7 +12,7 @@ use Rattle.portal_model.specs.Lawful.{LawfulOnNode}
 use Rattle.portal_model.specs.Node.{bytes_named, facts_of, files_after, node_given, settled_on_node, walk_on_node}
 use Rattle.portal_model.specs.NodeOutside.{LawfulNode}
 use Rattle.portal_model.specs.NodeVerdict.{FileChange, FilesStay, NodeVerdict, Errs, Yields}
-use Rattle.portal_model.specs.Place.{Sight, SightOfFile, SightOfFolder, Folder, FolderOf, RootOf, Views, place_of}
+use Rattle.portal_model.specs.Place.{Sight, SightOfFile, SightOfFolder, Folder, FolderOf, RootOf, Views, sight_on}
 use Rattle.portal_model.specs.State.{State, connection_of, handle_of}
 use Rattle.portal_model.specs.Step.{after, all_told, bus_of, bus_step, collect_step, mount_of, node_step, reply_at, request_step}
 use Rattle.portal_model.specs.Walk.{Gives}
@@ -66,7 +66,7 @@ can-be s c r given told l =
     given-can s.files Any (λ target. Unit {0}) (λ call. Unit {0}) (walk_on_node s c r) (moment_given given.now) given.looks (is_tree given.fault)
     (subst (λ (b : Bool). Gives (cond b (Some s.files) None) (walk_on_node s c r) given.looks (is_tree given.fault)) told l.looks)
     (walk-along s.files Any (λ target. Unit {0}) (λ call. Unit {0}) (λ path h. tt) (λ name h. tt) (λ name h. tt) (λ name h. tt) (λ path h e. tt) (facts_of s c r.node) r r.op
-    (any-sight (place_of s c.who r.node)) (λ fh. any-handle (handle_of s.handles c.seat fh)))
+    (any-sight (sight_on s c r.node)) (λ fh. any-handle (handle_of s.handles c.seat fh)))
 
 module _ (s : State) (told : s.told ≡ true) (change : FileChange) where
   settled-files : (c : Connection) (v : Option NodeVerdict) → Changes change v → (settled_on_node (all_told c.seat s) c v).0.files ≡ cond (is_done (settled_on_node (all_told c.seat s) c v).1) (files_after true change s.files) s.files
@@ -84,7 +84,7 @@ module _ (s : State) (told : s.told ≡ true) (change : FileChange) where
       ∙ (λ i. told_of_file (view s app) (changed_name (h i)) (files_after (sym told i) d.file s.files)))
 
 abbrev pub change_on : State → NodeRequest → Given → Connection → FileChange
-change_on s r given c = file_change (place_of s c.who r.node) (handle_of s.handles c.seat) given.looks (moment_given given.now) r.op
+change_on s r given c = file_change (sight_on s c r.node) (handle_of s.handles c.seat) given.looks (moment_given given.now) r.op
 
 abbrev pub change_over : State → NodeRequest → Given → Option Connection → FileChange
 change_over s r given None = FilesStay
