@@ -310,8 +310,8 @@ fn by_look(
     requires folder { (s : State) → Lends book.now s →
         IsFolder (sight_of_place s call.now.who.now None place) }
     ensures ok { IfOk result (λ answer. (s : State) → Lends book.now s →
-        ListsBehind call.now.request.now (sight_of_place s call.now.who.now None place) call.now.seat
-        look handles.old answer handles.new) }
+        ListsBehind call.now.request.now (sight_of_place s call.now.who.now None place)
+        call.now.seat look handles.old answer handles.new) }
     ensures err { OnErr result ((handles.new ≡ handles.old) × (is_look_fault look ≡ false)) }
 {
     match look {

@@ -55,7 +55,8 @@ pub fn open<T: HostTree, C: Clock>(
 ) -> Result<NodeDone, WantOfMemory>
     requires { IsSome (opened_on handles.old.seats call.now.seat) }
     ensures ok { call.now.request.now.op ≡ NodeOp.Open flags → IfOk result (λ done.
-        DoesAt (option_copied naming.entry) book.now call.now handles.old (T.is tree.old) done handles.new (T.is tree.new)) }
+        DoesAt (option_copied naming.entry) book.now call.now handles.old (T.is tree.old) done
+        handles.new (T.is tree.new)) }
     ensures clock { IfOk result (λ done. Reads C.reads clock.old done.now clock.new) }
     ensures err { OnErr result
         (Wants 2 handles.old (T.is tree.old) handles.new (T.is tree.new)) }
@@ -120,7 +121,8 @@ fn open_document<T: HostTree, C: Clock>(
     ensures ok { IfOk result (λ tried. Opening (at_file seen.entry.document.now.path
         (open_file call.now.request.now flags (room_in handles.old call.now.seat)
         (spot seen.entry.document.now seen.entry.document.now.path seen.entry.may_write)))
-        call.now.seat handles.old (T.is tree.old) (done_of_tried tried) handles.new (T.is tree.new)) }
+        call.now.seat handles.old (T.is tree.old) (done_of_tried tried) handles.new
+        (T.is tree.new)) }
     ensures clock { IfOk result (λ tried.
         Reads C.reads clock.old (moment_of tried.ended.call) clock.new) }
     ensures err { OnErr result

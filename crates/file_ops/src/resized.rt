@@ -59,8 +59,9 @@ struct Setting {
 /// for a length where it may not write it.
 ///
 /// `naming` is what the connection has named by the number in the node. It takes a look
-/// at the file, and where the length is to be set one more call of the tree, and for that the moment of now. Where memory is wanting the tree was
-/// called at most, and no file has changed. Of n documents it takes about n steps.
+/// at the file, and where the length is to be set one more call of the tree, and for that
+/// the moment of now. Where memory is wanting the tree was called twice at most, and no
+/// file has changed. Of n documents it takes about n steps.
 pub fn set_attr<T: HostTree, C: Clock>(
     alloc: Global,
     book: &FileBook,

@@ -35,8 +35,9 @@ use std::alloc::Global;
 /// named stands in `namings`, and not in the connection.
 ///
 /// Where memory is wanted, the connections, the counts, the open handles, what was named
-/// and the files are as before. A request that takes all its room first, or asks nothing of the tree,
-/// has then not called it, and one that can't change a file never reads the clock.
+/// and the files are as before. A request that takes all its room first, or asks nothing
+/// of the tree, has then not called it, and one that can't change a file never reads the
+/// clock.
 ///
 /// A GETATTR, ACCESS, FLUSH, RELEASE, RELEASEDIR, FORGET or BATCH_FORGET, and a LOOKUP in a
 /// root, in the folder of all views or in a document's folder, wants no memory where there

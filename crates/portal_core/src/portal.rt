@@ -312,8 +312,9 @@ impl<T: HostTree, K: Keeper, C: Clock, W: Words> Portal<T, K, C, W> {
     /// three times; and of these SETATTR, OPEN, CREATE and WRITE may have read the clock.
     ///
     /// A LOOKUP in a root, in the folder of all views or in a document's folder, a GETATTR,
-    /// ACCESS, FLUSH, RELEASE, RELEASEDIR, FORGET or BATCH_FORGET finds memory where some was taken ahead ([`Portal::reserve`]), of which each takes what is
-    /// for one request at most; the Leave of an open connection takes none of it.
+    /// ACCESS, FLUSH, RELEASE, RELEASEDIR, FORGET or BATCH_FORGET finds memory where some was
+    /// taken ahead ([`Portal::reserve`]), of which each takes what is for one request at most;
+    /// the Leave of an open connection takes none of it.
     pub fn ask(&mut self, alloc: Global, seat: u32, request: Request) -> Result<Reply, Refused>
         ensures began { self.new.story.began ≡ self.old.story.began }
         ensures opening { self.new.story.opening ≡ self.old.story.opening }

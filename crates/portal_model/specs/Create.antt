@@ -31,8 +31,8 @@ abbrev pub created : NodeRequest → ℕ → Room → Made → ℕ → NodeVerdi
 created r flags room made now = Yields (record {
   answer = NodeAnswer.Created (attr_of_file (on_node r made.node) true 0 now) (next_handle room);
   file = Creates made.path now;
-  handle =
-      Opens (file_handle made.document (record { path = made.path; generation = 0 }) made.node flags);
+  handle = Opens (file_handle made.document (record { path = made.path; generation = 0 })
+      made.node flags);
   names = made.names;
 })
 

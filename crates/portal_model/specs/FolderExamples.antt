@@ -1,5 +1,5 @@
--- Worked examples of a folder that is a document: /home/p, with the file a.txt in it. What is expected
--- is worked out by hand from the rules.
+-- Worked examples of a folder that is a document: /home/p, with the file a.txt in it. What is
+-- expected is worked out by hand from the rules.
 use Rattle.std.specs.Prelude.{◌≡◌, ℕ, List, [], ◌∷◌, codes, true, false}
 use Rattle.portal_base.specs.declared.who.Who.{Who}
 use Rattle.portal_model.specs.declared.opening.OpeningDocument.{OpeningDocument}
