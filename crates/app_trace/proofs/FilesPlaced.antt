@@ -6,8 +6,8 @@ use Rattle.std.specs.List.{AllByRecursion, IsDistinct, list_any}
 use Rattle.std.specs.List.Sorted.{IsStrictlySortedBy}
 use Rattle.std.specs.Ordering.{is_lt, ordering_reverse}
 use Rattle.std.specs.declared.cmp.Ordering.TheVariants.{Less}
-use Rattle.host_tree.proofs.Entries.{same-is, same-itself}
-use Rattle.portal_base.specs.Content.{file_at, is_above, is_folder, has_room, content_of, paths_of}
+use Rattle.host_tree.proofs.Entries.{same-is}
+use Rattle.portal_base.specs.Content.{file_at, is_above, is_folder, content_of, paths_of}
 use Rattle.portal_base.specs.FileChanges.{put_file}
 use Rattle.portal_base.specs.Names.{is_same, parent_of, root}
 use Rattle.portal_base.specs.PathOrder.{path_order}
@@ -16,7 +16,7 @@ use Rattle.portal_base.specs.declared.files.File.{File}
 use Rattle.portal_base.proofs.PathsAbove.{any-paths, any-put}
 use Rattle.portal_model.specs.declared.opening.FileItem.{FileItem}
 use Rattle.portal_model.specs.Opening.{file_of}
-use Rattle.app_world.specs.View.{PathContent, contents_at, path_content}
+use Rattle.app_world.specs.View.{path_content}
 use Rattle.document_records.proofs.Loops.{one_more}
 use Rattle.app_trace.specs.Contents.{ShowAlike}
 

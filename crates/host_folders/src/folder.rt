@@ -2,7 +2,6 @@
 
 ghost use Rattle.std.specs.Prelude.{◌≤◌, length, IfOk};
 
-use crate::sight::{Sight, at};
 use std::io;
 
 /// A folder that is open, by its number, until it is dropped.
@@ -39,11 +38,6 @@ impl Folder {
             0 | libc::ENOENT => Ok(len),
             error => Err(io::Error::from_raw_os_error(error)),
         }
-    }
-
-    /// What stands at a name in it; a link isn't followed.
-    pub fn sight_of(&self, name: &str) -> io::Result<Sight> {
-        at(self.number, name)
     }
 
     /// Brings its names to rest.

@@ -145,7 +145,12 @@ impl Way {
     /// What stands at a place; a link at its end isn't followed. Where the place isn't
     /// direct, another may have led elsewhere.
     pub fn sight(&mut self, place: &Place<'_>) -> io::Result<Sight> {
-        if self.link_to(place.folder.number(), place.name).is_err() {
+        self.sight_in(&place.folder, place.name)
+    }
+
+    /// What stands at a name in a folder; a link at its end isn't followed.
+    pub fn sight_in(&mut self, folder: &Folder, name: &str) -> io::Result<Sight> {
+        if self.link_to(folder.number(), name).is_err() {
             return Err(io::Error::from(ErrorKind::OutOfMemory));
         }
         Ok(Sight::of(&fs::symlink_metadata(&self.system, self.link.as_str())?))

@@ -127,7 +127,7 @@ impl<R: Waiter> FilesBelow<R> {
         let Some(folder) = self.way.folder_at(path)? else {
             return Ok(None);
         };
-        let names = listing::names(self.alloc, &self.way, &folder)?;
+        let names = listing::names(self.alloc, &mut self.way, &folder)?;
         Ok(Some(names.into_list(self.alloc)?))
     }
 

@@ -12,10 +12,10 @@ const MOST_BYTES: usize = 8_192;
 
 /// The names of the files and folders in a folder that is open. What is neither has no
 /// name here: a link, a pipe, a socket, a device, and what the kernel mounts as its own.
-/// So has what has no name in UTF-8.
-pub fn names(alloc: Global, way: &Way, folder: &Folder) -> Result<FolderNames, TreeError> {
+/// Nor has what has no name in UTF-8.
+pub fn names(alloc: Global, way: &mut Way, folder: &Folder) -> Result<FolderNames, TreeError> {
     let mut names = FolderNames::new(alloc);
-    let mut buffer = [0; MOST_BYTES];
+    let mut buffer = [0u8; MOST_BYTES];
     for _ in 0..u64::MAX {
         let Ok(len) = folder.read_names(&mut buffer) else {
             return Err(TreeError::System);
@@ -36,7 +36,7 @@ pub fn names(alloc: Global, way: &Way, folder: &Folder) -> Result<FolderNames, T
 /// Puts a name among others, where a file or a folder stands there.
 fn put(
     alloc: Global,
-    way: &Way,
+    way: &mut Way,
     folder: &Folder,
     name: &[u8],
     names: &mut FolderNames,
@@ -47,11 +47,11 @@ fn put(
     let Ok(text) = str::from_utf8(name) else {
         return Ok(());
     };
-    let sight = match folder.sight_of(text) {
+    let sight = match way.sight_in(folder, text) {
         Ok(sight) => sight,
         // It went since.
         Err(error) if is_missing(&error) => return Ok(()),
-        Err(_) => return Err(TreeError::System),
+        Err(error) => return Err(TreeError::from(error)),
     };
     if way.is_kernels_own(sight.identity.device) {
         return Ok(());

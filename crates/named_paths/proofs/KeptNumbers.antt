@@ -1,8 +1,8 @@
 -- The numbers of a seat, once they have changed.
-use Rattle.std.proofs.Common.{◌≡◌, ℕ, ◌+◌, ◌==◌, ◌&&◌, ◌||◌, List, [], ◌∷◌, ◌++◌, not, Bool, true, false, cond, Option, Some, None, is_some, Result, Ok, Err, OnOk, slice_get, zero, suc, refl, sym, ap, subst, ◌∙◌, arith}
+use Rattle.std.proofs.Common.{◌≡◌, ℕ, ◌==◌, ◌&&◌, ◌||◌, List, [], ◌∷◌, ◌++◌, not, Bool, true, false, cond, Option, Some, None, is_some, Result, Ok, Err, OnOk, slice_get, zero, suc, refl, sym, ap, subst, ◌∙◌, arith}
 use Rattle.std.specs.BTreeMap.{UpdatesBy, get, is_at}
 use Rattle.std.specs.Global.{Vec}
-use Rattle.std.specs.List.{filter, list_any}
+use Rattle.std.specs.List.{filter}
 use Rattle.std.specs.Ordering.{nat_cmp}
 use Rattle.std.proofs.lemmas.Bool.Decides.{nat_tests}
 use Rattle.std.proofs.lemmas.List.Folds.{list_any-append}

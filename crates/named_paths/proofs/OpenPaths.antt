@@ -1,5 +1,5 @@
 -- The paths that a view names by open files, by the numbers of handles.
-use Rattle.std.proofs.Common.{◌≡◌, ◌+◌, ◌<◌, ◌==◌, ◌&&◌, ◌||◌, ℕ, zero, suc, List, [], ◌∷◌, ◌++◌, map, nat_eq, nat_le, nat_lt, Bool, true, false, cond, Option, Some, None, option_map, refl, sym, ap, ◌∙◌, arith}
+use Rattle.std.proofs.Common.{◌≡◌, ◌==◌, ◌&&◌, ◌||◌, ℕ, List, [], ◌∷◌, ◌++◌, map, nat_eq, Bool, true, false, cond, Option, Some, None, option_map, refl, sym, ap, ◌∙◌, arith}
 use Rattle.std.specs.List.{AllByRecursion, IsDistinct, filter, find, flat_map, list_all, list_any}
 use Rattle.std.specs.Map.{lookup}
 use Rattle.std.proofs.lemmas.Bool.Decides.{nat_tests}
@@ -7,12 +7,12 @@ use Rattle.portal_base.specs.Names.{is_same}
 use Rattle.portal_model.specs.declared.handle.Handle.{Handle}
 use Rattle.portal_model.specs.declared.handle.OpenHandle.{OpenHandle}
 use Rattle.portal_model.specs.declared.state.Connection.{Connection}
-use Rattle.portal_model.specs.State.{State, connection_of, handle_of, handles_of, is_app, is_handle, is_mount}
+use Rattle.portal_model.specs.State.{State, connection_of, handle_of, handles_of, is_app, is_handle}
 use Rattle.portal_model.specs.Valid.{Valid, has_host_path, is_sound_handle, opened_here, same_handle, viewed_here}
 use Rattle.open_handles.specs.Opened.{Opened, handle_of as handle_in, opened_on}
 use Rattle.app_world.specs.View.{OwnHandle, is_among, own_connection, own_connections, own_handle, paths_of_connection, paths_of_handle}
-use Rattle.named_paths.specs.Named.{any_has_open, has_open, is_open_at}
-use Rattle.named_paths.specs.OpenNumbers.{Cover, OpenNumbers, is_among as has, is_open, numbers_of}
+use Rattle.named_paths.specs.Named.{any_has_open, is_open_at}
+use Rattle.named_paths.specs.OpenNumbers.{Cover, OpenNumbers, is_among as has, numbers_of}
 use Rattle.named_paths.specs.Seated.{HasOpen, numbered, silent}
 
 or-right : (b d : Bool) → d ≡ true → (b || d) ≡ true

@@ -1,6 +1,6 @@
 -- A handle that is open behind an entry was open ahead of it, or is the last of the entry's seat.
-use Rattle.std.proofs.Common.{◌≡◌, ℕ, ◌+◌, ◌==◌, List, [], ◌∷◌, ◌++◌, map, not, Bool, true, false, ◌&&◌, ◌||◌, cond, Option, Some, None, refl, sym, ap, subst, ◌∙◌}
-use Rattle.std.specs.List.{filter, list_any}
+use Rattle.std.proofs.Common.{◌≡◌, ℕ, ◌+◌, ◌==◌, List, [], ◌∷◌, ◌++◌, map, not, Bool, true, false, ◌&&◌, ◌||◌, cond, Option, Some, None, refl, sym, ap, ◌∙◌}
+use Rattle.std.specs.List.{filter}
 use Rattle.std.proofs.lemmas.List.Folds.{list_any-append}
 use Rattle.open_handles.specs.Opened.{Opened}
 use Rattle.portal_model.specs.declared.entry.Entry.{Entry}
@@ -9,7 +9,7 @@ use Rattle.portal_model.specs.declared.handle.OpenHandle.{OpenHandle}
 use Rattle.portal_model.specs.declared.request.NodeRequest.{NodeRequest}
 use Rattle.portal_model.specs.declared.request.Request.{Request}
 use Rattle.portal_model.specs.declared.state.Connection.{Connection}
-use Rattle.portal_model.specs.Leave.{handles_left, left}
+use Rattle.portal_model.specs.Leave.{handles_left}
 use Rattle.portal_model.specs.Node.{connections_after, counted, handles_after, new_handle, node_given, settled_on_node, walk_on_node}
 use Rattle.portal_model.specs.NodeVerdict.{NodeVerdict, Errs, HandleChange, HandlesStay, Opens, Closes, Yields}
 use Rattle.portal_model.specs.State.{State, connection_of, is_handle, is_mount}

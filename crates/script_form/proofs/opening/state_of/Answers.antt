@@ -37,7 +37,7 @@ returns c =
         applications = applications i;
         entries = c.in_ok-entries.entries;
         files = files i;
-        taken = [];
+        taken = c.new.ensures i;
       };
       entries = subst (λ (rs : List EntryRecord). KeepEntries rs c.in_ok-entries.entries) kept c.in_ok-entries.ensures;
     }

@@ -2,11 +2,11 @@ use Rattle.std.proofs.Common.{◌≡◌, [], sym, ap, ◌∙◌, subst}
 use Rattle.session.proofs.Dues.{became_err, became_none, became_ok, can_tell_none, can_tell_refused, can_tell_reply}
 use Rattle.session.proofs.serve.ask.Goals as goal
 
-pub returns-in-None-clause-became : goal.returns-in-None-clause-became
-returns-in-None-clause-became g c = rw c.in-None.is (became_none (g.D.Desk.seated c.args.desk.now))
+pub returns-in_default-clause-became : goal.returns-in_default-clause-became
+returns-in_default-clause-became g c = rw c.in_default.is (became_none (g.D.Desk.seated c.args.desk.now))
 
-pub returns-in-None-clause-fits : goal.returns-in-None-clause-fits
-returns-in-None-clause-fits g c client act may asked = can_tell_none client act may
+pub returns-in_default-clause-fits : goal.returns-in_default-clause-fits
+returns-in_default-clause-fits g c client act may asked = can_tell_none client act may
 
 pub returns-in-Ok-clause-became : goal.returns-in-Ok-clause-became
 returns-in-Ok-clause-became g c =

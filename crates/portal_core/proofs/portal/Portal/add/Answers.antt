@@ -1,4 +1,4 @@
-use Rattle.std.proofs.Common.{◌≡◌, ◌≤◌, ◌+◌, ◌∷◌, ◌++◌, [], length, None, arith, refl, rules}
+use Rattle.std.proofs.Common.{◌≡◌, ◌≤◌, ◌+◌, ◌∷◌, ◌++◌, [], length, None, ap, arith, refl, rules}
 use Rattle.portal_model.specs.declared.request.Request.TheVariants as Request
 use Rattle.portal_model.specs.Bus.{is_tree}
 use Rattle.portal_model.specs.History.{cost, cost_of, run}
@@ -7,7 +7,7 @@ use Rattle.portal_model.specs.Opening.{opened_over}
 use Rattle.portal_model.specs.State.{connection_of}
 use Rattle.portal_model.specs.Step.{bus_of, reply_at, reply_with}
 use Rattle.portal_steps.specs.Devices.{Keeping}
-use Rattle.portal_steps.specs.Story.{state_now}
+use Rattle.portal_steps.specs.Story.{PortalIs, state_now}
 use Rattle.portal_steps.specs.TreeCalls.{entry_calls}
 use Rattle.portal_steps.proofs.BusCalls.{add-calls, bus-moment, listed}
 use Rattle.portal_steps.proofs.NodeSteps.{alike-same}
@@ -143,3 +143,11 @@ pub returns-in-Err-clause-err : goal.returns-in-Err-clause-err
 returns-in-Err-clause-err g c =
     let kept = was-asked-keeps _ (g.T.HostTree.is c.self.inside.tree) (g.T.HostTree.is c.serve_add-served.new.tree) c.in-Err.ensures.tree in
     spends-add _ _ _ _ _ _ _ c.args.add refl (rw (← c.self.view_is) c.in-Err.ensures.tree) (rw (← c.self.view_is) c.in-Err.ensures.keeper) (search rules) (rw (← c.self.view_is) c.in-Err.ensures.words) (rw (← c.self.view_is) kept.0) (search rules) (search rules)
+
+-- ---- memory that was taken ahead
+
+pub returns-in_default-clause-remains : goal.returns-in_default-clause-remains
+returns-in_default-clause-remains g c = omega (arith, ap (λ (p : PortalIs _ _ _ _). p.spare) c.self.view_is, c.taken-taken.ensures.spare)
+
+pub returns-in-Err-clause-remains : goal.returns-in-Err-clause-remains
+returns-in-Err-clause-remains g c = omega (arith, ap (λ (p : PortalIs _ _ _ _). p.spare) c.self.view_is, c.taken-taken.ensures.spare, c.serve_add-served.ensures.count)

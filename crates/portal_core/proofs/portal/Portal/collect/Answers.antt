@@ -4,12 +4,13 @@ use Rattle.portal_model.specs.declared.request.Request.TheVariants as Request
 use Rattle.portal_model.specs.State.{connection_of}
 use Rattle.portal_model.specs.Step.{bus_of, reply_at, reply_with}
 use Rattle.portal_steps.specs.Served.{collect_answer, entry_of}
-use Rattle.portal_steps.specs.Story.{state_now}
+use Rattle.portal_steps.specs.Story.{PortalIs, state_now}
 use Rattle.portal_steps.proofs.Steps.{collect_answered, keeps-collected, stands_collected, stored_collected}
 use Rattle.portal_steps.proofs.NodeSteps.{alike-same}
 use Rattle.portal_steps.proofs.WentDevices.{went-plain}
 use Rattle.portal_model.specs.Opening.{opened_over}
 use Rattle.portal_core.proofs.HeldCounts.{held_same}
+use Rattle.std.proofs.lemmas.Result.{err_from_is_err_and}
 use Rattle.portal_core.proofs.portal.Portal.collect.Goals as goal
 
 pub invariant_of-self-2 : goal.invariant_of-self-2
@@ -40,3 +41,10 @@ returns-clause-ok g c =
       went = went-plain _ _ _ _ _ _ _ (search rules) (search rules) (search rules) (search rules) (search rules) (search rules) (search rules) (search rules) (search rules) (search rules) (search rules) (search rules);
       reply_is = alike-same _ _ _ _ refl (ap (reply_with c.in_ok-signals.signals) answered ∙ rw (c.entry_made-entry.ensures) replied);
     }
+
+-- ---- memory that was taken ahead
+
+pub returns-in_err-signals-clause-remains : goal.returns-in_err-signals-clause-remains
+returns-in_err-signals-clause-remains g c =
+    let is_err = err_from_is_err_and c.from_residual.result c.from_residual.ensures.1 in
+    rw is_err.1 (omega (arith, ap (λ (p : PortalIs _ _ _ _). p.spare) c.self.view_is, c.in_err-signals.ensures.spare))

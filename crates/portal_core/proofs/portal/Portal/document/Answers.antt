@@ -1,11 +1,11 @@
-use Rattle.std.proofs.Common.{◌≡◌, ◌≤◌, ◌+◌, ◌∷◌, ◌++◌, [], arith, inr, refl, rules, ◌∙◌}
+use Rattle.std.proofs.Common.{◌≡◌, ◌≤◌, ◌+◌, ◌∷◌, ◌++◌, [], ap, arith, inr, refl, rules, ◌∙◌}
 use Rattle.portal_model.specs.History.{cost, cost_of, run}
 use Rattle.portal_model.specs.Lawful.{Lawful}
 use Rattle.portal_model.specs.Opening.{opened_over}
 use Rattle.portal_model.specs.State.{connection_of}
 use Rattle.portal_model.specs.Step.{bus_of, reply_at, reply_with}
 use Rattle.portal_steps.specs.Devices.{Keeping}
-use Rattle.portal_steps.specs.Story.{state_now}
+use Rattle.portal_steps.specs.Story.{PortalIs, state_now}
 use Rattle.portal_steps.specs.TreeCalls.{entry_calls}
 use Rattle.portal_steps.proofs.BusCalls.{call-calls, on-bus}
 use Rattle.portal_steps.proofs.CallSteps.{comes, entry_with, keeping_run, keeps_run, stands_served, stays_told, stored_served, untreed}
@@ -119,3 +119,11 @@ returns-in-Ok-served-clause-failure g c =
     let plain = untreed began k.opening k.history.entries k.history.limit k.documents k.rights k.applications k.connections k.handles told c.self.invariant.0 served.documents served.rights served.applications served.connections c.args.seat c.args.request c.in-Ok-served.field-0.given c.in-Ok.signals c.in-Ok-served.field-0.answer
     (g.K.Keeper.is k.keeper) (g.K.Keeper.is served.keeper) c.requires.call c.in-Ok-served.ensures.ok in
     λ h. inr (rw (← c.self.view_is) (came.settles.failed plain.untreed h))
+
+-- ---- memory that was taken ahead
+
+pub returns-in_default-clause-remains : goal.returns-in_default-clause-remains
+returns-in_default-clause-remains g c = omega (arith, ap (λ (p : PortalIs _ _ _ _). p.spare) c.self.view_is, c.taken-taken.ensures.spare)
+
+pub returns-in-Err-clause-remains : goal.returns-in-Err-clause-remains
+returns-in-Err-clause-remains g c = omega (arith, ap (λ (p : PortalIs _ _ _ _). p.spare) c.self.view_is, c.taken-taken.ensures.spare, c.serve-served.ensures.count)

@@ -1,4 +1,4 @@
-use Rattle.std.proofs.Common.{◌≡◌, [], ◌∷◌, arith, false, is_some, length-append, rules, refl, ◌∙◌}
+use Rattle.std.proofs.Common.{◌≡◌, List, [], ◌∷◌, ap, arith, false, is_some, length, length-append, rules, refl, ◌∙◌}
 use Rattle.portal_model.specs.declared.entry.Fault.TheVariants as Fault
 use Rattle.portal_model.specs.declared.reply.Answer.{Answer}
 use Rattle.portal_model.specs.declared.reply.Code.TheVariants as Code
@@ -7,12 +7,14 @@ use Rattle.portal_model.specs.Enter.{new_connection}
 use Rattle.portal_model.specs.State.{connection_of}
 use Rattle.portal_model.specs.Step.{reply_at, reply_with}
 use Rattle.portal_steps.specs.Served.{entry_of}
-use Rattle.portal_steps.specs.Story.{state_now}
+use Rattle.portal_steps.specs.Story.{PortalIs, state_now}
 use Rattle.portal_steps.proofs.Steps.{closed, keeps-entered, new_replied, stands_new, stands_there, stored_new, stored_there, there_replied, unheard}
 use Rattle.portal_steps.proofs.NodeSteps.{alike-same}
 use Rattle.portal_steps.proofs.WentDevices.{went-plain}
 use Rattle.portal_model.specs.Opening.{opened_over}
 use Rattle.portal_core.proofs.HeldCounts.{held_same}
+use Rattle.portal_model.specs.declared.state.Connection.{Connection}
+use Rattle.std.proofs.lemmas.Result.{err_from_is_err_and}
 use Rattle.portal_core.proofs.portal.Portal.enter.Goals as goal
 
 pub invariant_of-self-then-is_here : goal.invariant_of-self-then-is_here
@@ -92,3 +94,21 @@ returns-clause-ok g c =
       reply_is = alike-same _ _ _ _ refl (c.silent_reply-2.ensures ∙ rw (c.entry_made-entry.ensures) replied);
       went = went-plain _ _ _ _ _ _ _ (search rules) (search rules) (search rules) (search rules) (search rules) (search rules) (search rules) (search rules) (search rules) (search rules) (search rules) (search rules);
     }
+
+-- ---- memory that was taken ahead
+
+pub returns-in_err-name-clause-remains : goal.returns-in_err-name-clause-remains
+returns-in_err-name-clause-remains g c =
+    let is_err = err_from_is_err_and c.from_residual.result c.from_residual.ensures.1 in
+    rw is_err.1 (omega (arith, ap (λ (p : PortalIs _ _ _ _). p.spare) c.self.view_is))
+
+pub returns-in_err-make_room-clause-remains : goal.returns-in_err-make_room-clause-remains
+returns-in_err-make_room-clause-remains g c =
+    let is_err = err_from_is_err_and c.from_residual-in_err-make_room.result c.from_residual-in_err-make_room.ensures.1 in
+    rw is_err.1 (omega (arith, ap (λ (p : PortalIs _ _ _ _). p.spare) c.self.view_is, c.in_err-make_room.ensures.spare))
+
+pub returns-in_err-enter-clause-remains : goal.returns-in_err-enter-clause-remains
+returns-in_err-enter-clause-remains g c =
+    let as_many = ap (λ (l : List Connection). length l) c.in_err-enter.ensures.connections in
+    let is_err = err_from_is_err_and c.from_residual-in_err-enter.result c.from_residual-in_err-enter.ensures.1 in
+    rw is_err.1 (omega (arith, ap (λ (p : PortalIs _ _ _ _). p.spare) c.self.view_is, as_many, c.in_ok-make_room.ensures.spare))

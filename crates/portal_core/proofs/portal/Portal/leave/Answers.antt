@@ -1,4 +1,4 @@
-use Rattle.std.proofs.Common.{◌≡◌, [], ◌<◌, length, is_some, arith, rules, true, refl, ◌∙◌}
+use Rattle.std.proofs.Common.{◌≡◌, [], ◌<◌, ap, length, is_some, arith, rules, true, refl, ◌∙◌}
 use Rattle.portal_model.specs.declared.entry.Fault.TheVariants as Fault
 use Rattle.portal_model.specs.declared.reply.Answer.{Answer}
 use Rattle.portal_model.specs.declared.reply.Code.TheVariants as Code
@@ -7,12 +7,13 @@ use Rattle.portal_model.specs.Leave.{of_others}
 use Rattle.portal_model.specs.State.{connection_of}
 use Rattle.portal_model.specs.Step.{reply_at, reply_with}
 use Rattle.portal_steps.specs.Served.{entry_of}
-use Rattle.portal_steps.specs.Story.{state_now}
+use Rattle.portal_steps.specs.Story.{PortalIs, state_now}
 use Rattle.portal_steps.proofs.Steps.{absent_closed, absent_replied, fewer_others, keeps-left, left_replied, stands_absent, stands_left, stored_absent, stored_left}
 use Rattle.portal_steps.proofs.NodeSteps.{alike-same}
 use Rattle.portal_steps.proofs.WentDevices.{went-plain}
 use Rattle.portal_model.specs.Opening.{opened_over}
 use Rattle.portal_core.proofs.HeldCounts.{held_left}
+use Rattle.std.proofs.lemmas.Result.{err_from_is_err_and}
 use Rattle.portal_core.proofs.portal.Portal.leave.Goals as goal
 
 pub invariant_of-self-then-not-is_here : goal.invariant_of-self-then-not-is_here
@@ -83,3 +84,10 @@ returns-clause-freed g c = λ h.
     let here : is_some (connection_of c.self.inside.connections c.args.seat) ≡ true = search rules in
     let fewer : length (of_others c.args.seat c.self.inside.connections) < length c.self.inside.connections = fewer_others c.args.seat c.self.inside.connections here in
     rw (← c.self.view_is) (rw (c.push-2.ensures, c.of_others.ensures, c.replace-connections.ensures.value) (omega (arith, fewer, c.self.invariant.1, c.leave-2.ensures.room)))
+
+-- ---- memory that was taken ahead
+
+pub returns-in_err-make_room-clause-remains : goal.returns-in_err-make_room-clause-remains
+returns-in_err-make_room-clause-remains g c =
+    let is_err = err_from_is_err_and c.from_residual.result c.from_residual.ensures.1 in
+    rw is_err.1 (omega (arith, ap (λ (p : PortalIs _ _ _ _). p.spare) c.self.view_is, c.in_err-make_room.ensures.spare))

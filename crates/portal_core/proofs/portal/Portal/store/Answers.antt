@@ -1,4 +1,4 @@
-use Rattle.std.proofs.Common.{◌≡◌, ◌≤◌, ◌+◌, ◌∷◌, ◌++◌, [], arith, inr, refl, rules}
+use Rattle.std.proofs.Common.{◌≡◌, ◌≤◌, ◌+◌, ◌∷◌, ◌++◌, [], ap, arith, inr, refl, rules}
 use Rattle.portal_model.specs.declared.request.Request.TheVariants as Request
 use Rattle.portal_model.specs.History.{cost, cost_of, run}
 use Rattle.portal_model.specs.Lawful.{Lawful}
@@ -6,7 +6,7 @@ use Rattle.portal_model.specs.Opening.{opened_over}
 use Rattle.portal_model.specs.State.{connection_of}
 use Rattle.portal_model.specs.Step.{bus_of, reply_at, reply_with}
 use Rattle.portal_steps.specs.Devices.{Keeping}
-use Rattle.portal_steps.specs.Story.{state_now}
+use Rattle.portal_steps.specs.Story.{PortalIs, state_now}
 use Rattle.portal_steps.specs.TreeCalls.{entry_calls}
 use Rattle.portal_steps.proofs.Boxes.{taken-empty}
 use Rattle.portal_steps.proofs.BusCalls.{store-calls}
@@ -131,3 +131,11 @@ returns-in-Ok-served-clause-failure g c =
     let came = stores began k.opening k.history.entries k.history.limit k.documents k.rights k.applications k.connections k.handles told c.self.invariant.0 c.args.seat c.args.call k.tables new.tables k.outboxes taken new.outboxes signals old_keeper new_keeper served
     sent c.in-Ok.ensures.rest c.self.invariant.2 c.self.invariant.3 (rw (c.as_slice-2.ensures) at c.in-Ok-served.ensures.ok) in
     λ h. inr (rw (← c.self.view_is) (came.comes.settles.failed came.untreed.untreed h))
+
+-- ---- memory that was taken ahead
+
+pub returns-in_default-clause-remains : goal.returns-in_default-clause-remains
+returns-in_default-clause-remains g c = omega (arith, ap (λ (p : PortalIs _ _ _ _). p.spare) c.self.view_is, c.taken-taken.ensures.spare)
+
+pub returns-in-Err-clause-remains : goal.returns-in-Err-clause-remains
+returns-in-Err-clause-remains g c = omega (arith, ap (λ (p : PortalIs _ _ _ _). p.spare) c.self.view_is, c.taken-taken.ensures.spare)
