@@ -1,11 +1,13 @@
 -- A request that is done, by what the connections have named.
-use Rattle.std.proofs.Common.{◌≡◌, ◌==◌, ℕ, List, Bool, true, false, Option, Some, None, refl, sym, ap, subst, arith, ◌∙◌}
+use Rattle.std.proofs.Common.{◌≡◌, ◌==◌, ℕ, List, Bool, true, false, Option, Some, None, IfSome, refl, sym, ap, subst, arith, ◌∙◌}
 use Rattle.std.proofs.lemmas.Bool.Decides.{nat_tests}
 use Rattle.std.specs.Option.{option_map}
+use Rattle.portal_base.specs.declared.who.Who.{Who}
 use Rattle.host_tree.specs.Trees.{TreeIs}
 use Rattle.open_handles.specs.Opened.{HandleTable}
 use Rattle.folder_documents.specs.Named.{Named}
 use Rattle.portal_model.specs.declared.naming.Naming.{Naming}
+use Rattle.portal_model.specs.declared.request.NodeOp.{NodeOp}
 use Rattle.portal_model.specs.declared.state.Connection.{Connection}
 use Rattle.portal_model.specs.Node.{facts_of}
 use Rattle.portal_model.specs.NodeVerdict.{NamesStay}
@@ -14,6 +16,9 @@ use Rattle.portal_model.specs.SeatNames.{naming_of}
 use Rattle.portal_model.specs.State.{State, connection_of}
 use Rattle.node_looks.specs.Done.{Does, DoesAt, IsCalled}
 use Rattle.node_looks.specs.Served.{given_to}
+use Rattle.app_view.specs.declared.book.ViewBook.{ViewBook}
+use Rattle.node_looks.specs.Sights.{is_below, sight_of}
+use Rattle.node_looks.specs.declared.sight.SeenPlace.{SeenPlace}
 use Rattle.node_looks.specs.declared.served.FileBook.{FileBook}
 use Rattle.node_looks.specs.declared.served.NodeCall.{NodeCall}
 use Rattle.node_looks.specs.declared.served.NodeDone.{NodeDone}
@@ -39,6 +44,23 @@ module _ (book : FileBook) (call : NodeCall) (table : HandleTable) (names : List
     done = d s c a (sym (is c.namings (seat-names s c call.seat names n a.here)));
     names = never-steps s c call.request.now (given_to done) names (never-plain call.request.now (facts_of s c call.request.now.node) call.request.now.op (plain s c a)) n;
   }
+
+  -- of other kinds
+  pub does-other : (kind : NodeOp) → call.request.now.op ≡ kind → (MayName call.request.now kind → ⊥) → Does book call table old done after new → DoesNaming book call table names old done after names new
+  does-other kind e no d = does-plain (λ s c a m. absurd (no (subst (MayName call.request.now) e m))) d
+
+  pub at-other : (kind : NodeOp) → call.request.now.op ≡ kind → (MayName call.request.now kind → ⊥) → (naming : Option Naming) → ((has : List Naming) → namings_on names call.seat ≡ Some has → naming ≡ naming_of has (id_of_node call.request.now.node)) →
+      DoesAt naming book call table old done after new → DoesNaming book call table names old done after names new
+  at-other kind e no naming is d = at-plain naming is (λ s c a m. absurd (no (subst (MayName call.request.now) e m))) d
+
+-- what no look tells is plain
+pub plain-seen : (b : ViewBook) (who : Who) (o : Option SeenPlace) → IfSome o (λ seen. is_below seen ≡ false) → IsPlain (option_map (sight_of b who) o)
+plain-seen b who None h = tt
+plain-seen b who (Some (SeenPlace.File view seen)) h = tt
+plain-seen b who (Some (SeenPlace.Below view below)) h = cc
+plain-seen b who (Some (SeenPlace.Folder view seen)) h = tt
+plain-seen b who (Some (SeenPlace.Root view subject)) h = tt
+plain-seen b who (Some SeenPlace.Views) h = tt
 
 -- nothing more is named
 pub still-named : (seat : ℕ) (old new : List (ℕ × Named)) → SeatNamed seat NamesStay old new → NamesKept old new
