@@ -7,3 +7,4 @@ mod Openings
 mod NeverNames
 mod DoesNames
 mod Numberings
+mod DoesBelow
