@@ -3,6 +3,8 @@ use Rattle.std.proofs.Common.{◌≡◌, ℕ, ◌==◌, List, [], ◌∷◌, ◌
 use Rattle.std.specs.List.{list_all}
 use Rattle.std.proofs.lemmas.Bool.Decides.{nat_tests}
 use Rattle.node_looks.specs.OpenHandles.{AreOpen, AreOpened, numbered, open_on}
+use Rattle.file_ops.specs.SeatNames.{AreNamed}
+use Rattle.folder_documents.specs.Named.{Named, named_on}
 use Rattle.node_serving.specs.Seats.{AreEntered}
 use Rattle.open_handles.specs.Opened.{AtSeat, Enters, HandleTable, Leaves, Opened, opened_on}
 use Rattle.portal_base.specs.declared.who.Kind.{Kind}
@@ -172,14 +174,34 @@ entered-alike hs None (Some n) a = absurd a
 entered-alike hs (Some c) None a = absurd a
 entered-alike hs (Some c) (Some n) a = refl
 
-pub are-entered : (s : State) (cs : List Connection) (table : HandleTable) → map silent s.connections ≡ cs → AreOpen s table → AreEntered cs table
-are-entered s cs table e a = λ q.
-    entered-alike (open_on s.handles q) (connection_of s.connections q) (opened_on table.seats q) (a.each q)
-    ∙ (sym (some-silent (connection_of s.connections q)) ∙ (ap (λ (o : Option Connection). is_some o) (sym (silent-found s.connections q)) ∙ ap (λ (l : List Connection). is_some (connection_of l q)) e))
+named-alike : (n : Option Named) (o : Option Connection) → option_map (λ x. x.namings) n ≡ option_map (λ c. c.namings) o → is_some n ≡ is_some o
+named-alike None None e = refl
+named-alike None (Some c) e = cc
+named-alike (Some n) None e = cc
+named-alike (Some n) (Some c) e = refl
+
+seats-alike : (s : State) (cs : List Connection) → map silent s.connections ≡ cs → (q : ℕ) → is_some (connection_of s.connections q) ≡ is_some (connection_of cs q)
+seats-alike s cs e q =
+    sym (some-silent (connection_of s.connections q)) ∙ (ap (λ (o : Option Connection). is_some o) (sym (silent-found s.connections q)) ∙ ap (λ (l : List Connection). is_some (connection_of l q)) e)
+
+pub are-entered : (s : State) (cs : List Connection) (table : HandleTable) (names : List (ℕ × Named)) → map silent s.connections ≡ cs → AreOpen s table → AreNamed s names → AreEntered cs table names
+are-entered s cs table names e a m = λ q. (
+  entered-alike (open_on s.handles q) (connection_of s.connections q) (opened_on table.seats q) (a.each q) ∙ seats-alike s cs e q,
+  named-alike (named_on names q) (connection_of s.connections q) (m q) ∙ seats-alike s cs e q,
+)
 
 pub not-entered : (s : State) (cs : List Connection) (table : HandleTable) (seat : ℕ) → map silent s.connections ≡ cs → AreOpen s table → connection_of cs seat ≡ None → opened_on table.seats seat ≡ None
-not-entered s cs table seat e a c = nothing (opened_on table.seats seat) (are-entered s cs table e a seat ∙ ap (λ (o : Option Connection). is_some o) c)
+not-entered s cs table seat e a c =
+    nothing (opened_on table.seats seat) (entered-alike (open_on s.handles seat) (connection_of s.connections seat) (opened_on table.seats seat) (a.each seat) ∙ (seats-alike s cs e seat ∙ ap (λ (o : Option Connection). is_some o) c))
   where
     nothing : (n : Option Opened) → is_some n ≡ false → n ≡ None
+    nothing None h = refl
+    nothing (Some n) h = absurd (cc)
+
+pub not-named : (s : State) (cs : List Connection) (names : List (ℕ × Named)) (seat : ℕ) → map silent s.connections ≡ cs → AreNamed s names → connection_of cs seat ≡ None → named_on names seat ≡ None
+not-named s cs names seat e m c =
+    nothing (named_on names seat) (named-alike (named_on names seat) (connection_of s.connections seat) (m seat) ∙ (seats-alike s cs e seat ∙ ap (λ (o : Option Connection). is_some o) c))
+  where
+    nothing : (n : Option Named) → is_some n ≡ false → n ≡ None
     nothing None h = refl
     nothing (Some n) h = absurd (cc)

@@ -155,7 +155,7 @@ returns-in-Err-clause-unasked g c = λ h.
     let story : Story = record { began = (g.T.HostTree.is served.tree).began; opening = k.opening; history = c.make_room.new.history.entries } in
     let spare = room_in (length served.connections) c.make_room.new.history.spare served.counts.room served.rooms in
     same-portal c.args.self.now (record { tree = served.tree; keeper = k.keeper; clock = served.clock; words = k.words; story = story; spare = spare; refusals = k.refusals })
-    (rw (← c.self.view_is) (c.in-Err.ensures.unasked h)) (search rules) (rw (← c.self.view_is) (c.serve-served.ensures.unread (still-file c.args.request.op h))) (search rules) (rw (← c.self.view_is) kept.0) (search rules) (search rules)
+    (rw (← c.self.view_is) (c.in-Err.ensures.unasked h)) (search rules) (rw (← c.self.view_is) (c.serve-served.ensures.unread (still-file c.args.request h))) (search rules) (rw (← c.self.view_is) kept.0) (search rules) (search rules)
 
 -- ---- memory that was taken ahead
 
