@@ -8,3 +8,4 @@ mod NeverNames
 mod DoesNames
 mod Numberings
 mod DoesBelow
+mod Numbers

@@ -42,7 +42,7 @@ returns-in-Read-clause-ok g c =
 pub returns-in-Write-clause-ok : goal.returns-in-Write-clause-ok
 returns-in-Write-clause-ok g c =
     IfOk-weaker c.write.result _ _ (λ done h. does-other c.args.book.now c.args.call.now c.args.handles.now c.args.namings.now (g.T.HostTree.is c.args.tree.now) done _ _ _ c.in-Write.is (λ m. m) h)
-    (c.write.ensures.ok c.args.handles.now c.in-Write.fh (sym c.get-in-Write.ensures.handle) (c.in-Write.is ∙ ap (NodeOp.Write c.in-Write.fh c.in-Write.offset) (sym c.as_slice-in-Write.ensures)))
+    (c.write.ensures.ok c.args.handles.now c.in-Write.fh (sym c.get-handle-in-Write.ensures.handle) (c.in-Write.is ∙ ap (NodeOp.Write c.in-Write.fh c.in-Write.offset) (sym c.as_slice-in-Write.ensures)))
 
 pub returns-in-GetAttr-clause-ok : goal.returns-in-GetAttr-clause-ok
 returns-in-GetAttr-clause-ok g c =
@@ -76,7 +76,7 @@ returns-in-Access-clause-ok g c =
     (c.access.ensures.ok c.in-Access.is)
 
 pub returns-in-Create-clause-ok : goal.returns-in-Create-clause-ok
-returns-in-Create-clause-ok g c = c.make_file.ensures.ok (c.in-Create.is ∙ ap (λ (name : List ℕ). NodeOp.Create name c.in-Create.flags) (sym c.as_slice-name-in-Create.ensures))
+returns-in-Create-clause-ok g c = c.make_file.ensures.ok (c.in-Create.is ∙ ap (λ (name : List ℕ). NodeOp.Create name c.in-Create.flags) (sym c.as_slice-name.ensures))
 
 pub returns-in-Lookup-clause-err : goal.returns-in-Lookup-clause-err
 returns-in-Lookup-clause-err g c =
