@@ -26,7 +26,7 @@ use Rattle.file_ops.specs.SeatNames.{AreNamed, DoesNaming, NamesKept, SeatNamed,
 use Rattle.file_ops.proofs.NeverNames.{IsPlain, MayName, never-plain, never-steps}
 
 -- what the seat of a call has named
-seat-names : (s : State) (c : Connection) (seat : ℕ) (names : List (ℕ × Named)) → AreNamed s names → connection_of s.connections seat ≡ Some c → namings_on names seat ≡ Some c.namings
+pub seat-names : (s : State) (c : Connection) (seat : ℕ) (names : List (ℕ × Named)) → AreNamed s names → connection_of s.connections seat ≡ Some c → namings_on names seat ≡ Some c.namings
 seat-names s c seat names a e = a seat ∙ ap (option_map (λ (x : Connection). x.namings)) e
 
 module _ (book : FileBook) (call : NodeCall) (table : HandleTable) (names : List (ℕ × Named)) (old : TreeIs) (done : NodeDone) (after : HandleTable) (new : TreeIs) where
