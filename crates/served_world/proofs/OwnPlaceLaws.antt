@@ -21,12 +21,11 @@ use Rattle.portal_model.specs.Valid.{Valid, is_sound_connection}
 use Rattle.portal_model.specs.Walk.{Gives, Target, Walk, shown_at}
 use Rattle.portal_model.proofs.ListLookups.{found_in_all, found_passes, nat_is}
 use Rattle.portal_model.proofs.Queues.{queue_sound}
-use Rattle.portal_model.proofs.ValidLaws.{after-Valid}
+use Rattle.portal_model.proofs.ValidLaws.{after-Valid, told-sight}
 use Rattle.app_world.specs.View.{OwnConnection, own_connection, view}
 use Rattle.app_world.proofs.ViewLaws.{is_app-named, own-some}
 use Rattle.served_world.specs.OwnPlaces.{MayAsk, OwnLooksAreOfItsFiles, PresentsItsOwn, add_places, node_places, places_asked, places_of, waits_at_home}
 use Rattle.served_world.proofs.AddPlaces.{add-places}
-use Rattle.portal_model.proofs.ValidLaws.{told-sight}
 use Rattle.app_world.proofs.NamedPaths.{sound-plain}
 use Rattle.served_world.proofs.NodePlaces.{node-places}
 use Rattle.served_world.proofs.PlacesAlong.{looks-placed}
