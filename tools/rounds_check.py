@@ -369,13 +369,12 @@ def see_case(see, name, calls=None, patience=1.0, history=HISTORY, apps=APPS):
         see("%s: identifiers that came twice" % name, twice, [[] for _ in twice])
     resident = case.reports.resident
     return rounds, ("%s: %d calls answered in %d rounds and %.1f s%s; a renewal took %.0f ms at most, "
-                    "a client waited %.0f ms at most; memory at the end of rounds 2, 10 and the "
-                    "last in KiB: %s" % (
+                    "a client waited %.0f ms at most; memory in KiB as a new history begins, behind "
+                    "each of the first 20 rounds and the last: %s" % (
                         name, sum(caller.answered for caller in callers), rounds, took,
                         " beside %d connections" % beside if crowd else "", longest * 1000,
                         max(caller.longest for caller in callers) * 1000,
-                        [size // 1024 for size in (resident[1:2] + resident[9:10]
-                                                   + resident[-1:])]))
+                        " ".join(str(size // 1024) for size in (resident[:20] + resident[-1:]))))
 
 
 def see_backlogs(see, times, patience=1.0):

@@ -80,8 +80,8 @@ fn put_step<T: HostTree>(
     put
 }
 
-/// `look PATH`, `list PATH`, `create PATH NOW`, `settle PATH`; and of the file of a path `attr PATH`,
-/// `read PATH OFFSET SIZE`, `write PATH OFFSET NOW BYTES`, `len PATH SIZE NOW`,
+/// `look PATH`, `list PATH`, `create PATH NOW`, `settle PATH`; and of the file of a path
+/// `attr PATH`, `read PATH OFFSET SIZE`, `write PATH OFFSET NOW BYTES`, `len PATH SIZE NOW`,
 /// `sync PATH`, `later PATH`, which asks for its generation 1.
 fn put_answer<T: HostTree>(
     alloc: Global,

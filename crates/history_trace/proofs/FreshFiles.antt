@@ -60,10 +60,10 @@ pub fresh-next : (s t : State) (e : Entry) (change : FileChange) (files : List F
     s.files ≡ files → t ≡ after s e → Valid t →
     (after s e).files ≡ cond (is_done (reply_at s e).answer) (files_after true change s.files) s.files →
     done ≡ is_done (reply_at s e).answer → done ≡ true → IsFresh change files
-fresh-next s t e change files done same goes valid files_are told yes =
+fresh-next s t e change files done same goes valid files_are told well =
     fresh change files (subst (λ (fs : List File). IsDistinct is_same (map (λ (f : File). f.path) fs))
     (ap (λ (u : State). u.files) goes
     ∙ (files_are
-    ∙ (ap (λ (b : Bool). cond b (files_after true change s.files) s.files) (sym told ∙ yes)
+    ∙ (ap (λ (b : Bool). cond b (files_after true change s.files) s.files) (sym told ∙ well)
     ∙ ap (files_after true change) same)))
     valid.files_differ)

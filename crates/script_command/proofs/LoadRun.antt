@@ -27,7 +27,7 @@ use Rattle.script_replay.specs.Scenes.{Scene, ScriptPortal, first_scene, opening
 use Rattle.script_replay.specs.Started.{StartsScript}
 use Rattle.script_replay.specs.Steps.{MayPlay, scene}
 use Rattle.script_command.proofs.ReplayScript.{is_replay_with, itself, may_replay, scene_is}
-use Rattle.script_replay.proofs.RunLines.{onto_more, onto_none, short_front}
+use Rattle.script_replay.proofs.RunLines.{onto_more, onto_none, short_after, short_more}
 
 -- ---- at the portal that the load's script opens
 
@@ -141,7 +141,7 @@ module _ (lines : List (List ℕ)) (told : Option (List (List ℕ))) (faults ind
       let line_front : Short ws (line ∷ []) = subst (λ (z : List ℕ). Short ws (z ∷ [])) is h in
       let all : lines ≡ (take index lines ++ line ∷ []) ++ drop (index + 1) lines =
       sym (take-append-drop (index + 1) lines) ∙ ap (λ (z : List (List ℕ)). z ++ drop (index + 1) lines) (taken lines index line inside at) in
-      subst (λ (z : List (List ℕ)). Short (take index lines ++ ws) z) (sym all) (short_front.more (take index lines ++ ws) (take index lines ++ line ∷ []) (drop (index + 1) lines) (short_front.after (take index lines) ws (line ∷ []) line_front))
+      subst (λ (z : List (List ℕ)). Short (take index lines ++ ws) z) (sym all) (short_more (take index lines ++ ws) (take index lines ++ line ∷ []) (drop (index + 1) lines) (short_after (take index lines) ws (line ∷ []) line_front))
 
   risen : (faults' : ℕ) → HasRisen mid_faults faults' → HasRisen faults faults'
   risen faults' h = subst (λ (z : ℕ). HasRisen z faults') before.faults_are h

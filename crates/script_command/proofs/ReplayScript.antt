@@ -22,14 +22,14 @@ use Rattle.script_replay.specs.declared.status.Status.TheVariants.{Done, Usage, 
 use Rattle.script_command.specs.Inputs.{script_limit, AtEnd, IsWhole, Stops}
 use Rattle.script_replay.specs.Plays.{Plays, PlaysAll, PlaysPart, PlaysUpTo, PlayStops}
 use Rattle.script_command.specs.Commands.{replay_words, IsNoCommand}
-use Rattle.script_command.specs.Runs.{AnsweredAll, Cause, IsReplay, Ran, Replays, Risen, WroteShort, WroteUpTo}
+use Rattle.script_command.specs.Runs.{Cause, IsReplay, Ran, Replays, Risen, WroteShort, WroteUpTo}
 use Rattle.script_replay.specs.Scenes.{Scene, ScriptPortal, first_scene, held_in, opening_state, outside_at, run_limits, sessions_of}
-use Rattle.script_replay.specs.Steps.{Agrees, AreFirst, MayPlay, WritesPart, scene}
+use Rattle.script_replay.specs.Steps.{Agrees, MayPlay, scene}
 use Rattle.script_replay.specs.Started.{StartsScript}
 use Rattle.script_command.proofs.BytesAhead.{behind_none}
 use Rattle.script_replay.proofs.HeldBytes.{nothing_held}
 use Rattle.script_command.proofs.OneOutput.{plays_one}
-use Rattle.script_replay.proofs.RunLines.{onto_more, onto_none, plays_cost, plays_on, text_joined}
+use Rattle.script_replay.proofs.RunLines.{onto_none, plays_cost, text_joined}
 use Rattle.script_command.proofs.SoundHistory.{script_opens, sound}
 
 -- ---- a text
@@ -68,7 +68,7 @@ is_replay_with entries text lines front later history out last kept short script
 
 -- a text of these lines, whose opening is valid, and a portal that opened so
 module _ (text : List ℕ) (lines : List ScriptLine) (entries : Entries) (kept : KeepEntries (entries_of lines) entries) (size : length text ≤ script_limit) (script : IsRead text lines) (valid : Valid (opening_state entries lines)) (told told' : Option (List (List ℕ))) where
-  played_part : PlaysPart Short (first_scene entries lines) lines told told' → (pieces : List (List ℕ)) × (told' ≡ onto told pieces) × WroteShort text pieces
+  played_part : PlaysPart (first_scene entries lines) lines told told' → (pieces : List (List ℕ)) × (told' ≡ onto told pieces) × WroteShort text pieces
   played_part p = (
     p.pieces,
     p.output,
@@ -86,52 +86,22 @@ module _ (text : List ℕ) (lines : List ScriptLine) (entries : Entries) (kept :
     },
   )
 
-  abbrev Ends : List (List ℕ) → PlaysUpTo (first_scene entries lines) lines told told' → Type 0
-  Ends pieces p = (told' ≡ onto told pieces) × ((pieces ≡ p.out) ⊎ AnsweredAll lines p.front p.line p.history p.out pieces)
-
-  -- each request of the line is an entry
-  line_answered : (p : PlaysUpTo (first_scene entries lines) lines told told') → WritesPart AreFirst p.last p.line (onto told p.out) told' → (pieces : List (List ℕ)) × Ends pieces p
-  line_answered p (more, said, last, first, does, are_first, wrote) =
-      let ahead : lines ≡ (p.front ++ p.line ∷ []) ++ p.later = p.ahead ∙ sym (append_assoc p.front (p.line ∷ []) p.later) in (
-        p.out ++ first,
-        (
-          wrote ∙ onto_more told p.out first,
-          inr (record {
-            entries = more;
-            said = said;
-            last = last;
-            replay = is_replay entries text lines (p.front ++ p.line ∷ []) p.later (p.history ++ more) (p.out ++ said) last kept size script ahead valid
-                (plays_on p.front (first_scene entries lines) p.last last p.line p.history more p.out said p.plays does);
-            first = first;
-            are_first = are_first;
-            output = refl;
-          }),
-        ),
-      )
-
-  line_ends : (p : PlaysUpTo (first_scene entries lines) lines told told') → (told' ≡ onto told p.out) ⊎ WritesPart AreFirst p.last p.line (onto told p.out) told' → (pieces : List (List ℕ)) × Ends pieces p
-  line_ends p (inl nothing) = (p.out, (nothing, inl refl))
-  line_ends p (inr part) = line_answered p part
-
   played_up_to : PlaysUpTo (first_scene entries lines) lines told told' → Replayed text told told' Memory
-  played_up_to p =
-      let e = line_ends p p.ends in (
-        e.0,
-        e.1.0,
-        inr (record {
-          lines = lines;
-          script = script;
-          front = p.front;
-          line = p.line;
-          later = p.later;
-          ahead = p.ahead;
-          history = p.history;
-          out = p.out;
-          last = p.last;
-          replay = is_replay entries text lines p.front (p.line ∷ p.later) p.history p.out p.last kept size script p.ahead valid p.plays;
-          ends = e.1.1;
-        }),
-      )
+  played_up_to p = (
+    p.out,
+    p.output,
+    inr (record {
+      lines = lines;
+      script = script;
+      front = p.front;
+      line = p.line;
+      later = p.later;
+      ahead = p.ahead;
+      history = p.history;
+      last = p.last;
+      replay = is_replay entries text lines p.front (p.line ∷ p.later) p.history p.out p.last kept size script p.ahead valid p.plays;
+    }),
+  )
 
   stopped : (faults faults' : ℕ) (status : Status) → PlayStops (first_scene entries lines) lines told faults told' faults' status → Replayed text told told' status
   stopped faults faults' Done p = absurd p

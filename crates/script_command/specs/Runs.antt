@@ -17,7 +17,6 @@ use Rattle.script_command.specs.Commands.{replay_words, IsNoCommand}
 use Rattle.script_command.specs.Inputs.{script_limit, AtEnd}
 use Rattle.script_replay.specs.Plays.{Plays}
 use Rattle.script_replay.specs.Scenes.{Scene, first_scene, held_in, opening_state, run_limits}
-use Rattle.script_replay.specs.Steps.{AreFirst}
 
 -- the history of the lines is legal from an opening state, and the replies to each application are
 -- those of its own machine over its trace
@@ -67,21 +66,9 @@ pub record WroteShort (text : List ℕ) (pieces : List (List ℕ)) : Type 0 wher
   pub replay : IsReplay lines front history out last
   pub output : Short pieces out
 
--- each request of a line is an entry behind the history of the front, and the pieces are the output
--- of the front and the first of the line's
-pub record AnsweredAll (lines front : List ScriptLine) (line : ScriptLine) (history : List Entry)
-    (out pieces : List (List ℕ)) : Type 0 where
-  pub entries : List Entry
-  pub said : List (List ℕ)
-  pub last : Scene
-  pub replay : IsReplay lines (front ++ line ∷ []) (history ++ entries) (out ++ said) last
-  pub first : List (List ℕ)
-  pub are_first : AreFirst first said
-  pub output : pieces ≡ out ++ first
-
--- The text is a script, and at one of its lines there was no memory. What answers the lines before
--- it is written, and nothing behind that unless each request of the line is an entry: so a request
--- that finds no memory ends the run, and no answer to it is written.
+-- The text is a script, and at one of its lines there was no memory. The pieces are the output of the
+-- lines before it, whole, and nothing of its own: so a request that finds no memory ends the run,
+-- and nothing that answers its line is written.
 pub record WroteUpTo (text : List ℕ) (pieces : List (List ℕ)) : Type 0 where
   pub lines : List ScriptLine
   pub script : IsRead text lines
@@ -90,10 +77,8 @@ pub record WroteUpTo (text : List ℕ) (pieces : List (List ℕ)) : Type 0 where
   pub later : List ScriptLine
   pub ahead : lines ≡ front ++ line ∷ later
   pub history : List Entry
-  pub out : List (List ℕ)
   pub last : Scene
-  pub replay : IsReplay lines front history out last
-  pub ends : (pieces ≡ out) ⊎ AnsweredAll lines front line history out pieces
+  pub replay : IsReplay lines front history pieces last
 
 -- Why a run ends so that was told these words, read this text, left this of the source, and wrote
 -- these pieces.

@@ -35,12 +35,12 @@ use Rattle.script_replay.specs.Entries.{AreGiven}
 use Rattle.script_replay.specs.Lines.{CloseDoes, DataDoes, Does, Hears, set_to}
 use Rattle.script_replay.specs.Scenes.{Scene, ScriptPortal, held_by, outside_at, placed, run_settings, sessions_of}
 use Rattle.script_replay.specs.Seats.{Asked, HeardAs, HearsNot, IsEnd}
-use Rattle.script_replay.specs.Steps.{Agrees, AreFirst, Breaks, GoesOn, MayRun, Opens, Runs, WritesPart, WritesShort, binding, scene}
+use Rattle.script_replay.specs.Steps.{Agrees, Breaks, GoesOn, MayRun, Opens, Runs, WritesPart, WritesShort, binding, scene}
 use Rattle.script_replay.specs.Texts.{end_line, out_line}
 use Rattle.script_replay.proofs.Costs.{data_long, enter_cost}
 use Rattle.script_replay.proofs.HeldBytes.{one_held}
 use Rattle.script_replay.proofs.GivenEntries.{given-append, leave_entry, leave_given}
-use Rattle.script_replay.proofs.RunLines.{IsFront, first_front, onto_more, onto_none, short_front}
+use Rattle.script_replay.proofs.RunLines.{onto_more, onto_none, short_after, short_more}
 
 -- ---- scenes
 
@@ -232,10 +232,10 @@ module _ (p q : ScriptPortal) (table : List (Option Standing)) (seat : ℕ) (at 
       }
 
   -- it ends, and leaves
-  pub end_runs : (r : ScriptPortal) (table' : List (Option Standing)) (told mid told' : Option (List (List ℕ))) → HeardAs true p q seat at bytes pieces now → state_first q.story ≡ state_first p.story → state_first r.story ≡ state_first q.story
-      → Asked q r seat (Request.Leave ∷ []) → sessions_of table' ≡ placed (sessions_of table) seat None → mid ≡ onto told lines → told' ≡ onto mid last → Runs p table r table' (Data seat bytes) told told'
+  pub end_runs : (r : ScriptPortal) (table' : List (Option Standing)) (told told' : Option (List (List ℕ))) → HeardAs true p q seat at bytes pieces now → state_first q.story ≡ state_first p.story → state_first r.story ≡ state_first q.story
+      → Asked q r seat (Request.Leave ∷ []) → sessions_of table' ≡ placed (sessions_of table) seat None → told' ≡ onto told (lines ++ last) → Runs p table r table' (Data seat bytes) told told'
   unfolding asked_on
-  end_runs r table' told mid told' h same also left took wrote ended =
+  end_runs r table' told told' h same also left took wrote =
       let rs = h.2.0 in
       let all : Asked p r seat (rs ++ Request.Leave ∷ []) = asked_on p q r seat rs (Request.Leave ∷ []) same h.2.2 left in
       record {
@@ -244,17 +244,15 @@ module _ (p q : ScriptPortal) (table : List (Option Standing)) (seat : ℕ) (at 
         does = subst (λ (b : Scene). Does (scene p table) (Data seat bytes) all.entries (lines ++ last) b) (sym (scene_on p r table table' seat all.entries None (also ∙ same) all.history took))
             (ends_so h.0 rs all.entries (outside_at r) h.1 h.2.1 all.given left.entries (ap (λ (es : List Entry). es ++ left.entries) h.2.3));
         history = all.history;
-        output = ended ∙ (ap (λ (z : Option (List (List ℕ))). onto z last) wrote ∙ onto_more told lines last);
+        output = wrote;
       }
 
   -- not all is written
-  pub part : (IsPart : List (List ℕ) → List (List ℕ) → Type 0) → IsFront IsPart → (b : Bool) (told told' : Option (List (List ℕ))) (ws : List (List ℕ)) → HeardAs b p q seat at bytes pieces now → IsPart ws lines → told' ≡ onto told ws → WritesPart IsPart (scene p table) (Data seat bytes) told told'
-  part IsPart front false told told' ws h short wrote = (_, lines, _, ws, more_does h, short, wrote)
-  part IsPart front true told told' ws h short wrote = (_, lines ++ last, _, ws, end_does h, front.more ws lines last short, wrote)
+  pub more_part : (told told' : Option (List (List ℕ))) (ws : List (List ℕ)) → HeardAs false p q seat at bytes pieces now → Short ws lines → told' ≡ onto told ws → WritesPart (scene p table) (Data seat bytes) told told'
+  more_part told told' ws h short wrote = (_, lines, _, ws, more_does h, short, wrote)
 
-  pub end_part : (IsPart : List (List ℕ) → List (List ℕ) → Type 0) → IsFront IsPart → (told mid told' : Option (List (List ℕ))) (ws : List (List ℕ)) → HeardAs true p q seat at bytes pieces now → mid ≡ onto told lines → IsPart ws last → told' ≡ onto mid ws → WritesPart IsPart (scene p table) (Data seat bytes) told told'
-  end_part IsPart front told mid told' ws h wrote short ended =
-      (_, lines ++ last, _, lines ++ ws, end_does h, front.after lines ws last short, ended ∙ (ap (λ (z : Option (List (List ℕ))). onto z ws) wrote ∙ onto_more told lines ws))
+  pub end_part : (told told' : Option (List (List ℕ))) (ws : List (List ℕ)) → HeardAs true p q seat at bytes pieces now → Short ws (lines ++ last) → told' ≡ onto told ws → WritesPart (scene p table) (Data seat bytes) told told'
+  end_part told told' ws h short wrote = (_, lines ++ last, _, ws, end_does h, short, wrote)
 
 -- ---- a close
 
@@ -277,8 +275,8 @@ module _ (p q : ScriptPortal) (table : List (Option Standing)) (seat : ℕ) (at 
     output = wrote;
   }
 
-  pub close_part : (IsPart : List (List ℕ) → List (List ℕ) → Type 0) → IsFront IsPart → (told told' : Option (List (List ℕ))) (ws : List (List ℕ)) → IsPart ws closing → told' ≡ onto told ws → WritesPart IsPart (scene p table) (Close seat) told told'
-  close_part IsPart front told told' ws short wrote =
+  pub close_part : (told told' : Option (List (List ℕ))) (ws : List (List ℕ)) → Short ws closing → told' ≡ onto told ws → WritesPart (scene p table) (Close seat) told told'
+  close_part told told' ws short wrote =
       let leaves = leave_entry seat ∷ [] in
       (leaves, closing, moved p table seat leaves (outside_at p) None, ws, close_does leaves (outside_at p) (leave_given (state_now p.story) (outside_at p) seat), short, wrote)
 
@@ -287,15 +285,15 @@ module _ (p q : ScriptPortal) (table : List (Option Standing)) (seat : ℕ) (at 
 pub breaks_heard : (p q : ScriptPortal) (table : List (Option Standing)) (seat : ℕ) (at now : Standing) (bytes : List ℕ) (told : Option (List (List ℕ))) (faults : ℕ) → Some at ≡ sessions_of table seat → (e : LineError) → HearsNot p q seat at bytes now e
     → Breaks (scene p table) (Data seat bytes) told faults told faults e
 breaks_heard p q table seat at now bytes told faults here not_run.WriteFault h = absurd h
-breaks_heard p q table seat at now bytes told faults here not_run.Memory h = (refl, inl refl)
+breaks_heard p q table seat at now bytes told faults here not_run.Memory h = (refl, refl)
 
 risen_later : (a b c : ℕ) → b ≡ a → HasRisen b c → HasRisen a c
 risen_later a b c h k = omega arith
 
-pub breaks_written : (a : Scene) (line : ScriptLine) (said : List (List ℕ)) (told mid told' : Option (List (List ℕ))) (faults later faults' : ℕ) → later ≡ faults → ((IsPart : List (List ℕ) → List (List ℕ) → Type 0) → IsFront IsPart → (ws : List (List ℕ)) → IsPart ws said → told' ≡ onto mid ws → WritesPart IsPart a line told told')
-    → (e : LineError) → WritesShort said mid later told' faults' e → Breaks a line told faults told' faults' e
-breaks_written a line said told mid told' faults later faults' le part not_run.WriteFault h = (risen_later faults later faults' le h.0, part Short short_front h.1.0 h.1.1 h.1.2)
-breaks_written a line said told mid told' faults later faults' le part not_run.Memory h = (h.0 ∙ le, inr (part AreFirst first_front h.1.0 h.1.1 h.1.2))
+pub breaks_written : (a : Scene) (line : ScriptLine) (said : List (List ℕ)) (told told' : Option (List (List ℕ))) (faults faults' : ℕ) → ((ws : List (List ℕ)) → Short ws said → told' ≡ onto told ws → WritesPart a line told told')
+    → (e : LineError) → WritesShort said told faults told' faults' e → Breaks a line told faults told' faults' e
+breaks_written a line said told told' faults faults' part not_run.WriteFault h = (h.0, part h.1.0 h.1.1 h.1.2)
+breaks_written a line said told told' faults faults' part not_run.Memory h = absurd h
 
 -- ---- lines that are written one after another
 
@@ -307,51 +305,40 @@ pub if_err : {T E : Type 0} (r : Result T E) (P Q : E → Type 0) → ((e : E) �
 if_err (Ok x) P Q f h = tt
 if_err (Err e) P Q f h = f e h
 
--- there was no memory, and nothing of these lines is written
-pub none_written : (said : List (List ℕ)) (told : Option (List (List ℕ))) (faults : ℕ) → WritesShort said told faults told faults not_run.Memory
-none_written said told faults = (refl, ([], (0, refl), onto_none told))
+-- where there is no memory before anything of a line is written
+pub breaks_unwritten : (a : Scene) (line : ScriptLine) (told : Option (List (List ℕ))) (faults : ℕ) (e : LineError) → e ≡ not_run.Memory → Breaks a line told faults told faults e
+breaks_unwritten a line told faults e h = subst (λ (z : LineError). Breaks a line told faults told faults z) (sym h) (refl, refl)
 
-module _ (seat : ℕ) (xs : List (List ℕ)) (i : ℕ) where
-  abbrev written : List (List ℕ)
-  written = map (out_line seat) (take i xs)
+-- one more piece is put into words
+pub next_words : (seat : ℕ) (xs : List (List ℕ)) (i : ℕ) (x : List ℕ) → i < length xs → x ≡ get_or xs i x → map (out_line seat) (take (i + 1) xs) ≡ map (out_line seat) (take i xs) ++ out_line seat x ∷ []
+next_words seat xs i x inside is = rw (add-one, take-suc xs i x) (map-append (out_line seat) (take i xs) (get_or xs i x ∷ []) ∙ ap (λ (z : List ℕ). map (out_line seat) (take i xs) ++ out_line seat z ∷ []) (sym is))
 
-  some_written : AreFirst written (map (out_line seat) xs)
-  some_written =
-      subst (λ (z : List (List ℕ)). AreFirst written (map (out_line seat) z)) (take-append-drop i xs)
-      (subst (λ (z : List (List ℕ)). AreFirst written z) (sym (map-append (out_line seat) (take i xs) (drop i xs))) (first_front.more written written (map (out_line seat) (drop i xs)) (first_front.all written)))
+module _ (xs : List (List ℕ)) (i : ℕ) (x : List ℕ) (inside : i < length xs) (is : x ≡ get_or xs i x) where
+  next_written : take (i + 1) xs ≡ take i xs ++ x ∷ []
+  next_written = rw (add-one, take-suc xs i x) (ap (λ (z : List ℕ). take i xs ++ z ∷ []) (sym is))
 
-  -- there was no memory for the next line
-  pub no_line : (told mid : Option (List (List ℕ))) (faults faults' : ℕ) → faults' ≡ faults → mid ≡ onto told written → WritesShort (map (out_line seat) xs) told faults mid faults' not_run.Memory
-  no_line told mid faults faults' same h = (same, (written, some_written, h))
+  pub line_written : (line : List ℕ) (told mid told' : Option (List (List ℕ))) → line ≡ x → mid ≡ onto told (take i xs) → told' ≡ onto mid (line ∷ []) → told' ≡ onto told (take (i + 1) xs)
+  line_written line told mid told' e m t =
+      t ∙ (ap (λ (z : Option (List (List ℕ))). onto z (line ∷ [])) m ∙ (onto_more told (take i xs) (line ∷ [])
+      ∙ ap (onto told) (ap (λ (z : List ℕ). take i xs ++ z ∷ []) e ∙ sym next_written)))
 
-  module _ (x : List ℕ) (inside : i < length xs) (is : x ≡ get_or xs i x) where
-    next_written : map (out_line seat) (take (i + 1) xs) ≡ written ++ out_line seat x ∷ []
-    next_written = rw (add-one, take-suc xs i x) (map-append (out_line seat) (take i xs) (get_or xs i x ∷ []) ∙ ap (λ (z : List ℕ). written ++ out_line seat z ∷ []) (sym is))
+  part_next : (ws : List (List ℕ)) → Short ws (x ∷ []) → Short (take i xs ++ ws) xs
+  part_next ws h =
+      let all : xs ≡ (take i xs ++ x ∷ []) ++ drop (i + 1) xs = sym (take-append-drop (i + 1) xs) ∙ ap (λ (z : List (List ℕ)). z ++ drop (i + 1) xs) next_written in
+      subst (λ (z : List (List ℕ)). Short (take i xs ++ ws) z) (sym all) (short_more (take i xs ++ ws) (take i xs ++ x ∷ []) (drop (i + 1) xs) (short_after (take i xs) ws (x ∷ []) h))
 
-    pub line_written : (line : List ℕ) (told mid told' : Option (List (List ℕ))) → line ≡ out_line seat x → mid ≡ onto told written → told' ≡ onto mid (line ∷ []) → told' ≡ onto told (map (out_line seat) (take (i + 1) xs))
-    line_written line told mid told' e m t =
-        t ∙ (ap (λ (z : Option (List (List ℕ))). onto z (line ∷ [])) m ∙ (onto_more told written (line ∷ [])
-        ∙ ap (onto told) (ap (λ (z : List ℕ). written ++ z ∷ []) e ∙ sym next_written)))
-
-    part_next : (IsPart : List (List ℕ) → List (List ℕ) → Type 0) → IsFront IsPart → (ws : List (List ℕ)) → IsPart ws (out_line seat x ∷ []) → IsPart (written ++ ws) (map (out_line seat) xs)
-    part_next IsPart front ws h =
-        let all : map (out_line seat) xs ≡ (written ++ out_line seat x ∷ []) ++ map (out_line seat) (drop (i + 1) xs) =
-        ap (map (out_line seat)) (sym (take-append-drop (i + 1) xs)) ∙ (map-append (out_line seat) (take (i + 1) xs) (drop (i + 1) xs) ∙ ap (λ (z : List (List ℕ)). z ++ map (out_line seat) (drop (i + 1) xs)) next_written) in
-        subst (λ (z : List (List ℕ)). IsPart (written ++ ws) z) (sym all) (front.more (written ++ ws) (written ++ out_line seat x ∷ []) _ (front.after written ws (out_line seat x ∷ []) h))
-
-    line_part : (IsPart : List (List ℕ) → List (List ℕ) → Type 0) → IsFront IsPart → (line : List ℕ) (told mid told' : Option (List (List ℕ))) → line ≡ out_line seat x → mid ≡ onto told written → (ws : List (List ℕ)) × IsPart ws (line ∷ []) × (told' ≡ onto mid ws)
-        → (ws : List (List ℕ)) × IsPart ws (map (out_line seat) xs) × (told' ≡ onto told ws)
-    line_part IsPart front line told mid told' e m h = (
-      written ++ h.0,
-      part_next IsPart front h.0 (subst (λ (z : List ℕ). IsPart h.0 (z ∷ [])) e h.1),
-      h.2 ∙ (ap (λ (z : Option (List (List ℕ))). onto z h.0) m ∙ onto_more told written h.0),
-    )
-
-    -- the next line was not written whole
-    pub line_broke : (line : List ℕ) (told mid told' : Option (List (List ℕ))) (faults later faults' : ℕ) → line ≡ out_line seat x → mid ≡ onto told written → later ≡ faults
-        → (e : LineError) → WritesShort (line ∷ []) mid later told' faults' e → WritesShort (map (out_line seat) xs) told faults told' faults' e
-    line_broke line told mid told' faults later faults' e m le not_run.WriteFault h = (risen_later faults later faults' le h.0, line_part Short short_front line told mid told' e m h.1)
-    line_broke line told mid told' faults later faults' e m le not_run.Memory h = (h.0 ∙ le, line_part AreFirst first_front line told mid told' e m h.1)
+  -- the next line was not written whole
+  pub line_broke : (line : List ℕ) (told mid told' : Option (List (List ℕ))) (faults later faults' : ℕ) → line ≡ x → mid ≡ onto told (take i xs) → later ≡ faults
+      → (e : LineError) → WritesShort (line ∷ []) mid later told' faults' e → WritesShort xs told faults told' faults' e
+  line_broke line told mid told' faults later faults' e m le not_run.WriteFault h = (
+    risen_later faults later faults' le h.0,
+    (
+      take i xs ++ h.1.0,
+      part_next h.1.0 (subst (λ (z : List ℕ). Short h.1.0 (z ∷ [])) e h.1.1),
+      h.1.2 ∙ (ap (λ (z : Option (List (List ℕ))). onto z h.1.0) m ∙ onto_more told (take i xs) h.1.0),
+    ),
+  )
+  line_broke line told mid told' faults later faults' e m le not_run.Memory h = absurd h
 
 -- ---- bytes of a data line, from first to last
 
@@ -365,14 +352,9 @@ pub answered_at : (p q : ScriptPortal) (table : List (Option Standing)) (seat : 
     → HeardAs b p q seat at lent pieces now → Answered p q table seat at now bytes pieces b
 answered_at p q table seat at now lent bytes pieces b here e same h = record { here = here; heard = subst (λ (z : List ℕ). HeardAs b p q seat at z pieces now) e h; same = same }
 
-module _ (p q : ScriptPortal) (table : List (Option Standing)) (seat : ℕ) (at now : Standing) (bytes : List ℕ) (pieces lent : List (List ℕ)) (b : Bool) (a : Answered p q table seat at now bytes pieces b) (e : lent ≡ pieces) where
-  pub pieces_break : (told told' : Option (List (List ℕ))) (faults faults' : ℕ) (error : LineError) → WritesShort (map (out_line seat) lent) told faults told' faults' error → Breaks (scene p table) (Data seat bytes) told faults told' faults' error
-  pieces_break told told' faults faults' error h =
-      breaks_written (scene p table) (Data seat bytes) (map (out_line seat) pieces) told told told' faults faults faults' refl (λ IsPart front ws short wrote. part p q table seat at now bytes pieces a.here IsPart front b told told' ws a.heard short wrote) error
-      (subst (λ (z : List (List ℕ)). WritesShort (map (out_line seat) z) told faults told' faults' error) e h)
-
-  wrote_is : (told mid : Option (List (List ℕ))) → mid ≡ onto told (map (out_line seat) lent) → mid ≡ onto told (map (out_line seat) pieces)
-  wrote_is told mid wrote = wrote ∙ ap (λ (z : List (List ℕ)). onto told (map (out_line seat) z)) e
+module _ (p q : ScriptPortal) (table : List (Option Standing)) (seat : ℕ) (at now : Standing) (bytes : List ℕ) (pieces lent said : List (List ℕ)) (b : Bool) (a : Answered p q table seat at now bytes pieces b) (e : lent ≡ pieces) (words : said ≡ map (out_line seat) lent) where
+  said_is : said ≡ map (out_line seat) pieces
+  said_is = words ∙ ap (map (out_line seat)) e
 
   over : b ≡ true → HeardAs true p q seat at bytes pieces now
   over t = subst (λ (z : Bool). HeardAs z p q seat at bytes pieces now) t a.heard
@@ -380,24 +362,34 @@ module _ (p q : ScriptPortal) (table : List (Option Standing)) (seat : ℕ) (at 
   on : b ≡ false → HeardAs false p q seat at bytes pieces now
   on t = subst (λ (z : Bool). HeardAs z p q seat at bytes pieces now) t a.heard
 
-  pub last_runs : b ≡ true → (r : ScriptPortal) (table' : List (Option Standing)) (told mid told' : Option (List (List ℕ))) → state_first r.story ≡ state_first q.story → Asked q r seat (Request.Leave ∷ []) → sessions_of table' ≡ placed (sessions_of table) seat None
-      → mid ≡ onto told (map (out_line seat) lent) → told' ≡ onto mid (end_line seat (ending now.fed now.rest) ∷ []) → Runs p table r table' (Data seat bytes) told told'
-  last_runs t r table' told mid told' also left took wrote ended = end_runs p q table seat at now bytes pieces a.here r table' told mid told' (over t) a.same also left took (wrote_is told mid wrote) ended
+  -- what is written where the connection ends by itself
+  abbrev Whole : List (List ℕ) → Type 0
+  Whole all = all ≡ said ++ end_line seat (ending now.fed now.rest) ∷ []
 
-  pub last_breaks : b ≡ true → (told mid told' : Option (List (List ℕ))) (faults later faults' : ℕ) → later ≡ faults → mid ≡ onto told (map (out_line seat) lent)
-      → (error : LineError) → WritesShort (end_line seat (ending now.fed now.rest) ∷ []) mid later told' faults' error → Breaks (scene p table) (Data seat bytes) told faults told' faults' error
-  last_breaks t told mid told' faults later faults' le wrote error h =
-      breaks_written (scene p table) (Data seat bytes) (end_line seat (ending now.fed now.rest) ∷ []) told mid told' faults later faults' le
-      (λ IsPart front ws short ended. end_part p q table seat at now bytes pieces a.here IsPart front told mid told' ws (over t) (wrote_is told mid wrote) short ended) error h
+  whole_is : (all : List (List ℕ)) → Whole all → all ≡ map (out_line seat) pieces ++ end_line seat (ending now.fed now.rest) ∷ []
+  whole_is all h = h ∙ ap (λ (z : List (List ℕ)). z ++ end_line seat (ending now.fed now.rest) ∷ []) said_is
+
+  pub last_runs : b ≡ true → (all : List (List ℕ)) → Whole all → (r : ScriptPortal) (table' : List (Option Standing)) (told told' : Option (List (List ℕ))) → state_first r.story ≡ state_first q.story → Asked q r seat (Request.Leave ∷ []) → sessions_of table' ≡ placed (sessions_of table) seat None
+      → told' ≡ onto told all → Runs p table r table' (Data seat bytes) told told'
+  last_runs t all h r table' told told' also left took wrote =
+      end_runs p q table seat at now bytes pieces a.here r table' told told' (over t) a.same also left took (wrote ∙ ap (onto told) (whole_is all h))
+
+  pub last_breaks : b ≡ true → (all : List (List ℕ)) → Whole all → (told told' : Option (List (List ℕ))) (faults faults' : ℕ)
+      → (error : LineError) → WritesShort all told faults told' faults' error → Breaks (scene p table) (Data seat bytes) told faults told' faults' error
+  last_breaks t all h told told' faults faults' error k =
+      breaks_written (scene p table) (Data seat bytes) (map (out_line seat) pieces ++ end_line seat (ending now.fed now.rest) ∷ []) told told' faults faults' (λ ws short wrote. end_part p q table seat at now bytes pieces a.here told told' ws (over t) short wrote) error
+      (subst (λ (z : List (List ℕ)). WritesShort z told faults told' faults' error) (whole_is all h) k)
 
   pub on_runs : b ≡ false → (taken table' : List (Option Standing)) (told told' : Option (List (List ℕ))) → sessions_of taken ≡ placed (sessions_of table) seat None → sessions_of table' ≡ placed (sessions_of taken) seat (Some now)
-      → told' ≡ onto told (map (out_line seat) lent) → Runs p table q table' (Data seat bytes) told told'
+      → told' ≡ onto told said → Runs p table q table' (Data seat bytes) told told'
   on_runs t taken table' told told' took put wrote =
-      more_runs p q table seat at now bytes pieces a.here table' told told' (on t) a.same (put_back table taken table' seat (Some now) took put) (wrote_is told told' wrote)
+      more_runs p q table seat at now bytes pieces a.here table' told told' (on t) a.same (put_back table taken table' seat (Some now) took put) (wrote ∙ ap (onto told) said_is)
 
-  -- all was written, and there is no memory to go on
-  pub all_written : (told told' : Option (List (List ℕ))) (faults faults' : ℕ) → faults' ≡ faults → told' ≡ onto told (map (out_line seat) lent) → Breaks (scene p table) (Data seat bytes) told faults told' faults' not_run.Memory
-  all_written told told' faults faults' same wrote = (same, inr (part p q table seat at now bytes pieces a.here AreFirst first_front b told told' (map (out_line seat) pieces) a.heard (first_front.all _) (wrote_is told told' wrote)))
+  pub on_breaks : b ≡ false → (told told' : Option (List (List ℕ))) (faults faults' : ℕ)
+      → (error : LineError) → WritesShort said told faults told' faults' error → Breaks (scene p table) (Data seat bytes) told faults told' faults' error
+  on_breaks t told told' faults faults' error k =
+      breaks_written (scene p table) (Data seat bytes) (map (out_line seat) pieces) told told' faults faults' (λ ws short wrote. more_part p q table seat at now bytes pieces a.here told told' ws (on t) short wrote) error
+      (subst (λ (z : List (List ℕ)). WritesShort z told faults told' faults' error) said_is k)
 
 -- ---- lines of the opening
 

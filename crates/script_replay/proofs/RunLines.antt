@@ -19,7 +19,7 @@ use Rattle.script_replay.specs.declared.error.LineError.TheVariants as not_run
 use Rattle.script_replay.specs.Lines.{Does}
 use Rattle.script_replay.specs.Plays.{Plays, PlaysAll, PlaysPart, PlaysUpTo, PlayStops, status_of}
 use Rattle.script_replay.specs.Scenes.{Scene, ScriptPortal, held_in, sessions_of}
-use Rattle.script_replay.specs.Steps.{Agrees, AreFirst, Breaks, HaveRoom, IsNew, MayPlay, MayRun, Runs, WritesPart, scene}
+use Rattle.script_replay.specs.Steps.{Agrees, Breaks, HaveRoom, IsNew, MayPlay, MayRun, Runs, WritesPart, scene}
 use Rattle.script_replay.proofs.Costs.{text_more}
 use Rattle.script_replay.proofs.NextLineMayRun.{AreClosed, does_agree, does_close, does_cost, does_room, holds_less}
 
@@ -33,45 +33,14 @@ pub onto_more : (o : Option (List (List ℕ))) (first more : List (List ℕ)) �
 onto_more None first more = refl
 onto_more (Some told) first more = ap Some (append_assoc told first more)
 
-short_after : (first pieces whole : List (List ℕ)) → Short pieces whole → Short (first ++ pieces) (first ++ whole)
+pub short_after : (first pieces whole : List (List ℕ)) → Short pieces whole → Short (first ++ pieces) (first ++ whole)
 short_after [] pieces whole h = h
 short_after (x ∷ xs) pieces whole h = inl (refl, short_after xs pieces whole h)
 
-short_more : (pieces whole more : List (List ℕ)) → Short pieces whole → Short pieces (whole ++ more)
+pub short_more : (pieces whole more : List (List ℕ)) → Short pieces whole → Short pieces (whole ++ more)
 short_more [] whole more h = tt
 short_more (w ∷ ws) [] more h = absurd h
 short_more (w ∷ ws) (p ∷ ps) more h = elim h as (λ _. Short (w ∷ ws) ((p ∷ ps) ++ more)) [ inl both ↦ inl (both.0, short_more ws ps more both.1) | inr front ↦ inr front ]
-
-short_whole : (whole : List (List ℕ)) → Short whole whole
-short_whole [] = tt
-short_whole (w ∷ ws) = inl (refl, short_whole ws)
-
--- a part stays one behind pieces that are written whole and ahead of others, and the whole is one
-pub record IsFront (IsPart : List (List ℕ) → List (List ℕ) → Type 0) : Type 0 where
-  pub after : (first pieces whole : List (List ℕ)) → IsPart pieces whole → IsPart (first ++ pieces) (first ++ whole)
-  pub more : (pieces whole more : List (List ℕ)) → IsPart pieces whole → IsPart pieces (whole ++ more)
-  pub all : (whole : List (List ℕ)) → IsPart whole whole
-
-pub short_front : IsFront Short
-short_front = record { after = short_after; more = short_more; all = short_whole }
-
-first_after : (first pieces whole : List (List ℕ)) → AreFirst pieces whole → AreFirst (first ++ pieces) (first ++ whole)
-first_after [] pieces whole h = h
-first_after (x ∷ xs) pieces whole h = let k = first_after xs pieces whole h in (suc k.0, ap (λ (z : List (List ℕ)). x ∷ z) k.1)
-
-first_long : (k : ℕ) (whole more : List (List ℕ)) → (j : ℕ) × (take k whole ≡ take j (whole ++ more))
-first_long zero whole more = (zero, refl)
-first_long (suc k) [] more = (zero, refl)
-first_long (suc k) (x ∷ xs) more = let h = first_long k xs more in (suc h.0, ap (λ (z : List (List ℕ)). x ∷ z) h.1)
-
-first_more : (pieces whole more : List (List ℕ)) → AreFirst pieces whole → AreFirst pieces (whole ++ more)
-first_more pieces whole more h = let k = first_long h.0 whole more in (k.0, h.1 ∙ k.1)
-
-first_whole : (whole : List (List ℕ)) → AreFirst whole whole
-first_whole whole = (length whole, sym (take_all (length whole) whole (omega arith)))
-
-pub first_front : IsFront AreFirst
-first_front = record { after = first_after; more = first_more; all = first_whole }
 
 -- ---- lines that were run, and one more
 
@@ -137,9 +106,9 @@ later : (first last faults : ℕ) → faults ≡ first → HasRisen faults last 
 later first last faults h r = omega arith
 
 -- a front of a line's output was written behind that of the lines before it
-part_on : (IsPart : List (List ℕ) → List (List ℕ) → Type 0) → IsFront IsPart → (first : ScriptPortal) (lines : List ScriptLine) (told told' told'' : Option (List (List ℕ))) (index : ℕ) (p : ScriptPortal) (table : List (Option Standing)) (line : ScriptLine)
-    → index < length lines → line ≡ get_or lines index line → Played first lines told told' index p table → WritesPart IsPart (scene p table) line told' told'' → PlaysPart IsPart (scene first []) lines told told''
-part_on IsPart front first lines told told' told'' index p table line h is before (entries, out, b, pieces, does, short, wrote) = record {
+part_on : (first : ScriptPortal) (lines : List ScriptLine) (told told' told'' : Option (List (List ℕ))) (index : ℕ) (p : ScriptPortal) (table : List (Option Standing)) (line : ScriptLine)
+    → index < length lines → line ≡ get_or lines index line → Played first lines told told' index p table → WritesPart (scene p table) line told' told'' → PlaysPart (scene first []) lines told told''
+part_on first lines told told' told'' index p table line h is before (entries, out, b, pieces, does, short, wrote) = record {
   front = take index lines ++ line ∷ [];
   history = before.history ++ entries;
   out = before.out ++ out;
@@ -150,14 +119,14 @@ part_on IsPart front first lines told told' told'' index p table line h is befor
     plays_on (take index lines) (scene first []) (scene p table) b line before.history entries before.out out before.plays does,
   );
   pieces = before.out ++ pieces;
-  part = front.after before.out pieces out short;
+  part = short_after before.out pieces out short;
   output = wrote ∙ (ap (λ (z : Option (List (List ℕ))). onto z pieces) before.wrote ∙ onto_more told before.out pieces);
 }
 
 -- there was no memory at the line
 up_to : (first : ScriptPortal) (lines : List ScriptLine) (told told' told'' : Option (List (List ℕ))) (index : ℕ) (p : ScriptPortal) (table : List (Option Standing)) (line : ScriptLine)
-    → index < length lines → line ≡ get_or lines index line → Played first lines told told' index p table → (told'' ≡ told') ⊎ WritesPart AreFirst (scene p table) line told' told'' → PlaysUpTo (scene first []) lines told told''
-up_to first lines told told' told'' index p table line h is before ends = record {
+    → index < length lines → line ≡ get_or lines index line → Played first lines told told' index p table → told'' ≡ told' → PlaysUpTo (scene first []) lines told told''
+up_to first lines told told' told'' index p table line h is before none = record {
   front = take index lines;
   line = line;
   later = drop (index + 1) lines;
@@ -166,13 +135,13 @@ up_to first lines told told' told'' index p table line h is before ends = record
   out = before.out;
   last = scene p table;
   plays = before.plays;
-  ends = subst (λ (z : Option (List (List ℕ))). (told'' ≡ z) ⊎ WritesPart AreFirst (scene p table) line z told'') before.wrote ends;
+  output = none ∙ before.wrote;
 }
 
 pub play_stops : (first : ScriptPortal) (lines : List ScriptLine) (told told' told'' : Option (List (List ℕ))) (faults faults' faults'' : ℕ) (index : ℕ) (p : ScriptPortal) (table : List (Option Standing)) (line : ScriptLine)
     → index < length lines → line ≡ get_or lines index line → faults' ≡ faults → Played first lines told told' index p table
     → (e : LineError) → Breaks (scene p table) line told' faults' told'' faults'' e → PlayStops (scene first []) lines told faults told'' faults'' (status_of e)
-play_stops first lines told told' told'' faults faults' faults'' index p table line h is same before not_run.WriteFault b = (later faults faults'' faults' same b.0, part_on Short short_front first lines told told' told'' index p table line h is before b.1)
+play_stops first lines told told' told'' faults faults' faults'' index p table line h is same before not_run.WriteFault b = (later faults faults'' faults' same b.0, part_on first lines told told' told'' index p table line h is before b.1)
 play_stops first lines told told' told'' faults faults' faults'' index p table line h is same before not_run.Memory b = (b.0 ∙ same, up_to first lines told told' told'' index p table line h is before b.1)
 
 -- ---- what the lines need

@@ -1,5 +1,5 @@
 -- What running lines one after another comes to.
-use Rattle.std.specs.Prelude.{◌≡◌, ◌⊎◌, ℕ, List, [], ◌∷◌, ◌++◌, Option}
+use Rattle.std.specs.Prelude.{◌≡◌, ℕ, List, [], ◌∷◌, ◌++◌, Option}
 use Rattle.portal_base.specs.Outside.{HasRisen, Short, onto}
 use Rattle.portal_steps.specs.Story.{state_now}
 use Rattle.portal_model.specs.declared.entry.Entry.{Entry}
@@ -11,7 +11,7 @@ use Rattle.script_replay.specs.declared.error.LineError.{LineError}
 use Rattle.script_replay.specs.declared.error.LineError.TheVariants as line
 use Rattle.script_replay.specs.Lines.{Does}
 use Rattle.script_replay.specs.Scenes.{Scene, ScriptPortal}
-use Rattle.script_replay.specs.Steps.{AreFirst, WritesPart, scene}
+use Rattle.script_replay.specs.Steps.{scene}
 
 -- Lines are run, each from the scene that the one before it left: these are their entries and their
 -- output.
@@ -43,21 +43,20 @@ pub record PlaysAll (old new : ScriptPortal) (lines : List ScriptLine)
   pub state : state_now new.story ≡ last.portal
   pub output : told' ≡ onto told out
 
--- such a part of the output of some of them is written
-pub record PlaysPart (IsPart : List (List ℕ) → List (List ℕ) → Type 0) (a : Scene)
-    (lines : List ScriptLine) (told told' : Option (List (List ℕ))) : Type 0 where
+-- of the output of some of them some whole pieces are written, and a front of the next or nothing
+pub record PlaysPart (a : Scene) (lines : List ScriptLine) (told told' : Option (List (List ℕ)))
+    : Type 0 where
   pub front : List ScriptLine
   pub history : List Entry
   pub out : List (List ℕ)
   pub last : Scene
   pub plays : PlaysFront a lines front history out last
   pub pieces : List (List ℕ)
-  pub part : IsPart pieces out
+  pub part : Short pieces out
   pub output : told' ≡ onto told pieces
 
--- Where the lines end at which there was no memory, and what is written then: all output of those
--- before it; and of the line itself nothing, as where a request of it found no memory, or the first
--- pieces of its output, where each of its requests is an entry.
+-- There was no memory at one of the lines: all output of those before it is written, and nothing of
+-- its own, whichever of its requests were answered.
 pub record PlaysUpTo (a : Scene) (lines : List ScriptLine) (told told' : Option (List (List ℕ)))
     : Type 0 where
   pub front : List ScriptLine
@@ -68,7 +67,7 @@ pub record PlaysUpTo (a : Scene) (lines : List ScriptLine) (told told' : Option 
   pub out : List (List ℕ)
   pub last : Scene
   pub plays : Plays a front history out last
-  pub ends : (told' ≡ onto told out) ⊎ WritesPart AreFirst last line (onto told out) told'
+  pub output : told' ≡ onto told out
 
 -- why not all lines are run; only a fault is counted
 abbrev pub PlayStops : Scene → List ScriptLine → Option (List (List ℕ)) → ℕ → Option (List (List ℕ))
@@ -78,7 +77,7 @@ PlayStops a lines told faults told' faults' Usage = ⊥
 PlayStops a lines told faults told' faults' (ScriptFault line) = ⊥
 PlayStops a lines told faults told' faults' ReadFault = ⊥
 PlayStops a lines told faults told' faults' WriteFault =
-    HasRisen faults faults' × PlaysPart Short a lines told told'
+    HasRisen faults faults' × PlaysPart a lines told told'
 PlayStops a lines told faults told' faults' Memory =
     (faults' ≡ faults) × PlaysUpTo a lines told told'
 PlayStops a lines told faults told' faults' TooLong = ⊥

@@ -1,5 +1,5 @@
 -- What running one line comes to.
-use Rattle.std.specs.Prelude.{◌≡◌, ◌⊎◌, ℕ, ◌+◌, ◌*◌, ◌≤◌, ◌++◌, true, false, List, [], length, take}
+use Rattle.std.specs.Prelude.{◌≡◌, ℕ, ◌+◌, ◌*◌, ◌≤◌, ◌++◌, true, false, List, [], length}
 use Rattle.std.specs.Prelude.{Option, None, IfSome}
 use Rattle.std.specs.List.{list_any}
 use Rattle.std.specs.Option.{option_map}
@@ -97,31 +97,25 @@ pub record Opens (old : ScriptPortal) (table : List (Option Standing)) (new : Sc
   pub does : Does (scene old table) line entries [] (scene new table')
   pub history : new.story.history ≡ old.story.history ++ entries
 
--- these are the first of some pieces, each of them whole
-abbrev pub AreFirst : List (List ℕ) → List (List ℕ) → Type 0
-AreFirst first pieces = (count : ℕ) × (first ≡ take count pieces)
-
--- writing these lines broke off: at a fault some of them are written, and a front of the next or
--- nothing; where there was no memory some are, each of them whole. Only a fault is counted
+-- writing these lines broke off at a fault: some of them are written, and a front of the next or
+-- nothing
 abbrev pub WritesShort : List (List ℕ) → Option (List (List ℕ)) → ℕ → Option (List (List ℕ)) → ℕ
     → LineError → Type 0
 WritesShort lines told faults told' faults' WriteFault = HasRisen faults faults'
     × ((pieces : List (List ℕ)) × Short pieces lines × (told' ≡ onto told pieces))
-WritesShort lines told faults told' faults' Memory = (faults' ≡ faults)
-    × ((pieces : List (List ℕ)) × AreFirst pieces lines × (told' ≡ onto told pieces))
+WritesShort lines told faults told' faults' Memory = ⊥
 
--- such a part of a line's output is written
-abbrev pub WritesPart : (List (List ℕ) → List (List ℕ) → Type 0) → Scene → ScriptLine
-    → Option (List (List ℕ)) → Option (List (List ℕ)) → Type 0
-WritesPart IsPart a line told told' =
+-- some whole pieces of a line's output are written, and a front of the next or nothing
+abbrev pub WritesPart : Scene → ScriptLine → Option (List (List ℕ)) → Option (List (List ℕ))
+    → Type 0
+WritesPart a line told told' =
     (entries : List Entry) × (out : List (List ℕ)) × (b : Scene) × (pieces : List (List ℕ))
-    × Does a line entries out b × IsPart pieces out × (told' ≡ onto told pieces)
+    × Does a line entries out b × Short pieces out × (told' ≡ onto told pieces)
 
--- why a line was not run: a write of its output failed, or there was no memory. Only a fault is
--- counted
+-- Why a line was not run: a write of its output failed, or there was no memory, and then nothing of
+-- it is written. Only a fault is counted.
 abbrev pub Breaks : Scene → ScriptLine → Option (List (List ℕ)) → ℕ → Option (List (List ℕ)) → ℕ
     → LineError → Type 0
 Breaks a line told faults told' faults' WriteFault =
-    HasRisen faults faults' × WritesPart Short a line told told'
-Breaks a line told faults told' faults' Memory =
-    (faults' ≡ faults) × ((told' ≡ told) ⊎ WritesPart AreFirst a line told told')
+    HasRisen faults faults' × WritesPart a line told told'
+Breaks a line told faults told' faults' Memory = (faults' ≡ faults) × (told' ≡ told)

@@ -1,6 +1,6 @@
 //! Running one line of a script.
 
-ghost use Rattle.std.specs.Prelude.{◌≡◌, ◌≤◌, ◌<◌, [], ◌∷◌, Some, map, true, IfErr, OnOk};
+ghost use Rattle.std.specs.Prelude.{◌≡◌, ◌≤◌, ◌<◌, [], ◌∷◌, ◌++◌, Some, map, true, IfErr, IfOk, OnOk};
 ghost use Rattle.portal_base.specs.Outside.{onto};
 ghost use Rattle.portal_steps.specs.Story.{state_first, state_now};
 ghost use Rattle.portal_model.specs.declared.request.Request.{Request};
@@ -17,7 +17,7 @@ use crate::output::{end_line, out_line};
 use crate::seats::{begin, end, hear};
 use crate::start::ScriptPortal;
 use portal_base::limits::Settings;
-use portal_base::list::ByteList;
+use portal_base::list::{ByteList, List};
 use portal_base::outside::{Sink, WriteAnswer};
 use portal_base::who::{Kind, Who};
 use script_lines::script::ScriptLine;
@@ -26,6 +26,7 @@ use std::alloc::Global;
 
 /// Runs a line: a connection is opened or closed at the portal, bytes come on
 /// one, or its clock is set, and each line of output is written as one piece.
+/// Where there is no memory, nothing is written.
 pub fn run_line<K: Sink>(
     alloc: Global,
     portal: &mut ScriptPortal,
@@ -105,23 +106,16 @@ fn data<K: Sink>(
         // script may be faulty for what its bytes meant.
         None => return Ok(()),
     };
-    // The output of a line is gathered and written once all its items are answered: none is
-    // written of a line one of whose requests found no memory.
-    let heard = match hear(alloc, portal, seat, &mut session, bytes.as_slice()) {
-        Ok(heard) => heard,
-        Err(error) => return Err(error),
-    };
-    match write_pieces(alloc, seat, heard.written.pieces().as_slice(), sink) {
-        Ok(()) => {}
-        Err(error) => return Err(error),
-    }
+    // The output of a line is put into words before any of it is written: of a line at which there
+    // is no memory nothing is.
+    let heard = hear(alloc, portal, seat, &mut session, bytes.as_slice())?;
+    let lines = out_lines(alloc, seat, heard.written.pieces().as_slice())?;
     if heard.is_over {
-        return leave(alloc, portal, seat, session, sink);
+        let all = leave(alloc, portal, seat, session, lines)?;
+        return write_lines(all.as_slice(), sink);
     }
-    match connections.put(seat, session) {
-        Ok(()) => Ok(()),
-        Err(_) => Err(LineError::Memory),
-    }
+    connections.put(seat, session)?;
+    write_lines(lines.as_slice(), sink)
 }
 
 fn close<K: Sink>(
@@ -140,56 +134,58 @@ fn close<K: Sink>(
         (K.told sink.old) (K.faults sink.old) (K.told sink.new) (K.faults sink.new)) }
 {
     match connections.take(seat) {
-        Some(session) => leave(alloc, portal, seat, session, sink),
+        Some(session) => {
+            let all = leave(alloc, portal, seat, session, List::new(alloc))?;
+            write_lines(all.as_slice(), sink)
+        }
         None => Ok(()),
     }
 }
 
-/// Closes the connection of a session, and writes how it ended.
-fn leave<K: Sink>(
+/// Closes the connection of a session, and puts how it ended behind lines of output.
+fn leave(
     alloc: Global,
     portal: &mut ScriptPortal,
     seat: u32,
     session: Session,
-    sink: &mut K,
-) -> Result<(), LineError>
+    mut lines: List<ByteList>,
+) -> Result<List<ByteList>, LineError>
     requires told { (state_first portal.old.story).told ≡ true }
     requires seat { 1 ≤ seat }
     requires open { bound (state_now portal.old.story) seat ≡ Some (binding session) }
     ensures opening { state_first portal.new.story ≡ state_first portal.old.story }
     ensures left { Asked portal.old portal.new seat (Request.Leave ∷ []) }
-    ensures ok { OnOk result (K.told sink.new ≡ onto (K.told sink.old)
-        (line_of_ending seat (ending session.fed session.rest) ∷ [])) }
-    ensures counts { OnOk result (K.faults sink.new ≡ K.faults sink.old) }
-    ensures err { IfErr result (WritesShort
-        (line_of_ending seat (ending session.fed session.rest) ∷ []) (K.told sink.old)
-        (K.faults sink.old) (K.told sink.new) (K.faults sink.new)) }
+    ensures ok { IfOk result (λ all. all
+        ≡ lines ++ line_of_ending seat (ending session.fed session.rest) ∷ []) }
+    ensures err { IfErr result (λ e. e ≡ LineError.Memory) }
 {
     let served = end(alloc, portal, seat, session);
-    let Ok(line) = end_line(alloc, seat, served) else {
-        return Err(LineError::Memory);
-    };
-    write(sink, line.as_slice())
+    let line = end_line(alloc, seat, served)?;
+    lines.push(line)?;
+    Ok(lines)
 }
 
-/// Writes a line of output for each piece.
-fn write_pieces<K: Sink>(
-    alloc: Global,
-    seat: u32,
-    pieces: &[ByteList],
-    sink: &mut K,
-) -> Result<(), LineError>
-    ensures ok { OnOk result (K.told sink.new ≡ onto (K.told sink.old)
-        (map (line_of_piece seat) pieces.now)) }
-    ensures counts { OnOk result (K.faults sink.new ≡ K.faults sink.old) }
-    ensures err { IfErr result (WritesShort (map (line_of_piece seat) pieces.now) (K.told sink.old)
-        (K.faults sink.old) (K.told sink.new) (K.faults sink.new)) }
+/// A line of output for each piece.
+fn out_lines(alloc: Global, seat: u32, pieces: &[ByteList]) -> Result<List<ByteList>, LineError>
+    ensures ok { IfOk result (λ lines. lines ≡ map (line_of_piece seat) pieces.now) }
+    ensures err { IfErr result (λ e. e ≡ LineError.Memory) }
 {
+    let mut lines = List::new(alloc);
     for piece in pieces {
-        let Ok(line) = out_line(alloc, seat, piece.as_slice()) else {
-            return Err(LineError::Memory);
-        };
-        // Each line is written as one piece: so what is written at `Memory` is whole lines.
+        let line = out_line(alloc, seat, piece.as_slice())?;
+        lines.push(line)?;
+    }
+    Ok(lines)
+}
+
+/// Writes lines, each as one piece.
+fn write_lines<K: Sink>(lines: &[ByteList], sink: &mut K) -> Result<(), LineError>
+    ensures ok { OnOk result (K.told sink.new ≡ onto (K.told sink.old) lines.now) }
+    ensures counts { OnOk result (K.faults sink.new ≡ K.faults sink.old) }
+    ensures err { IfErr result (WritesShort lines.now (K.told sink.old) (K.faults sink.old)
+        (K.told sink.new) (K.faults sink.new)) }
+{
+    for line in lines {
         match write(sink, line.as_slice()) {
             Ok(()) => {}
             Err(error) => return Err(error),

@@ -1,8 +1,10 @@
-use Rattle.std.proofs.Common.{◌∙◌, subst, sym, length, ◌+◌, ◌*◌, ◌++◌, ◌≤◌, ℕ, List}
+use Rattle.std.proofs.Common.{◌∙◌, ap, subst, sym, length, ◌+◌, ◌*◌, ◌++◌, ◌≤◌, ℕ, List}
 use Rattle.portal_steps.specs.Story.{limit_of}
 use Rattle.portal_model.specs.History.{cost}
+use Rattle.portal_base.specs.Outside.{onto}
 use Rattle.session.specs.Standings.{longest}
-use Rattle.script_replay.proofs.RunLine.{all_written, answered_at, data_passes, data_room, data_space, if_err, last_breaks, last_runs, on_ok, on_runs, pieces_break}
+use Rattle.script_replay.specs.Steps.{WritesShort}
+use Rattle.script_replay.proofs.RunLine.{answered_at, data_passes, data_room, data_space, if_err, last_breaks, last_runs, on_breaks, on_ok, on_runs}
 use Rattle.script_replay.proofs.line.data.Goals as goal
 
 pub returns-in-None-clause-ok : goal.returns-in-None-clause-ok
@@ -18,33 +20,30 @@ hear-requires-clause-room g c =
     subst (λ (z : List ℕ). cost c.args.portal.now.story.history + 8 * length (c.in-Some.session.rest ++ z) ≤ limit_of c.args.portal.now.story) (sym c.as_slice.ensures)
     (data_room c.args.portal.now c.args.connections.now c.args.seat c.args.bytes.now c.in-Some.session c.requires.may c.in-Some.ensures.taken)
 
-pub returns-in-Err-write_pieces-clause-err : goal.returns-in-Err-write_pieces-clause-err
-returns-in-Err-write_pieces-clause-err g c =
-    pieces_break c.args.portal.now c.hear.new.portal c.args.connections.now c.args.seat c.in-Some.session c.hear.new.session c.args.bytes.now c.in-Ok.heard.written.pieces c.as_slice-2.result.now c.in-Ok.heard.is_over
-    (answered_at _ _ _ _ _ _ c.as_slice.result.now _ _ _ c.in-Some.ensures.taken c.as_slice.ensures c.in-Ok.ensures.opening c.in-Ok.ensures.ok) (c.as_slice-2.ensures ∙ c.pieces.ensures) _ _ _ _ c.in-Err-write_pieces.error c.in-Err-write_pieces.ensures.err
-
 pub returns-then-heard-clause-ok : goal.returns-then-heard-clause-ok
 returns-then-heard-clause-ok g c =
-    on_ok _ _ _ (last_runs c.args.portal.now c.hear.new.portal c.args.connections.now c.args.seat c.in-Some.session c.hear.new.session c.args.bytes.now c.in-Ok.heard.written.pieces c.as_slice-2.result.now c.in-Ok.heard.is_over
-    (answered_at _ _ _ _ _ _ c.as_slice.result.now _ _ _ c.in-Some.ensures.taken c.as_slice.ensures c.in-Ok.ensures.opening c.in-Ok.ensures.ok) (c.as_slice-2.ensures ∙ c.pieces.ensures)
-    c.if-heard.true c.leave.new.portal c.take.new.self _ _ _ c.leave.ensures.opening c.leave.ensures.left c.take.ensures.left c.in-Ok-write_pieces.ensures.ok)
-    c.leave.ensures.ok
+    on_ok _ _ _ (λ wrote. last_runs c.args.portal.now c.hear.new.portal c.args.connections.now c.args.seat c.in-Some.session c.hear.new.session c.args.bytes.now c.in_ok-heard.heard.written.pieces c.as_slice-2.result.now c.in_ok-lines.lines c.in_ok-heard.heard.is_over
+    (answered_at _ _ _ _ _ _ c.as_slice.result.now _ _ _ c.in-Some.ensures.taken c.as_slice.ensures c.in_ok-heard.ensures.opening c.in_ok-heard.ensures.ok) (c.as_slice-2.ensures ∙ c.pieces.ensures) c.in_ok-lines.ensures.ok
+    c.if-heard.true c.in_ok-all.all c.in_ok-all.ensures.ok c.leave.new.portal c.take.new.self _ _ c.leave.ensures.opening c.leave.ensures.left c.take.ensures.left (wrote ∙ ap (onto _) c.as_slice-then-heard.ensures))
+    c.write_lines.ensures.ok
 
 pub returns-then-heard-clause-err : goal.returns-then-heard-clause-err
 returns-then-heard-clause-err g c =
-    if_err _ _ _ (last_breaks c.args.portal.now c.hear.new.portal c.args.connections.now c.args.seat c.in-Some.session c.hear.new.session c.args.bytes.now c.in-Ok.heard.written.pieces c.as_slice-2.result.now c.in-Ok.heard.is_over
-    (answered_at _ _ _ _ _ _ c.as_slice.result.now _ _ _ c.in-Some.ensures.taken c.as_slice.ensures c.in-Ok.ensures.opening c.in-Ok.ensures.ok) (c.as_slice-2.ensures ∙ c.pieces.ensures)
-    c.if-heard.true _ _ _ _ _ _ c.in-Ok-write_pieces.ensures.counts c.in-Ok-write_pieces.ensures.ok)
-    c.leave.ensures.err
+    if_err _ _ _ (λ error broke. last_breaks c.args.portal.now c.hear.new.portal c.args.connections.now c.args.seat c.in-Some.session c.hear.new.session c.args.bytes.now c.in_ok-heard.heard.written.pieces c.as_slice-2.result.now c.in_ok-lines.lines c.in_ok-heard.heard.is_over
+    (answered_at _ _ _ _ _ _ c.as_slice.result.now _ _ _ c.in-Some.ensures.taken c.as_slice.ensures c.in_ok-heard.ensures.opening c.in_ok-heard.ensures.ok) (c.as_slice-2.ensures ∙ c.pieces.ensures) c.in_ok-lines.ensures.ok
+    c.if-heard.true c.in_ok-all.all c.in_ok-all.ensures.ok (g.K.Sink.told c.args.sink.now) (g.K.Sink.told c.write_lines.new.sink) (g.K.Sink.faults c.args.sink.now) (g.K.Sink.faults c.write_lines.new.sink) error (subst (λ (z : List (List ℕ)). WritesShort z (g.K.Sink.told c.args.sink.now) (g.K.Sink.faults c.args.sink.now) (g.K.Sink.told c.write_lines.new.sink) (g.K.Sink.faults c.write_lines.new.sink) error) c.as_slice-then-heard.ensures broke))
+    c.write_lines.ensures.err
 
-pub returns-in-Ok-put-clause-ok : goal.returns-in-Ok-put-clause-ok
-returns-in-Ok-put-clause-ok g c =
-    on_runs c.args.portal.now c.hear.new.portal c.args.connections.now c.args.seat c.in-Some.session c.hear.new.session c.args.bytes.now c.in-Ok.heard.written.pieces c.as_slice-2.result.now c.in-Ok.heard.is_over
-    (answered_at _ _ _ _ _ _ c.as_slice.result.now _ _ _ c.in-Some.ensures.taken c.as_slice.ensures c.in-Ok.ensures.opening c.in-Ok.ensures.ok) (c.as_slice-2.ensures ∙ c.pieces.ensures)
-    c.if-heard.false c.take.new.self c.put.new.self _ _ c.take.ensures.left c.in-Ok-put.ensures.ok c.in-Ok-write_pieces.ensures.ok
+pub returns-clause-ok : goal.returns-clause-ok
+returns-clause-ok g c =
+    on_ok _ _ _ (λ wrote. on_runs c.args.portal.now c.hear.new.portal c.args.connections.now c.args.seat c.in-Some.session c.hear.new.session c.args.bytes.now c.in_ok-heard.heard.written.pieces c.as_slice-2.result.now c.in_ok-lines.lines c.in_ok-heard.heard.is_over
+    (answered_at _ _ _ _ _ _ c.as_slice.result.now _ _ _ c.in-Some.ensures.taken c.as_slice.ensures c.in_ok-heard.ensures.opening c.in_ok-heard.ensures.ok) (c.as_slice-2.ensures ∙ c.pieces.ensures) c.in_ok-lines.ensures.ok
+    c.if-heard.false c.take.new.self c.put.new.self _ _ c.take.ensures.left c.in_ok-put.ensures.ok (wrote ∙ ap (onto _) c.as_slice-3.ensures))
+    c.write_lines-2.ensures.ok
 
 pub returns-clause-err : goal.returns-clause-err
 returns-clause-err g c =
-    all_written c.args.portal.now c.hear.new.portal c.args.connections.now c.args.seat c.in-Some.session c.hear.new.session c.args.bytes.now c.in-Ok.heard.written.pieces c.as_slice-2.result.now c.in-Ok.heard.is_over
-    (answered_at _ _ _ _ _ _ c.as_slice.result.now _ _ _ c.in-Some.ensures.taken c.as_slice.ensures c.in-Ok.ensures.opening c.in-Ok.ensures.ok) (c.as_slice-2.ensures ∙ c.pieces.ensures)
-    _ _ _ _ c.in-Ok-write_pieces.ensures.counts c.in-Ok-write_pieces.ensures.ok
+    if_err _ _ _ (λ error broke. on_breaks c.args.portal.now c.hear.new.portal c.args.connections.now c.args.seat c.in-Some.session c.hear.new.session c.args.bytes.now c.in_ok-heard.heard.written.pieces c.as_slice-2.result.now c.in_ok-lines.lines c.in_ok-heard.heard.is_over
+    (answered_at _ _ _ _ _ _ c.as_slice.result.now _ _ _ c.in-Some.ensures.taken c.as_slice.ensures c.in_ok-heard.ensures.opening c.in_ok-heard.ensures.ok) (c.as_slice-2.ensures ∙ c.pieces.ensures) c.in_ok-lines.ensures.ok
+    c.if-heard.false (g.K.Sink.told c.args.sink.now) (g.K.Sink.told c.write_lines-2.new.sink) (g.K.Sink.faults c.args.sink.now) (g.K.Sink.faults c.write_lines-2.new.sink) error (subst (λ (z : List (List ℕ)). WritesShort z (g.K.Sink.told c.args.sink.now) (g.K.Sink.faults c.args.sink.now) (g.K.Sink.told c.write_lines-2.new.sink) (g.K.Sink.faults c.write_lines-2.new.sink) error) c.as_slice-3.ensures broke))
+    c.write_lines-2.ensures.err
