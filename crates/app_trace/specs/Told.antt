@@ -1,26 +1,50 @@
 -- What the plain data stand for.
-use Rattle.std.specs.Prelude.{map}
+use Rattle.std.specs.Prelude.{List, [], map, Bool, true, false, not}
+use Rattle.std.specs.List.{filter}
+use Rattle.portal_base.specs.declared.files.File as file
+use Rattle.portal_model.specs.Opening.{file_of}
 use Rattle.portal_model.specs.Content as content
 use Rattle.app_world.specs.TraceItem as item
 use Rattle.app_world.specs.View as view
 use Rattle.app_world.specs.World as world
 use Rattle.app_trace.specs.declared.trace.Trace.{Trace}
 use Rattle.app_trace.specs.declared.trace.TraceItem.{TraceItem}
-use Rattle.app_trace.specs.declared.trace.TraceItem.TheVariants.{Own, Gained, Lost, Gone, Bytes}
+use Rattle.app_trace.specs.declared.trace.TraceItem.TheVariants.{Own, Gained, Lost, Gone, Bytes, Turned}
 use Rattle.app_trace.specs.declared.view.AppView.{AppView}
 use Rattle.app_trace.specs.declared.view.Content.{Content}
-use Rattle.app_trace.specs.declared.view.Content.TheVariants.{File, Folder, Missing}
+use Rattle.app_trace.specs.declared.view.Content.TheVariants.{File, Folder, Missing, Below}
 use Rattle.app_trace.specs.declared.view.HeldDocument.{HeldDocument}
+use Rattle.app_trace.specs.declared.view.NamedFile.{NamedFile}
 use Rattle.app_trace.specs.declared.view.OwnConnection.{OwnConnection}
 use Rattle.app_trace.specs.declared.view.OwnHandle.{OwnHandle}
 use Rattle.app_trace.specs.declared.view.PathContent.{PathContent}
 
 -- ---- what an application holds
 
+-- a file that stands at its path or below the path of a document
+abbrev pub is_below : Content → Bool
+is_below (File generation bytes moment) = false
+is_below Folder = false
+is_below (Missing room) = false
+is_below (Below files) = true
+
+abbrev pub holding_told : Content → view.Holding
+holding_told (File generation bytes moment) =
+    view.Alone (content.OfFile generation bytes moment)
+holding_told Folder = view.Alone content.OfFolder
+holding_told (Missing room) = view.Alone (content.NotThere room)
+holding_told (Below files) = view.Below (map file_of files)
+
+abbrev pub content_in : view.Holding → content.Content
+content_in (view.Alone c) = c
+content_in (view.Below files) = content.OfFolder
+
 abbrev pub content_told : Content → content.Content
-content_told (File generation bytes moment) = content.OfFile generation bytes moment
-content_told Folder = content.OfFolder
-content_told (Missing room) = content.NotThere room
+content_told c = content_in (holding_told c)
+
+abbrev pub files_in : view.Holding → List file.File
+files_in (view.Alone c) = []
+files_in (view.Below files) = files
 
 abbrev pub held_told : HeldDocument → view.HeldDocument
 held_told d = record { document = d.document; rights = d.rights }
@@ -44,6 +68,13 @@ connection_told c = record {
 abbrev pub path_told : PathContent → view.PathContent
 path_told c = record { path = c.path; content = content_told c.content }
 
+abbrev pub below_told : PathContent → view.PathBelow
+below_told c = record { path = c.path; files = files_in (holding_told c.content) }
+
+abbrev pub file_told : NamedFile → view.NamedFile
+file_told f = record { name = f.name; bytes = f.bytes; moment = f.moment }
+
+-- contents of folders that are exported stand among the others
 abbrev pub view_told : AppView → view.AppView
 view_told v = record {
   handles = v.handles;
@@ -51,7 +82,9 @@ view_told v = record {
   file_bytes = v.file_bytes;
   documents = map held_told v.documents;
   connections = map connection_told v.connections;
-  contents = map path_told v.contents;
+  contents = map path_told (filter (λ c. not (is_below c.content)) v.contents);
+  below = map below_told (filter (λ c. is_below c.content) v.contents);
+  files = map file_told v.files;
 }
 
 -- ---- what happens to it
@@ -62,17 +95,18 @@ item_told (Own seat request now numbers shown reused looks full fault generation
   request = request;
   now = now;
   numbers = numbers;
-  shown = map content_told shown;
+  shown = map holding_told shown;
   reused = reused;
   looks = looks;
   full = full;
   fault = fault;
   generation = generation;
 })
-item_told (Gained document rights content) = item.Gained document rights (content_told content)
+item_told (Gained document rights content) = item.Gained document rights (holding_told content)
 item_told (Lost id rights) = item.Lost id rights
 item_told (Gone id) = item.Gone id
 item_told (Bytes path generation content) = item.Bytes path generation (content_told content)
+item_told (Turned path generation content) = item.Turned path generation (content_told content)
 
 abbrev pub trace_told : Trace → world.Trace
 trace_told t = record { opening = view_told t.opening; items = map item_told t.items }

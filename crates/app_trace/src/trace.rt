@@ -67,6 +67,15 @@ pub enum TraceItem {
         /// What the file is now.
         content: Content,
     },
+    /// A file stands at its path from now on, in place of any other.
+    Turned {
+        /// The path.
+        path: HostPath,
+        /// Which of the files that the path has had.
+        generation: u64,
+        /// What the file is.
+        content: Content,
+    },
 }
 
 /// What an application holds at first, and what then happens to it.

@@ -1,11 +1,13 @@
 //! What an application holds of a state of the portal.
 
+use portal_base::files::FileName;
 use portal_base::list::{ByteList, List};
 use portal_base::names::app_id::AppId;
 use portal_base::names::host_path::HostPath;
 use portal_base::who::Kind;
 use portal_model::handle::Handle;
 use portal_model::naming::Naming;
+use portal_model::opening::FileItem;
 use portal_model::state::Document;
 use portal_model::temporary::OwnTemp;
 use rights_rule::Rights;
@@ -29,6 +31,11 @@ pub enum Content {
         /// Whether a file may be made there, which is where the parent is a
         /// folder.
         room: bool,
+    },
+    /// Of a document that is a folder: what stands at its path or below it.
+    Below {
+        /// The files, in order of their paths.
+        files: List<FileItem>,
     },
 }
 
@@ -75,6 +82,18 @@ pub struct OwnConnection {
     pub added: u32,
 }
 
+/// A file that an open handle or a temporary names, whether or not it stands at
+/// its path.
+#[derive(Drop)]
+pub struct NamedFile {
+    /// Its name.
+    pub name: FileName,
+    /// Its bytes.
+    pub bytes: ByteList,
+    /// When it changed last, in seconds.
+    pub moment: u64,
+}
+
 /// What the tree has at a path that a document or an open file names.
 #[derive(Drop)]
 pub struct PathContent {
@@ -98,6 +117,10 @@ pub struct AppView {
     pub documents: List<HeldDocument>,
     /// Its connections, in the order in which they were opened.
     pub connections: List<OwnConnection>,
-    /// What is at each path that these name, in byte order of the paths.
+    /// What is at each path that these name, in byte order of the paths; of a
+    /// path of which a folder is exported too, that stands behind.
     pub contents: List<PathContent>,
+    /// The files that are there of those that open handles and temporaries name,
+    /// in byte order of their paths and by their generations.
+    pub files: List<NamedFile>,
 }

@@ -29,7 +29,7 @@ use Rattle.app_world.specs.View.{AppView, OwnConnection}
 abbrev pub own_bus_verdict : AppView → OwnConnection → Own → Request → Option OwnVerdict
 own_bus_verdict v c own (Request.Present path) = Some (own_present v c path)
 own_bus_verdict v c own (Request.Add a) =
-    walked (own_add v c a own) (moment_given own.now) (own_looks own) (is_tree own.fault)
+    walked (own_add v c a own) (moment_given own.now) None (own_looks own) (is_tree own.fault)
 own_bus_verdict v c own (Request.Grant call) = Some (own_grant v call)
 own_bus_verdict v c own (Request.Revoke call) = Some (own_revoke c.app v call)
 own_bus_verdict v c own (Request.DeleteDocument doc) = Some (own_delete_document v doc)

@@ -1,23 +1,29 @@
 -- What others change of the view of one application.
-use Rattle.std.specs.Prelude.{ℕ, ◌==◌, List, [], ◌∷◌, not, map, cond, Bool, Option, Some, None}
+use Rattle.std.specs.Prelude.{ℕ, ◌==◌, ◌&&◌, List, [], ◌∷◌, fold, not, map, cond, Bool, true, Option, Some, None}
 use Rattle.std.specs.List.{filter}
+use Rattle.portal_base.specs.Content.{file_at}
+use Rattle.portal_base.specs.FileChanges.{put_file}
 use Rattle.portal_base.specs.Names.{is_same}
+use Rattle.portal_base.specs.declared.files.File.{File}
+use Rattle.portal_base.specs.declared.files.FileName.{FileName}
 use Rattle.portal_base.specs.declared.names.doc_id.DocId.{DocId}
 use Rattle.rights_rule.specs.Rights.{RightSet, union, minus}
 use Rattle.portal_model.specs.declared.state.Document.{Document}
 use Rattle.portal_model.specs.Content.{Content, OfFile, OfFolder, NotThere}
 use Rattle.portal_model.specs.Ordered.{put}
-use Rattle.app_world.specs.View.{AppView, HeldDocument, PathContent, number_of, lower, ahead, found_document, found_content, prune}
+use Rattle.app_world.specs.View.{AppView, HeldDocument, Holding, Alone, Below, NamedFile, PathBelow, PathContent, number_of, lower, ahead, below_ahead, found_below, found_document, found_content, is_at_or_below, prune, same_name}
 
 pub data Effect : Type 0 where
-  -- rights in a document, which joins the view with its content where it was not there
-  Gained : Document → RightSet → Content → Effect
+  -- rights in a document, which joins the view with what there is for it where it was not there
+  Gained : Document → RightSet → Holding → Effect
   -- rights in a document are taken away
   Lost : DocId → RightSet → Effect
   -- a document is deleted
   Gone : DocId → Effect
   -- the file of this path and generation has another content
   Bytes : List ℕ → ℕ → Content → Effect
+  -- the file of this path and generation stands at the path from now on, and has this content
+  Turned : List ℕ → ℕ → Content → Effect
 
 -- A document that was there stays as it was, with more rights. One that was not joins with these
 abbrev pub with_more : Document → RightSet → Option HeldDocument → HeldDocument
@@ -28,6 +34,19 @@ with_more d more (Some x) = record x { rights = union x.rights more }
 abbrev pub with_content : List ℕ → Content → Option PathContent → PathContent
 with_content path content None = record { path = path; content = content }
 with_content path content (Some c) = c
+
+abbrev pub with_below : List ℕ → List File → Option PathBelow → PathBelow
+with_below path files None = record { path = path; files = files }
+with_below path files (Some b) = b
+
+-- what there is for a document, where it was not there
+abbrev pub with_holding : Document → Holding → AppView → AppView
+with_holding d (Alone content) v = record v {
+  contents = put ahead (with_content d.path content (found_content v.contents d.path)) v.contents;
+}
+with_holding d (Below files) v = record v {
+  below = put below_ahead (with_below d.path files (found_below v.below d.path)) v.below;
+}
 
 -- the document of this number with fewer rights
 abbrev pub less_held : ℕ → RightSet → HeldDocument → HeldDocument
@@ -50,15 +69,62 @@ with_bytes path generation new c =
     (record c { content = changed_content generation new c.content })
     c
 
+-- ---- the bytes of a file
+
+-- a file as it is known by its name, wherever that is
+abbrev pub with_file_bytes : FileName → Content → NamedFile → NamedFile
+with_file_bytes name (OfFile generation bytes moment) f =
+    cond (same_name f.name name) (record f { bytes = bytes; moment = moment }) f
+with_file_bytes name OfFolder f = f
+with_file_bytes name (NotThere room) f = f
+
+-- and below a document that is a folder: where nothing is, a first file may come
+abbrev pub file_of_content : List ℕ → Content → List File
+file_of_content path (OfFile generation bytes moment) =
+    record { path = path; generation = generation; bytes = bytes; moment = moment; present = true }
+    ∷ []
+file_of_content path OfFolder = []
+file_of_content path (NotThere room) = []
+
+-- in place of the file that stands at the path
+abbrev pub with_file_at : List ℕ → Content → List File → List File
+with_file_at path new files =
+    fold (λ fs f. put_file f fs) (filter (λ f. not (is_same f.path path)) files)
+    (file_of_content path new)
+
+abbrev pub may_change_below : ℕ → Option File → Bool
+may_change_below generation None = generation == 0
+may_change_below generation (Some f) = f.generation == generation
+
+abbrev pub with_bytes_below : List ℕ → ℕ → Content → PathBelow → PathBelow
+with_bytes_below path generation new b =
+    cond (is_at_or_below b.path path && may_change_below generation (file_at b.files path))
+    (record b { files = with_file_at path new b.files }) b
+
+-- ---- a file that stands at its path from now on
+
+abbrev pub with_turned : List ℕ → Content → PathContent → PathContent
+with_turned path new c = cond (is_same c.path path) (record c { content = new }) c
+
+abbrev pub with_turned_below : List ℕ → Content → PathBelow → PathBelow
+with_turned_below path new b =
+    cond (is_at_or_below b.path path) (record b { files = with_file_at path new b.files }) b
+
 abbrev pub changed : AppView → Effect → AppView
-changed v (Gained d more content) = record v {
+changed v (Gained d more holding) = with_holding d holding (record v {
   documents = put lower (with_more d more (found_document v.documents d.id.number)) v.documents;
-  contents = put ahead (with_content d.path content (found_content v.contents d.path)) v.contents;
-}
+})
 changed v (Lost id less) = record v { documents = map (less_held id.number less) v.documents }
 changed v (Gone id) = record v { documents = filter (is_other id.number) v.documents }
 changed v (Bytes path generation new) = record v {
   contents = map (with_bytes path generation new) v.contents;
+  below = map (with_bytes_below path generation new) v.below;
+  files =
+      map (with_file_bytes (record { path = path; generation = generation }) new) v.files;
+}
+changed v (Turned path generation new) = record v {
+  contents = map (with_turned path new) v.contents;
+  below = map (with_turned_below path new) v.below;
 }
 
 -- and what then has no right or no name leaves the view

@@ -6,6 +6,7 @@ pub mod OwnFolders
 pub mod Parents
 pub mod DocIdDigits
 pub mod PathsAbove
+pub mod ParentAbove
 pub mod RefusedNames
 pub mod RisingNumbers
 pub mod NoZeros

@@ -1,5 +1,5 @@
 -- Paths that lie above others, and the parent of a path: where a file is made no file lies above it.
-use Rattle.std.proofs.Common.{◌≡◌, ℕ, ◌+◌, ◌-◌, ◌<◌, ◌≤◌, suc, List, [], ◌∷◌, ◌++◌, length, take, reverse, Bool, true, false, not, ◌&&◌, ◌||◌, cond, refl, sym, ap, subst, ◌∙◌, ◌⊎◌, arith, ⊎_elim, inl, inr, length-append, leb, nat_eq, slice_index}
+use Rattle.std.proofs.Common.{◌≡◌, ℕ, ◌+◌, ◌-◌, ◌<◌, ◌≤◌, suc, List, [], ◌∷◌, ◌++◌, length, map, take, reverse, Bool, true, false, not, ◌&&◌, ◌||◌, cond, refl, sym, ap, subst, ◌∙◌, ◌⊎◌, arith, ⊎_elim, inl, inr, length-append, leb, nat_eq, slice_index}
 use Rattle.std.proofs.lemmas.Bool.{cases_lt}
 use Rattle.std.proofs.lemmas.Bool.Decides.{nat_tests}
 use Rattle.std.proofs.lemmas.List.{reverse-append, length-reverse}
@@ -7,12 +7,12 @@ use Rattle.std.proofs.Math.Seq.{take-append-add}
 use mathlib.Core.Bool.{true≢false}
 use Rattle.std.specs.Cmp.Lexicographic.{bytes_decides}
 use Rattle.std.specs.Ordering.{is_lt}
-use Rattle.std.specs.List.{list_all, list_any, prefix_len, suffix_len, slice_split, starts_with}
+use Rattle.std.specs.List.{filter, list_all, list_any, prefix_len, suffix_len, slice_split, starts_with}
 use Rattle.std.specs.Str.{is_utf8}
 use Rattle.portal_base.specs.Names.{is_same, is_slash, is_rooted, is_byte_of_path, is_host_path, has_path_form, path_limit, root, parent_of}
 use Rattle.portal_base.specs.Content.{is_above, paths_of}
 use Rattle.portal_base.specs.FileChanges.{put_file}
-use Rattle.portal_base.specs.PathOrder.{path_order}
+use Rattle.portal_base.specs.PathOrder.{file_order}
 use Rattle.portal_base.specs.declared.files.File.{File}
 
 pub first-same : (a b : ℕ) (ps bs : List ℕ) → is_above (a ∷ ps) (b ∷ bs) ≡ true → a ≡ b
@@ -60,7 +60,7 @@ split (a ∷ ps) (b ∷ bs) h =
     let d : bs ≡ ps ++ 47 ∷ r.0 = r.1 in
     (r.0, λ i. e i ∷ d i)
 
-above-front : (f rest : List ℕ) → is_above f (f ++ 47 ∷ rest) ≡ true
+pub above-front : (f rest : List ℕ) → is_above f (f ++ 47 ∷ rest) ≡ true
 above-front [] rest = slash-is 47 rest refl
 above-front (a ∷ ps) rest = above-more a a ps (ps ++ 47 ∷ rest) refl (above-front ps rest)
 
@@ -83,7 +83,7 @@ any-up q r (p ∷ ps) h k = step (is_above r p) refl k (any-up q r ps h)
 
 -- ---- the parent of a path
 
-abbrev in-part : ℕ → Bool
+abbrev pub in-part : ℕ → Bool
 in-part b = not (is_slash b)
 
 prefix-stops : (front back : List ℕ) → prefix_len in-part ((front ++ 47 ∷ []) ++ back) ≤ length front
@@ -183,9 +183,16 @@ all-apart paths (q ∷ qs) p more m r a n room =
     let rest = all-apart paths qs p more m rr.1 aa.1 nn.1 room in
     λ i. one i && rest i
 
-pub any-paths : (q : List ℕ → Bool) (fs : List File) → list_any (λ (f : File). q f.path) fs ≡ list_any q (paths_of fs)
+-- the files that stand at their paths
+abbrev pub stood : List File → List File
+stood fs = filter (λ (f : File). f.present) fs
+
+pub any-paths : (q : List ℕ → Bool) (fs : List File) → list_any (λ (f : File). f.present && q f.path) fs ≡ list_any q (paths_of fs)
 any-paths q [] = refl
-any-paths q (f ∷ fs) = ap (λ (b : Bool). q f.path || b) (any-paths q fs)
+any-paths q (f ∷ fs) = elim f.present as (λ b. (b && q f.path || list_any (λ (g : File). g.present && q g.path) fs) ≡ list_any q (map (λ (g : File). g.path) (cond b (f ∷ stood fs) (stood fs)))) [
+  | true ↦ ap (λ (b : Bool). q f.path || b) (any-paths q fs)
+  | false ↦ any-paths q fs
+]
 
 pub or-parts : (x y : Bool) → not (x || y) ≡ true → (x ≡ false) × (y ≡ false)
 or-parts false false e = (refl, refl)
@@ -194,18 +201,51 @@ or-parts true y e = absurd (cc)
 
 -- ---- a file that is put among others
 
-all-step : (q : List ℕ → Bool) (f g : File) (gs hs : List File) (b : Bool) → list_all q (paths_of hs) ≡ (q f.path && list_all q (paths_of gs)) → list_all q (paths_of (cond b (f ∷ g ∷ gs) (g ∷ hs))) ≡ (q f.path && (q g.path && list_all q (paths_of gs)))
-all-step q f g gs hs true e = refl
-all-step q f g gs hs false e = grind arith
+-- what is true of all files, or of some, whether they stand at their paths or not
+all_step : (r : File → Bool) (f g : File) (gs hs : List File) (b : Bool) → list_all r hs ≡ (r f && list_all r gs) → list_all r (cond b (f ∷ g ∷ gs) (g ∷ hs)) ≡ (r f && (r g && list_all r gs))
+all_step r f g gs hs true e = refl
+all_step r f g gs hs false e = grind arith
 
-pub all-put : (q : List ℕ → Bool) (f : File) (fs : List File) → list_all q (paths_of (put_file f fs)) ≡ (q f.path && list_all q (paths_of fs))
-all-put q f [] = refl
-all-put q f (g ∷ gs) = all-step q f g gs (put_file f gs) (is_lt (path_order f.path g.path)) (all-put q f gs)
+pub all-put-file : (r : File → Bool) (f : File) (fs : List File) → list_all r (put_file f fs) ≡ (r f && list_all r fs)
+all-put-file r f [] = refl
+all-put-file r f (g ∷ gs) = all_step r f g gs (put_file f gs) (is_lt (file_order f g)) (all-put-file r f gs)
 
-any-step : (q : List ℕ → Bool) (f g : File) (gs hs : List File) (b : Bool) → list_any q (paths_of hs) ≡ (q f.path || list_any q (paths_of gs)) → list_any q (paths_of (cond b (f ∷ g ∷ gs) (g ∷ hs))) ≡ (q f.path || (q g.path || list_any q (paths_of gs)))
-any-step q f g gs hs true e = refl
-any-step q f g gs hs false e = grind arith
+any_step : (r : File → Bool) (f g : File) (gs hs : List File) (b : Bool) → list_any r hs ≡ (r f || list_any r gs) → list_any r (cond b (f ∷ g ∷ gs) (g ∷ hs)) ≡ (r f || (r g || list_any r gs))
+any_step r f g gs hs true e = refl
+any_step r f g gs hs false e = grind arith
 
-pub any-put : (q : List ℕ → Bool) (f : File) (fs : List File) → list_any q (paths_of (put_file f fs)) ≡ (q f.path || list_any q (paths_of fs))
-any-put q f [] = refl
-any-put q f (g ∷ gs) = any-step q f g gs (put_file f gs) (is_lt (path_order f.path g.path)) (any-put q f gs)
+pub any-put-file : (r : File → Bool) (f : File) (fs : List File) → list_any r (put_file f fs) ≡ (r f || list_any r fs)
+any-put-file r f [] = refl
+any-put-file r f (g ∷ gs) = any_step r f g gs (put_file f gs) (is_lt (file_order f g)) (any-put-file r f gs)
+
+-- what is true of all paths at which files stand
+pub all-paths : (q : List ℕ → Bool) (fs : List File) → list_all (λ (f : File). not f.present || q f.path) fs ≡ list_all q (paths_of fs)
+all-paths q [] = refl
+all-paths q (f ∷ fs) = elim f.present as (λ b. ((not b || q f.path) && list_all (λ (g : File). not g.present || q g.path) fs) ≡ list_all q (map (λ (g : File). g.path) (cond b (f ∷ stood fs) (stood fs)))) [
+  | true ↦ ap (λ (b : Bool). q f.path && b) (all-paths q fs)
+  | false ↦ all-paths q fs
+]
+
+-- one that stands at its path
+pub all-put : (q : List ℕ → Bool) (f : File) → f.present ≡ true → (fs : List File) → list_all q (paths_of (put_file f fs)) ≡ (q f.path && list_all q (paths_of fs))
+all-put q f e fs =
+    sym (all-paths q (put_file f fs))
+    ∙ (all-put-file (λ (g : File). not g.present || q g.path) f fs
+    ∙ (λ i. (not (e i) || q f.path) && all-paths q fs i))
+
+pub any-put : (q : List ℕ → Bool) (f : File) → f.present ≡ true → (fs : List File) → list_any q (paths_of (put_file f fs)) ≡ (q f.path || list_any q (paths_of fs))
+any-put q f e fs =
+    sym (any-paths q (put_file f fs))
+    ∙ (any-put-file (λ (g : File). g.present && q g.path) f fs
+    ∙ (λ i. (e i && q f.path) || any-paths q fs i))
+
+-- and one that doesn't
+pub put-absent : (f : File) → f.present ≡ false → (fs : List File) → paths_of (put_file f fs) ≡ paths_of fs
+put-absent f e [] = ap (λ (b : Bool). map (λ (g : File). g.path) (cond b (f ∷ []) [])) e
+put-absent f e (g ∷ gs) = elim (is_lt (file_order f g)) as (λ b. paths_of (cond b (f ∷ g ∷ gs) (g ∷ put_file f gs)) ≡ paths_of (g ∷ gs)) [
+  | true ↦ ap (λ (b : Bool). map (λ (h : File). h.path) (cond b (f ∷ stood (g ∷ gs)) (stood (g ∷ gs)))) e
+  | false ↦ elim g.present as (λ b. map (λ (h : File). h.path) (cond b (g ∷ stood (put_file f gs)) (stood (put_file f gs))) ≡ map (λ (h : File). h.path) (cond b (g ∷ stood gs) (stood gs))) [
+    | true ↦ ap (λ (ps : List (List ℕ)). g.path ∷ ps) (put-absent f e gs)
+    | false ↦ put-absent f e gs
+  ]
+]

@@ -60,6 +60,8 @@ pub struct File {
     pub bytes: ByteList,
     /// When it changed last, in seconds.
     pub moment: u64,
+    /// Whether it is the one that stands at the path.
+    pub present: bool,
 }
 
 impl Replica for File {
@@ -69,6 +71,7 @@ impl Replica for File {
             generation: self.generation,
             bytes: self.bytes.replica(alloc)?,
             moment: self.moment,
+            present: self.present,
         })
     }
 }

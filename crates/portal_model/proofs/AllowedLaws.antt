@@ -54,7 +54,7 @@ NoRefusal v = HoldsGiven (λ (t : State). Unit {0}) (λ t seat h. h) (λ t seat 
 
 never_refused : (s : State) (c : Connection) (request : Request) (given : Given) → NoRefusal (verdict_given (bus_walk s c request given.numbers) given)
 never_refused s c request given =
-    walked-holds (λ (t : State). Unit {0}) (λ t seat h. h) (λ t seat change h. h) (λ t ds made rights apps h. h) (λ t es h. h) (λ t change h. h) (bus_walk s c request given.numbers) (moment_given given.now) given.looks (is_tree given.fault)
+    walked-holds (λ (t : State). Unit {0}) (λ t seat h. h) (λ t seat change h. h) (λ t ds made rights apps h. h) (λ t es h. h) (λ t change h. h) (bus_walk s c request given.numbers) (moment_given given.now) given.listed given.looks (is_tree given.fault)
     (bus_walk-holds (λ (t : State). Unit {0}) (λ t seat h. h) (λ t seat change h. h) (λ t ds made rights apps h. h) (λ t es h. h) (λ t change h. h) s c request given.numbers tt)
 
 abbrev Keeps : State → State → Type 0
@@ -192,7 +192,7 @@ left-so s c request given code e =
 failed-stays : (s : State) (c : Connection) (request : Request) (given : Given) → answer_of_bus s c request given ≡ Answer.Refused Code.Failed → after_bus s c request given ≡ s
 failed-stays s c (Request.Add a) given e =
     settled_failed s (refused_state s c (Request.Add a)) given (verdict_given (add s c a given.numbers) given) (never_refused s c (Request.Add a) given)
-    (walked_fails (add s c a given.numbers) (moment_given given.now) given.looks (is_tree given.fault) (add_fails s c a given.numbers)) e
+    (walked_fails (add s c a given.numbers) (moment_given given.now) given.listed given.looks (is_tree given.fault) (add_fails s c a given.numbers)) e
 failed-stays s c request given e = left_alone s (refused_state s c request) (after_bus s c request given) refl (left-so s c request given Code.Failed e)
 
 pub refusals-keep : RefusalsKeep

@@ -242,7 +242,7 @@ module _ (P : State → Type 0)
   pub bus_answer-holds : (s : State) (c : Connection) (request : Request) (given : Given) → P s → P (bus_answer s c request given).0
   bus_answer-holds s c request given h =
       settled-holds s (refused_state s c request) given (verdict_given (bus_walk s c request given.numbers) given) h (refused-holds s c request h)
-      (walked-holds (bus_walk s c request given.numbers) (moment_given given.now) given.looks (is_tree given.fault) (bus_walk-holds s c request given.numbers h))
+      (walked-holds (bus_walk s c request given.numbers) (moment_given given.now) given.listed given.looks (is_tree given.fault) (bus_walk-holds s c request given.numbers h))
 
   pub bus_step-holds : (s : State) (request : Request) (given : Given) (o : Option Connection) → P s → P (bus_step s request given o).0
   bus_step-holds s request given None h = h

@@ -11,7 +11,10 @@ pub mod RightsLaws
 pub mod DocumentChanges
 pub mod OpenHandles
 pub mod MadeHandles
+pub mod StandingFiles
 pub mod FilesValid
+pub mod TakenValid
+pub mod NamesValid
 pub mod NodeWalks
 pub mod NodeValid
 pub mod NodeAllowed
@@ -45,3 +48,4 @@ pub mod EntriesAllowed
 pub mod NodeLawsHold
 pub mod FileExampleProofs
 pub mod StoreExampleProofs
+pub mod FolderExampleProofs

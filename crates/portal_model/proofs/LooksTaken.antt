@@ -1,5 +1,6 @@
 -- Over a tree that tells its files, the looks of a lawful entry without a fault are those that it takes.
 use Rattle.std.proofs.Common.{◌≡◌, ℕ, List, [], ◌∷◌, map, Bool, true, false, not, cond, Option, Some, None, refl, sym, ap, subst, ◌∙◌}
+use Rattle.portal_base.specs.declared.files.ChildName.{ChildName}
 use Rattle.portal_base.specs.declared.files.File.{File}
 use Rattle.portal_base.specs.declared.files.Look.{Look}
 use Rattle.portal_base.specs.declared.names.doc_id.DocId.{DocId}
@@ -21,7 +22,7 @@ use Rattle.portal_model.specs.Outside.{files_told}
 use Rattle.portal_model.specs.State.{State, connection_of}
 use Rattle.portal_model.specs.Step.{all_told, bus_looks, bus_of, looks_taken, mount_of, node_looks}
 use Rattle.portal_model.specs.Verdict.{Verdict, unless, walk_unless}
-use Rattle.portal_model.specs.Walk.{Walk, Answers, Looks, Ends, Gives, looks_at_all, looks_shown}
+use Rattle.portal_model.specs.Walk.{Walk, Answers, Looks, Ends, Lists, Gives, listed_shown, looks_at_all, looks_shown}
 
 -- ---- the looks of a walk
 
@@ -29,14 +30,26 @@ by_last : (looks : List Look) (found : Bool) → looks ≡ [] → true ≡ found
 by_last looks true e f = e
 by_last looks false e f = cc
 
-pub shown_given : {X : Type 0} (files : List File) (w : Walk X) (looks : List Look) → Gives (Some files) w looks false → looks ≡ looks_shown files w
-shown_given files (Answers x) looks g = g.0
-shown_given files (Looks target next) [] g = cc
-shown_given files (Looks target next) (look ∷ looks) g =
-    ap (λ (ls : List Look). look ∷ ls) (shown_given files (next look) looks g.1) ∙ ap (λ (l : Look). l ∷ looks_shown files (next l)) g.0
-shown_given files (Ends call done missing) [] g = ap (λ (found : Bool). cond found [] (Look.Missing ∷ [])) g
-shown_given files (Ends call done missing) (look ∷ looks) g =
-    ap (λ (l : Look). l ∷ looks) g.0 ∙ (ap (λ (ls : List Look). Look.Missing ∷ ls) g.1 ∙ ap (λ (found : Bool). cond found [] (Look.Missing ∷ [])) g.3)
+pub shown_given : {X : Type 0} (files : List File) (w : Walk X) (looks : List Look) (listed : Option (List ChildName)) → Gives (Some files) w looks listed false → looks ≡ looks_shown files w
+shown_given files (Answers x) looks listed g = g.0
+shown_given files (Looks target next) [] listed g = let no : false ≡ true = g.1 in cc
+shown_given files (Looks target next) (look ∷ looks) listed g =
+    ap (λ (ls : List Look). look ∷ ls) (shown_given files (next look) looks listed g.1) ∙ ap (λ (l : Look). l ∷ looks_shown files (next l)) g.0
+shown_given files (Ends call done missing) [] listed g = ap (λ (found : Bool). cond found [] (Look.Missing ∷ [])) g.1
+shown_given files (Ends call done missing) (look ∷ looks) listed g =
+    ap (λ (l : Look). l ∷ looks) g.0 ∙ (ap (λ (ls : List Look). Look.Missing ∷ ls) g.1 ∙ ap (λ (found : Bool). cond found [] (Look.Missing ∷ [])) g.4)
+shown_given files (Lists path done missing) looks listed g = g.0
+
+-- ---- and the names that it lists
+
+pub listed_given : {X : Type 0} (files : List File) (w : Walk X) (looks : List Look) (listed : Option (List ChildName)) → Gives (Some files) w looks listed false → listed ≡ listed_shown files w
+listed_given files (Answers x) looks listed g = g.1
+listed_given files (Looks target next) [] listed g = let no : false ≡ true = g.1 in cc
+listed_given files (Looks target next) (look ∷ looks) listed g =
+    listed_given files (next look) looks listed g.1 ∙ ap (λ (l : Look). listed_shown files (next l)) g.0
+listed_given files (Ends call done missing) [] listed g = g.0
+listed_given files (Ends call done missing) (look ∷ looks) listed g = g.2
+listed_given files (Lists path done missing) looks listed g = g.1
 
 -- ---- an Add's don't depend on the numbers of new documents
 
@@ -50,7 +63,7 @@ shown_unless files false code w u e = e
 
 add_shown_alike : (files : List File) (s : State) (c : Connection) (a : AddRequest) (ns ms : List DocId) → looks_shown files (add s c a ns) ≡ looks_shown files (add s c a ms)
 add_shown_alike files s c a ns ms =
-    let v : List DocId → List Look → Verdict = λ numbers looks. unless (not (are_of_kind a looks)) Code.InvalidArgument (added s (added_files s c a numbers)) in
+    let v : List DocId → List Look → Verdict = λ numbers looks. unless (not (are_of_kind a (paths_shown c.queue a) looks)) Code.InvalidArgument (added s (added_files s c a numbers)) in
     shown_unless files (not (are_presented c.queue a)) Code.InvalidArgs (add_presented s c a ns) (add_presented s c a ms)
     (shown_unless files (not (are_add_arguments c.queue a)) Code.InvalidArgument (add_allowed s c a ns) (add_allowed s c a ms)
     (shown_unless files (not (may_list_all s c.who a (document_paths c.queue a))) Code.NotAllowed (add_looking s c a ns) (add_looking s c a ms)
@@ -63,11 +76,12 @@ walk_shown_alike files s c request ns ms = refl
 -- ---- each kind
 
 -- the looks of a walk over a tree that tells, where none fails
-pub walk_taken : {X : Type 0} (s : State) (w : Walk X) (given : Given) → s.told ≡ true → given.fault ≡ Fault.None → Gives (files_told s) w given.looks (is_tree given.fault) → given.looks ≡ looks_shown s.files w
+pub walk_taken : {X : Type 0} (s : State) (w : Walk X) (given : Given) → s.told ≡ true → given.fault ≡ Fault.None → Gives (files_told s) w given.looks given.listed (is_tree given.fault) → given.looks ≡ looks_shown s.files w
 walk_taken s w given t f g =
     let told : files_told s ≡ Some s.files = ap (λ (b : Bool). cond b (Some s.files) None) t in
-    shown_given s.files w given.looks
-    (subst (λ (files : Option (List File)). Gives files w given.looks false) told (subst (λ (fault : Fault). Gives (files_told s) w given.looks (is_tree fault)) f g))
+    shown_given s.files w given.looks given.listed
+    (subst (λ (files : Option (List File)). Gives files w given.looks given.listed false) told
+    (subst (λ (fault : Fault). Gives (files_told s) w given.looks given.listed (is_tree fault)) f g))
 
 bus_taken : (s : State) (request : Request) (given : Given) (o : Option Connection) → s.told ≡ true → given.fault ≡ Fault.None → LawfulOnBus s request given o → given.looks ≡ bus_looks s request o
 bus_taken s request given None t f l = ap (λ (g : Given). g.looks) l

@@ -428,5 +428,5 @@ module _ (s : State) (c found : Connection) (here : connection_of s.connections 
   node-valid r given l =
       let f = facts_of s c r.node in
       settled-valid (node_given (walk_on_node s c r) given)
-      (on-given (files_told s) (Fine asks (files_told s) (room_of s c)) (walk_on_node s c r) (moment_given given.now) given.looks (is_tree given.fault) l.looks
+      (on-given (files_told s) (Fine asks (files_told s) (room_of s c)) (walk_on_node s c r) (moment_given given.now) given.listed given.looks (is_tree given.fault) l.looks
       (walk-fine asks (files_told s) f r (place-sound s v c.who r.node) r.op))

@@ -196,7 +196,7 @@ module _ (s : State) (c found : Connection) (numbers : List DocId) (f : connecti
 bus_answer-Valid : (s : State) (c found : Connection) (request : Request) (given : Given) → connection_of s.connections c.seat ≡ Some found → found.queue ≡ c.queue → is_caller c.who ≡ true → Valid s → LawfulBus s c request given → Valid (bus_answer s c request given).0
 bus_answer-Valid s c found request given f q caller v l =
     settled-valid s c found given.numbers f q caller v (refused_state s c request) given (verdict_of s c request given) (refused-valid s c found given.numbers f q caller v request) l.numbers l.words l.full
-    (on-walked (Good s given.numbers) (bus_walk s c request given.numbers) (moment_given given.now) given.looks (is_tree given.fault) (walk-valid s c found given.numbers f q caller v request))
+    (on-walked (Good s given.numbers) (bus_walk s c request given.numbers) (moment_given given.now) given.listed given.looks (is_tree given.fault) (walk-valid s c found given.numbers f q caller v request))
 
 bus_is : (o : Option Connection) (c : Connection) → bus_of o ≡ Some c → o ≡ Some c
 bus_is None c e = cc

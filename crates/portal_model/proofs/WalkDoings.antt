@@ -1,9 +1,10 @@
 -- What is true of all that a walk may do, where it is true whatever the looks show.
 use Rattle.std.proofs.Common.{◌≡◌, ℕ, List, [], ◌∷◌, Bool, true, false, not, Option, Some, None, refl}
+use Rattle.portal_base.specs.declared.files.ChildName.{ChildName}
 use Rattle.portal_base.specs.declared.files.Look.{Look}
 use Rattle.portal_model.specs.declared.reply.Code.{Code}
 use Rattle.portal_model.specs.Verdict.{Doing, Verdict, Refuses, Does, unless, walk_unless}
-use Rattle.portal_model.specs.Walk.{Walk, Answers, Looks, Ends, looks_at_all, walked}
+use Rattle.portal_model.specs.Walk.{Walk, Answers, Looks, Ends, Lists, listed_by, looks_at_all, walked}
 
 module _ (P : Doing → Type 0) where
   abbrev pub IfDoes : Verdict → Type 0
@@ -14,6 +15,7 @@ module _ (P : Doing → Type 0) where
   OnWalk (Answers v) = IfDoes v
   OnWalk (Looks target next) = (look : Look) → OnWalk (next look)
   OnWalk (Ends call done missing) = ((now : ℕ) → IfDoes (done now)) × IfDoes missing
+  OnWalk (Lists path done missing) = ((names : List ChildName) → IfDoes (done names)) × IfDoes missing
 
   abbrev pub IfGiven : Option Verdict → Type 0
   IfGiven None = Unit {0}
@@ -32,10 +34,16 @@ module _ (P : Doing → Type 0) where
   on-looks [] next h = h []
   on-looks (path ∷ paths) next h = λ look. on-looks paths (λ looks. next (look ∷ looks)) (λ looks. h (look ∷ looks))
 
-  pub on-walked : (w : Walk Verdict) (now : ℕ) (looks : List Look) (failed : Bool) → OnWalk w → IfGiven (walked w now looks failed)
-  on-walked (Answers v) now looks failed h = h
-  on-walked (Looks target next) now [] failed h = tt
-  on-walked (Looks target next) now (look ∷ looks) failed h = on-walked (next look) now looks failed (h look)
-  on-walked (Ends call done missing) now [] true h = tt
-  on-walked (Ends call done missing) now [] false h = h.0 now
-  on-walked (Ends call done missing) now (look ∷ looks) failed h = h.1
+  on-listed : (listed : Option (List ChildName)) (done : List ChildName → Verdict) (missing : Verdict) → ((names : List ChildName) → IfDoes (done names)) → IfDoes missing → IfDoes (listed_by done missing listed)
+  on-listed None done missing h k = k
+  on-listed (Some names) done missing h k = h names
+
+  pub on-walked : (w : Walk Verdict) (now : ℕ) (listed : Option (List ChildName)) (looks : List Look) (failed : Bool) → OnWalk w → IfGiven (walked w now listed looks failed)
+  on-walked (Answers v) now listed looks failed h = h
+  on-walked (Looks target next) now listed [] failed h = tt
+  on-walked (Looks target next) now listed (look ∷ looks) failed h = on-walked (next look) now listed looks failed (h look)
+  on-walked (Ends call done missing) now listed [] true h = tt
+  on-walked (Ends call done missing) now listed [] false h = h.0 now
+  on-walked (Ends call done missing) now listed (look ∷ looks) failed h = h.1
+  on-walked (Lists path done missing) now listed looks true h = tt
+  on-walked (Lists path done missing) now listed looks false h = on-listed listed done missing h.0 h.1

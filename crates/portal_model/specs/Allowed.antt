@@ -1,7 +1,7 @@
 -- What a seat may ask: what is allowed is done, where no device fails and no limit is met.
-use Rattle.std.specs.Prelude.{ℕ, ◌+◌, List, [], map, Bool, true, false, not, ◌&&◌, ◌||◌, length, nat_lt, Option, Some, None, is_some, cond}
-use Rattle.portal_base.specs.Content.{file_named, has_room}
-use Rattle.portal_base.specs.Names.{is_app_name, is_same, name_of}
+use Rattle.std.specs.Prelude.{ℕ, ◌+◌, ◌==◌, List, [], map, Bool, true, false, not, ◌&&◌, ◌||◌, length, nat_lt, Option, Some, None, is_some, cond}
+use Rattle.portal_base.specs.Content.{file_named, has_room, is_folder}
+use Rattle.portal_base.specs.Names.{is_app_name, is_dots, is_same, name_of, named_child}
 use Rattle.portal_base.specs.declared.files.FileName.{FileName}
 use Rattle.portal_base.specs.declared.files.Look.{Look}
 use Rattle.portal_base.specs.declared.who.Who.{Who}
@@ -17,23 +17,27 @@ use Rattle.portal_model.specs.declared.rights.Right.TheVariants.{Delete, GrantPe
 use Rattle.portal_model.specs.declared.state.Connection.{Connection}
 use Rattle.portal_model.specs.declared.state.Document.{Document}
 use Rattle.portal_model.specs.declared.store.StoreCall.{StoreCall}
+use Rattle.portal_model.specs.declared.temporary.OwnTemp.{OwnTemp}
 use Rattle.portal_model.specs.Access.{executes, writes_to}
-use Rattle.portal_model.specs.Add.{are_of_kind, is_file, may_list_all}
+use Rattle.portal_model.specs.Add.{are_of_kind, is_file, is_folder_look, may_list_all}
 use Rattle.portal_model.specs.AddArguments.{are_add_arguments, are_presented, document_paths, paths_shown}
 use Rattle.portal_model.specs.Arguments.{ahead_of_end, document_named, is_ended_path}
+use Rattle.portal_model.specs.Attributes.{is_writable}
 use Rattle.portal_model.specs.Content.{look_at}
 use Rattle.portal_model.specs.GetAttr.{names_handle}
 use Rattle.portal_model.specs.Grant.{are_rights_arguments, may_grant}
-use Rattle.portal_model.specs.Lookup.{named_in_root, named_in_views}
+use Rattle.portal_model.specs.Lookup.{naming_in, named_in_root, named_in_views}
 use Rattle.portal_model.specs.Node.{room_of}
 use Rattle.portal_model.specs.NodeVerdict.{is_too_long}
 use Rattle.portal_model.specs.Open.{has_no_mode, opens_to_write}
-use Rattle.portal_model.specs.Place.{Folder, RootOf, Views, FolderOf, Sight, SightOfFile, SightOfFolder, place_of, reach_at}
+use Rattle.portal_model.specs.Place.{Folder, RootOf, Views, FolderOf, Exported, Sight, SightOfFile, SightOfTemp, SightBelow, SightOfFolder, place_on, reach_at}
 use Rattle.portal_model.specs.Present.{may_present}
 use Rattle.portal_model.specs.Reach.{OpenFile, Reaching, may_read_now, may_write_now, open_file_of, reaches}
 use Rattle.portal_model.specs.Read.{read_limit}
+use Rattle.portal_model.specs.Rename.{Home, RenameCall, home_of, same_home}
 use Rattle.portal_model.specs.Revoke.{names_itself}
 use Rattle.portal_model.specs.Rights.{held_by}
+use Rattle.portal_model.specs.SeatNames.{SeatNames, are_temps_full, found_temp, lacks_number, names_of}
 use Rattle.portal_model.specs.SetAttr.{sets_by_handle, sets_owner_or_mode, sets_size}
 use Rattle.portal_model.specs.State.{State, connection_of, handle_of, is_host, who_has}
 use Rattle.portal_model.specs.Store.{store_call}
@@ -52,7 +56,7 @@ may_add s c a =
     are_presented c.queue a
     && (are_add_arguments c.queue a
     && (may_list_all s c.who a (document_paths c.queue a)
-    && are_of_kind a (map (look_at s.files) (paths_shown c.queue a))))
+    && are_of_kind a (paths_shown c.queue a) (map (look_at s.files) (paths_shown c.queue a))))
 
 -- of a live document
 abbrev pub may_grant_in : State → Who → RightsCall → Option Document → Bool
@@ -128,10 +132,19 @@ has_file s path = is_file (look_at s.files path)
 abbrev pub has_named : State → FileName → Bool
 has_named s name = is_some (file_named s.files name)
 
+-- what a look shows at or below an exported folder
+abbrev pub at_look : (Bool → Bool) → (Folder → Bool) → Bool → Folder → Look → Bool
+at_look file folder may_write here (Look.File generation size moment) = file may_write
+at_look file folder may_write here Look.Folder = folder here
+at_look file folder may_write here Look.Missing = false
+
 -- a file of which this is asked of its right to be written, where it is there; or a folder
 abbrev pub at_sight : State → (Bool → Bool) → (Folder → Bool) → Option Sight → Bool
 at_sight s file folder None = false
 at_sight s file folder (Some (SightOfFile d may_write)) = has_file s d.path && file may_write
+at_sight s file folder (Some (SightOfTemp d name may_write)) = has_named s name && file may_write
+at_sight s file folder (Some (SightBelow view d path may_write)) =
+    at_look file folder may_write (Exported view d path may_write) (look_at s.files path)
 at_sight s file folder (Some (SightOfFolder f)) = folder f
 
 -- what is asked of an open file, where it is there
@@ -151,22 +164,53 @@ is_folder_handle None = false
 is_folder_handle (Some (Handle.File name node document strict read write)) = false
 is_folder_handle (Some (Handle.Folder node names)) = true
 
-abbrev pub has_child : State → List ℕ → Folder → Bool
-has_child s name (RootOf view numbers has_views) =
+-- the document's name, of a file or of a folder that is exported
+abbrev pub has_document : State → Document → Bool
+has_document s d =
+    has_file s d.path || (d.folder && is_folder_look (look_at s.files d.path))
+
+-- a temporary of the seat whose file is there
+abbrev pub has_temp : State → Option OwnTemp → Bool
+has_temp s None = false
+has_temp s (Some t) = has_named s t.temp.file
+
+abbrev pub has_path : State → Option (List ℕ) → Bool
+has_path s None = false
+has_path s (Some path) = not (is_missing (look_at s.files path))
+
+abbrev pub has_child : State → SeatNames → List ℕ → Folder → Bool
+has_child s names name (RootOf view numbers has_views) =
     is_some (named_in_root view numbers has_views name)
-has_child s name (Views applications) = is_some (named_in_views applications name)
-has_child s name (FolderOf view d may_write) =
-    is_same name (name_of d.path) && has_file s d.path
+has_child s names name (Views applications) = is_some (named_in_views applications name)
+has_child s names name (FolderOf view d may_write) =
+    cond (is_same name (name_of d.path)) (has_document s d)
+    (has_temp s (found_temp names.temps view d.id name))
+has_child s names name (Exported view d path may_write) = has_path s (named_child path name)
 
 -- nothing is there, and the parent is a folder
 abbrev pub is_free : State → List ℕ → Bool
 is_free s path = is_missing (look_at s.files path) && has_room s.files path
 
-abbrev pub may_create_in : State → List ℕ → Folder → Bool
-may_create_in s name (RootOf view numbers has_views) = false
-may_create_in s name (Views applications) = false
-may_create_in s name (FolderOf view d may_write) =
-    is_same name (name_of d.path) && (may_write && is_free s d.path)
+abbrev pub is_free_child : State → Option (List ℕ) → Bool
+is_free_child s None = false
+is_free_child s (Some path) = is_free s path
+
+-- another name than the document's is a temporary's: there is none of it yet, and the parent of the
+-- document's path is a folder
+abbrev pub may_begin : State → SeatNames → List ℕ → ℕ → Document → Bool
+may_begin s names name view d =
+    not d.folder
+    && (not (is_dots name)
+    && (not (is_some (found_temp names.temps view d.id name)) && has_room s.files d.path))
+
+abbrev pub may_create_in : State → SeatNames → List ℕ → Folder → Bool
+may_create_in s names name (RootOf view numbers has_views) = false
+may_create_in s names name (Views applications) = false
+may_create_in s names name (FolderOf view d may_write) =
+    may_write
+    && cond (is_same name (name_of d.path)) (is_free s d.path) (may_begin s names name view d)
+may_create_in s names name (Exported view d path may_write) =
+    may_write && is_free_child s (named_child path name)
 
 abbrev pub never : {X : Type 0} → X → Bool
 never x = false
@@ -200,7 +244,49 @@ may_access s mask sight =
     not (nat_lt 7 mask)
     && at_sight s
     (λ may_write. not (executes mask) && (not (writes_to mask) || may_write))
-    (λ folder. not (writes_to mask)) sight
+    (λ folder. not (writes_to mask) || is_writable folder) sight
+
+-- a temporary may get another name, or stand at its path where no folder is
+abbrev pub may_rename_to : State → List ℕ → Document → OwnTemp → Bool
+may_rename_to s name d t =
+    not (is_dots name)
+    && (not (is_same name (name_of d.path))
+    || (has_named s t.temp.file && not (is_folder s.files t.temp.file.path)))
+
+abbrev pub may_rename_temp : State → List ℕ → Home → Option OwnTemp → Bool
+may_rename_temp s name home None = false
+may_rename_temp s name home (Some t) = home.may_write && may_rename_to s name home.document t
+
+abbrev pub may_rename_at : State → SeatNames → RenameCall → Home → Bool
+may_rename_at s names call home =
+    not (is_same call.old_name (name_of home.document.path))
+    && may_rename_temp s call.new_name home
+    (found_temp names.temps home.view home.document.id call.old_name)
+
+abbrev pub in_one_home : State → SeatNames → RenameCall → Option Home → Option Home → Bool
+in_one_home s names call None second = false
+in_one_home s names call (Some first) None = false
+in_one_home s names call (Some first) (Some second) =
+    same_home first second && may_rename_at s names call first
+
+abbrev pub may_rename : State → SeatNames → RenameCall → Option Sight → Option Sight → Bool
+may_rename s names call sight new_sight =
+    (call.flags == 0)
+    && (not (is_too_long call.old_name || is_too_long call.new_name)
+    && at_sight s never
+    (λ first. at_sight s never
+    (λ second. in_one_home s names call (home_of first) (home_of second)) new_sight) sight)
+
+abbrev pub may_unlink_at : SeatNames → List ℕ → Option Home → Bool
+may_unlink_at names name None = false
+may_unlink_at names name (Some home) =
+    not (is_same name (name_of home.document.path))
+    && (home.may_write && is_some (found_temp names.temps home.view home.document.id name))
+
+abbrev pub may_unlink : State → SeatNames → List ℕ → Option Sight → Bool
+may_unlink s names name sight =
+    not (is_too_long name)
+    && at_sight s never (λ folder. may_unlink_at names name (home_of folder)) sight
 
 -- a write of no bytes needs no file
 abbrev pub may_write_to : State → Reaching → List ℕ → Option Handle → Bool
@@ -210,59 +296,102 @@ may_write_to s reach content (Some (Handle.File name node document strict read w
     && (is_none content || has_named s name)
 may_write_to s reach content (Some (Handle.Folder node names)) = false
 
-abbrev pub may_ask_at : State → Reaching → NodeOp → Option Sight → (ℕ → Option Handle) → Bool
-may_ask_at s reach (NodeOp.Lookup name) sight handle =
-    not (is_too_long name) && at_sight s never (has_child s name) sight
-may_ask_at s reach (NodeOp.Forget count) sight handle = true
-may_ask_at s reach (NodeOp.BatchForget nodes) sight handle = true
-may_ask_at s reach (NodeOp.GetAttr flags fh) sight handle =
+abbrev pub may_ask_at :
+    State → Reaching → SeatNames → NodeOp → (ℕ → Option Sight) → Option Sight
+    → (ℕ → Option Handle) → Bool
+may_ask_at s reach names (NodeOp.Lookup name) sight_of sight handle =
+    not (is_too_long name) && at_sight s never (has_child s names name) sight
+may_ask_at s reach names (NodeOp.Forget count) sight_of sight handle = true
+may_ask_at s reach names (NodeOp.BatchForget nodes) sight_of sight handle = true
+may_ask_at s reach names (NodeOp.GetAttr flags fh) sight_of sight handle =
     may_get_attr s reach (names_handle flags) sight (handle fh)
-may_ask_at s reach (NodeOp.SetAttr valid fh size) sight handle =
+may_ask_at s reach names (NodeOp.SetAttr valid fh size) sight_of sight handle =
     may_set_attr s reach valid sight (handle fh)
-may_ask_at s reach (NodeOp.Open flags) sight handle =
+may_ask_at s reach names (NodeOp.Open flags) sight_of sight handle =
     not (has_no_mode flags)
     && at_sight s (λ may_write. not (opens_to_write flags) || may_write) never sight
-may_ask_at s reach (NodeOp.Create name flags) sight handle =
+may_ask_at s reach names (NodeOp.Create name flags) sight_of sight handle =
     not (has_no_mode flags)
-    && (not (is_too_long name) && at_sight s never (may_create_in s name) sight)
-may_ask_at s reach (NodeOp.Read fh offset size) sight handle =
+    && (not (is_too_long name) && at_sight s never (may_create_in s names name) sight)
+may_ask_at s reach names (NodeOp.Read fh offset size) sight_of sight handle =
     not (nat_lt read_limit size) && on_handle s (may_read_now reach) (handle fh)
-may_ask_at s reach (NodeOp.Write fh offset content) sight handle =
+may_ask_at s reach names (NodeOp.Write fh offset content) sight_of sight handle =
     not (nat_lt write_limit (length content)) && may_write_to s reach content (handle fh)
-may_ask_at s reach (NodeOp.Flush fh) sight handle = is_file_handle (handle fh)
-may_ask_at s reach (NodeOp.Fsync fh) sight handle = on_handle s always (handle fh)
-may_ask_at s reach (NodeOp.Release fh) sight handle = is_file_handle (handle fh)
-may_ask_at s reach NodeOp.OpenDir sight handle = at_sight s never always sight
-may_ask_at s reach (NodeOp.ReadDir fh offset size) sight handle =
+may_ask_at s reach names (NodeOp.Flush fh) sight_of sight handle = is_file_handle (handle fh)
+may_ask_at s reach names (NodeOp.Fsync fh) sight_of sight handle = on_handle s always (handle fh)
+may_ask_at s reach names (NodeOp.Release fh) sight_of sight handle = is_file_handle (handle fh)
+may_ask_at s reach names NodeOp.OpenDir sight_of sight handle = at_sight s never always sight
+may_ask_at s reach names (NodeOp.ReadDir fh offset size) sight_of sight handle =
     not (nat_lt read_limit size) && is_folder_handle (handle fh)
-may_ask_at s reach (NodeOp.ReleaseDir fh) sight handle = is_folder_handle (handle fh)
-may_ask_at s reach (NodeOp.Access mask) sight handle = may_access s mask sight
+may_ask_at s reach names (NodeOp.ReleaseDir fh) sight_of sight handle = is_folder_handle (handle fh)
+may_ask_at s reach names (NodeOp.Access mask) sight_of sight handle = may_access s mask sight
+may_ask_at s reach names (NodeOp.Rename new_parent flags old_name new_name) sight_of sight handle =
+    may_rename s names (record { flags = flags; old_name = old_name; new_name = new_name }) sight
+    (sight_of new_parent)
+may_ask_at s reach names (NodeOp.Unlink name) sight_of sight handle = may_unlink s names name sight
 
 -- A request on a node of this connection, which is a mount.
 abbrev pub may_ask_node : State → Connection → NodeRequest → Bool
 may_ask_node s c r =
-    may_ask_at s (reach_at s c.who) r.op (place_of s c.who r.node) (handle_of s.handles c.seat)
+    may_ask_at s (reach_at s c.who) (names_of c) r.op (place_on s c) (place_on s c r.node)
+    (handle_of s.handles c.seat)
 
--- no limit is met: that of open handles, and that of a file's length
-abbrev pub within : State → Connection → NodeOp → Bool
-within s c (NodeOp.Open flags) = not (room_of s c).full
-within s c (NodeOp.Create name flags) = not (room_of s c).full
-within s c NodeOp.OpenDir = not (room_of s c).full
-within s c (NodeOp.SetAttr valid fh size) =
+-- a name below an exported folder has a number, or there is one left for it
+abbrev pub has_number : SeatNames → ℕ → Document → Option (List ℕ) → Bool
+has_number names view d None = true
+has_number names view d (Some path) = not (lacks_number names.namings (naming_in view d path))
+
+abbrev pub names_within : SeatNames → List ℕ → Option Sight → Bool
+names_within names name None = true
+names_within names name (Some (SightOfFile d may_write)) = true
+names_within names name (Some (SightOfTemp d file may_write)) = true
+names_within names name (Some (SightBelow view d path may_write)) =
+    has_number names view d (named_child path name)
+names_within names name (Some (SightOfFolder f)) = true
+
+-- the seat may make one temporary more, where the name is that of one
+abbrev pub temps_within_in : SeatNames → List ℕ → Folder → Bool
+temps_within_in names name (RootOf view numbers has_views) = true
+temps_within_in names name (Views applications) = true
+temps_within_in names name (FolderOf view d may_write) =
+    is_same name (name_of d.path) || not (are_temps_full names.temps)
+temps_within_in names name (Exported view d path may_write) = true
+
+abbrev pub temps_within : SeatNames → List ℕ → Option Sight → Bool
+temps_within names name None = true
+temps_within names name (Some (SightOfFile d may_write)) = true
+temps_within names name (Some (SightOfTemp d file may_write)) = true
+temps_within names name (Some (SightBelow view d path may_write)) = true
+temps_within names name (Some (SightOfFolder f)) = temps_within_in names name f
+
+-- no limit is met: those of open handles, of names below exported folders and of temporaries, and
+-- that of a file's length
+abbrev pub within_at : State → Connection → NodeOp → Option Sight → Bool
+within_at s c (NodeOp.Open flags) sight = not (room_of s c).full
+within_at s c (NodeOp.Create name flags) sight =
+    not (room_of s c).full
+    && (names_within (names_of c) name sight && temps_within (names_of c) name sight)
+within_at s c (NodeOp.Lookup name) sight = names_within (names_of c) name sight
+within_at s c NodeOp.OpenDir sight = not (room_of s c).full
+within_at s c (NodeOp.SetAttr valid fh size) sight =
     not (sets_size valid) || not (nat_lt s.limits.file_bytes size)
-within s c (NodeOp.Write fh offset content) =
+within_at s c (NodeOp.Write fh offset content) sight =
     is_none content || not (nat_lt s.limits.file_bytes (offset + length content))
-within s c (NodeOp.Lookup name) = true
-within s c (NodeOp.Forget count) = true
-within s c (NodeOp.BatchForget nodes) = true
-within s c (NodeOp.GetAttr flags fh) = true
-within s c (NodeOp.Read fh offset size) = true
-within s c (NodeOp.Flush fh) = true
-within s c (NodeOp.Fsync fh) = true
-within s c (NodeOp.Release fh) = true
-within s c (NodeOp.ReadDir fh offset size) = true
-within s c (NodeOp.ReleaseDir fh) = true
-within s c (NodeOp.Access mask) = true
+within_at s c (NodeOp.Forget count) sight = true
+within_at s c (NodeOp.BatchForget nodes) sight = true
+within_at s c (NodeOp.GetAttr flags fh) sight = true
+within_at s c (NodeOp.Read fh offset size) sight = true
+within_at s c (NodeOp.Flush fh) sight = true
+within_at s c (NodeOp.Fsync fh) sight = true
+within_at s c (NodeOp.Release fh) sight = true
+within_at s c (NodeOp.ReadDir fh offset size) sight = true
+within_at s c (NodeOp.ReleaseDir fh) sight = true
+within_at s c (NodeOp.Access mask) sight = true
+within_at s c (NodeOp.Rename new_parent flags old_name new_name) sight = true
+within_at s c (NodeOp.Unlink name) sight = true
+
+abbrev pub within : State → Connection → NodeRequest → Bool
+within s c r = within_at s c r.op (place_on s c r.node)
 
 -- ---- a request of a seat
 
@@ -308,12 +437,12 @@ place_on s request None = true
 place_on s request (Some c) = has_place s c request
 
 -- and a request on a node meets no limit
-abbrev pub node_within : State → NodeOp → Option Connection → Bool
-node_within s op None = true
-node_within s op (Some c) = within s c op
+abbrev pub node_within : State → NodeRequest → Option Connection → Bool
+node_within s r None = true
+node_within s r (Some c) = within s c r
 
 abbrev pub limits_kept : State → Request → Option Connection → Bool
-limits_kept s (Request.Node r) o = node_within s r.op (mount_of o)
+limits_kept s (Request.Node r) o = node_within s r (mount_of o)
 limits_kept s request o = place_on s request (bus_of o)
 
 abbrev pub place_left : State → ℕ → Request → Bool

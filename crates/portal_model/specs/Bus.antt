@@ -79,7 +79,8 @@ settled s refused given (Some (Does d)) =
     cond given.full (refused, Answer.Refused Code.LimitsExceeded) (kept s given.fault d)
 
 abbrev pub verdict_given : Walk Verdict → Given → Option Verdict
-verdict_given walk given = walked walk (moment_given given.now) given.looks (is_tree given.fault)
+verdict_given walk given =
+    walked walk (moment_given given.now) given.listed given.looks (is_tree given.fault)
 
 abbrev pub bus_answer : State → Connection → Request → Given → State × Answer
 bus_answer s c request given =

@@ -1,43 +1,138 @@
--- FUSE_CREATE (include/uapi/linux/fuse.h): the file of a document is made, and opened.
-use Rattle.std.specs.Prelude.{ℕ, List, true, not, Option}
-use Rattle.portal_base.specs.Names.{is_same, name_of}
+-- FUSE_CREATE (include/uapi/linux/fuse.h): a file is made, and opened: that of a document in its
+-- folder, one that is to be renamed onto it later, or one in an exported folder or below it.
+use Rattle.std.specs.Prelude.{ℕ, ◌+◌, ◌||◌, List, true, not, Bool, Option, Some, None, cond, is_some}
+use Rattle.portal_base.specs.Names.{is_dots, is_same, name_of, named_child}
+use Rattle.portal_base.specs.declared.files.FileName.{FileName}
 use Rattle.portal_base.specs.declared.files.Look.{Look}
+use Rattle.portal_model.specs.declared.naming.Naming.{Naming}
 use Rattle.portal_model.specs.declared.reply.NodeAnswer.TheVariants as NodeAnswer
 use Rattle.portal_model.specs.declared.request.NodeRequest.{NodeRequest}
 use Rattle.portal_model.specs.declared.state.Document.{Document}
+use Rattle.portal_model.specs.declared.temporary.Temp.{Temp}
 use Rattle.portal_model.specs.Attributes.{attr_of_file, on_node}
 use Rattle.portal_model.specs.Errno.{eacces, eexist, einval, emfile, enametoolong, enoent, enotdir, eperm}
-use Rattle.portal_model.specs.NodeVerdict.{NodeVerdict, Creates, Errs, Opens, Room, Yields, by_place, errs, errs_if, is_too_long, next_handle, no_file}
+use Rattle.portal_model.specs.Lookup.{naming_in, node_of_naming}
+use Rattle.portal_model.specs.NodeVerdict.{NodeVerdict, Begins, Creates, Errs, Freshens, Names, NameChange, NamesStay, Opens, Room, Yields, by_place, errs, errs_if, is_too_long, next_handle, no_file}
 use Rattle.portal_model.specs.Open.{file_handle, has_no_mode}
-use Rattle.portal_model.specs.Place.{Folder, RootOf, Views, FolderOf, Sight, file_node}
-use Rattle.portal_model.specs.Walk.{Walk, Looks, Ends, AtPath, Makes}
+use Rattle.portal_model.specs.Place.{Folder, RootOf, Views, FolderOf, Exported, Sight, file_node, temp_node}
+use Rattle.portal_model.specs.SeatNames.{SeatNames, are_temps_full, found_temp, lacks_number}
+use Rattle.portal_model.specs.Walk.{Walk, Looks, Ends, AtPath, Makes, Freshens as MakesFresh}
+
+-- ---- at a path
+
+-- what is made: the document, the path, the node, and what the seat has named then
+pub record Made : Type 0 where
+  pub document : Document
+  pub path : List ℕ
+  pub node : ℕ
+  pub names : NameChange
 
 -- an empty file with the moment of now, the first of its path
-abbrev pub created : NodeRequest → ℕ → Room → Document → ℕ → ℕ → NodeVerdict
-created r flags room d node now = Yields (record {
-  answer = NodeAnswer.Created (attr_of_file (on_node r node) true 0 now) (next_handle room);
-  file = Creates d.path now;
-  handle = Opens (file_handle d (record { path = d.path; generation = 0 }) node flags);
+abbrev pub created : NodeRequest → ℕ → Room → Made → ℕ → NodeVerdict
+created r flags room made now = Yields (record {
+  answer = NodeAnswer.Created (attr_of_file (on_node r made.node) true 0 now) (next_handle room);
+  file = Creates made.path now;
+  handle =
+      Opens (file_handle made.document (record { path = made.path; generation = 0 }) made.node flags);
+  names = made.names;
 })
 
-abbrev pub create_there : NodeRequest → ℕ → Room → Document → ℕ → Look → Walk NodeVerdict
-create_there r flags room d node (Look.File generation size moment) = errs eexist
-create_there r flags room d node Look.Folder = errs eexist
-create_there r flags room d node Look.Missing =
-    Ends (Makes d.path) (created r flags room d node) (Errs enoent)
+abbrev pub create_there : NodeRequest → ℕ → Room → Made → Look → Walk NodeVerdict
+create_there r flags room made (Look.File generation size moment) = errs eexist
+create_there r flags room made Look.Folder = errs eexist
+create_there r flags room made Look.Missing =
+    Ends (Makes made.path) (created r flags room made) (Errs enoent)
 
--- the file of the document alone may be made in its folder
-abbrev pub create_in : NodeRequest → List ℕ → ℕ → Room → Folder → Walk NodeVerdict
-create_in r name flags room (RootOf view numbers has_views) = errs eperm
-create_in r name flags room (Views applications) = errs eperm
-create_in r name flags room (FolderOf view d may_write) =
-    errs_if (not (is_same name (name_of d.path))) eacces
+abbrev pub create_at : NodeRequest → ℕ → Room → Made → Walk NodeVerdict
+create_at r flags room made = Looks (AtPath made.path) (create_there r flags room made)
+
+-- ---- in the folder of a document
+
+-- the document's own file
+abbrev pub own_made : ℕ → Document → Made
+own_made view d = record {
+  document = d;
+  path = d.path;
+  node = file_node view d.id.number;
+  names = NamesStay;
+}
+
+abbrev pub create_own : NodeRequest → ℕ → Room → ℕ → Document → Bool → Walk NodeVerdict
+create_own r flags room view d may_write =
+    errs_if (not may_write) eacces
+    (errs_if room.full emfile (create_at r flags room (own_made view d)))
+
+-- a temporary: another file of the document's path, of a generation that the path didn't have
+abbrev pub temp_made : ℕ → Document → List ℕ → FileName → Temp
+temp_made view d name file =
+    record { document = d.id; view = view; name = name; file = file }
+
+abbrev pub created_temp :
+    NodeRequest → ℕ → Room → SeatNames → ℕ → Document → List ℕ → FileName → ℕ → NodeVerdict
+created_temp r flags room names view d name file now =
+    let node = temp_node view (names.added + 1) in
+    Yields (record {
+      answer = NodeAnswer.Created (attr_of_file (on_node r node) true 0 now) (next_handle room);
+      file = Freshens file now;
+      handle = Opens (file_handle d file node flags);
+      names = Begins (temp_made view d name file);
+    })
+
+abbrev pub create_temp :
+    NodeRequest → List ℕ → ℕ → Room → SeatNames → FileName → ℕ → Document → Bool → Walk NodeVerdict
+create_temp r name flags room names file view d may_write =
+    errs_if (is_dots name) eacces
     (errs_if (not may_write) eacces
-    (errs_if room.full emfile
-    (Looks (AtPath d.path) (create_there r flags room d (file_node view d.id.number)))))
+    (errs_if (is_some (found_temp names.temps view d.id name)) eexist
+    (errs_if (room.full || are_temps_full names.temps) emfile
+    (Ends (MakesFresh file) (created_temp r flags room names view d name file) (Errs enoent)))))
 
-abbrev pub create : NodeRequest → List ℕ → ℕ → Option Sight → Room → Walk NodeVerdict
-create r name flags sight room =
+-- another name than the document's is a temporary's, but for a document that is a folder
+abbrev pub create_other :
+    NodeRequest → List ℕ → ℕ → Room → SeatNames → FileName → ℕ → Document → Bool → Walk NodeVerdict
+create_other r name flags room names file view d may_write =
+    cond d.folder (errs eacces) (create_temp r name flags room names file view d may_write)
+
+-- ---- in an exported folder and below it
+
+abbrev pub child_made : SeatNames → Document → Naming → Made
+child_made names d naming = record {
+  document = d;
+  path = naming.path;
+  node = node_of_naming names naming;
+  names = Names naming;
+}
+
+abbrev pub create_named :
+    NodeRequest → ℕ → Room → SeatNames → Document → Bool → Naming → Walk NodeVerdict
+create_named r flags room names d may_write naming =
+    errs_if (not may_write) eacces
+    (errs_if (room.full || lacks_number names.namings naming) emfile
+    (create_at r flags room (child_made names d naming)))
+
+abbrev pub create_child :
+    NodeRequest → ℕ → Room → SeatNames → ℕ → Document → Bool → Option (List ℕ) → Walk NodeVerdict
+create_child r flags room names view d may_write None = errs eacces
+create_child r flags room names view d may_write (Some path) =
+    create_named r flags room names d may_write (naming_in view d path)
+
+-- ---- the request
+
+-- the generation is the next of a path
+abbrev pub create_in :
+    NodeRequest → List ℕ → ℕ → Room → SeatNames → (List ℕ → ℕ) → Folder → Walk NodeVerdict
+create_in r name flags room names generation (RootOf view numbers has_views) = errs eperm
+create_in r name flags room names generation (Views applications) = errs eperm
+create_in r name flags room names generation (FolderOf view d may_write) =
+    cond (is_same name (name_of d.path)) (create_own r flags room view d may_write)
+    (create_other r name flags room names
+    (record { path = d.path; generation = generation d.path }) view d may_write)
+create_in r name flags room names generation (Exported view d path may_write) =
+    create_child r flags room names view d may_write (named_child path name)
+
+abbrev pub create :
+    NodeRequest → List ℕ → ℕ → Option Sight → Room → SeatNames → (List ℕ → ℕ) → Walk NodeVerdict
+create r name flags sight room names generation =
     errs_if (has_no_mode flags) einval
     (errs_if (is_too_long name) enametoolong
-    (by_place sight (no_file enotdir) (create_in r name flags room)))
+    (by_place sight (no_file enotdir) (create_in r name flags room names generation)))

@@ -1,6 +1,7 @@
 -- Worked examples of requests on nodes, over the file /home/a.txt that holds "hello". What is
 -- expected is worked out by hand from the rules and from include/uapi/linux/fuse.h.
 use Rattle.std.specs.Prelude.{◌≡◌, ℕ, ◌+◌, ◌/◌, List, [], ◌∷◌, codes, true, false, cond, Option, Some, None}
+use Rattle.portal_base.specs.declared.files.ChildName.{ChildName}
 use Rattle.portal_base.specs.declared.files.Look.{Look}
 use Rattle.portal_base.specs.declared.who.Kind.TheVariants as Kind
 use Rattle.portal_base.specs.declared.who.Who.{Who}
@@ -22,9 +23,27 @@ use Rattle.portal_model.specs.Node.{walk_on_node}
 use Rattle.portal_model.specs.Opening.{opened}
 use Rattle.portal_model.specs.State.{State, connection_of}
 use Rattle.portal_model.specs.Step.{after, all_told, looks_taken, mount_of, reply_at}
-use Rattle.portal_model.specs.Walk.{reads_clock}
+use Rattle.portal_model.specs.Walk.{generation_reached, listed_shown, reads_clock}
 
 -- ---- requests over a tree that tells, at the moment 7
+
+-- what else a request is given where no device fails: the names that it lists, and the generation
+-- of the file that it makes to be renamed later
+pub record Besides : Type 0 where
+  pub listed : Option (List ChildName)
+  pub generation : Option ℕ
+
+abbrev pub nothing_besides : Besides
+nothing_besides = record { listed = None; generation = None }
+
+abbrev pub besides : State → NodeRequest → List Look → Option Connection → Besides
+besides s r looks None = nothing_besides
+besides s r looks (Some c) =
+    let walk = walk_on_node (all_told c.seat s) c r in
+    record {
+      listed = listed_shown s.files walk;
+      generation = generation_reached walk looks;
+    }
 
 abbrev pub shown : List Look → Option ℕ → Given
 shown looks now = record {
@@ -38,6 +57,12 @@ shown looks now = record {
   fault = Fault.None;
 }
 
+abbrev pub shown_with : List Look → Option ℕ → Besides → Given
+shown_with looks now more = record (shown looks now) {
+  listed = more.listed;
+  generation = more.generation;
+}
+
 abbrev pub request_on : ℕ → NodeOp → NodeRequest
 request_on node op = record { node = node; uid = 1000; gid = 1000; op = op }
 
@@ -49,7 +74,8 @@ moment_for s r looks (Some c) =
 
 abbrev pub given_on : State → ℕ → NodeRequest → List Look → Given
 given_on s seat r looks =
-    shown looks (moment_for s r looks (mount_of (connection_of s.connections seat)))
+    let o = mount_of (connection_of s.connections seat) in
+    shown_with looks (moment_for s r looks o) (besides s r looks o)
 
 -- a request on a node, with the looks that the tree shows
 abbrev pub asks_node : State → ℕ → ℕ → NodeOp → Entry
@@ -245,7 +271,9 @@ pub record Creating : Type 0 where
   pub creates : answer_to of_none 1 a_folder (NodeOp.Create b_name 2)
       ≡ told (NodeAnswer.Created (file_attr a_node 0 7) 1)
   pub again : answer_to created_once 1 a_folder (NodeOp.Create b_name 2) ≡ errs 17
-  pub another_name : answer_to created_once 1 a_folder (NodeOp.Create (codes "c.txt") 2) ≡ errs 13
+  -- another name is a temporary's: 5 * 2^32 + 1
+  pub another_name : answer_to created_once 1 a_folder (NodeOp.Create (codes "c.txt") 2)
+      ≡ told (NodeAnswer.Created (file_attr 21474836481 0 7) 2)
   pub to_write : answer_to (with_rights 1) 1 a_node (NodeOp.Open 1) ≡ errs 13
   pub may_not_write : answer_to (with_rights 1) 1 a_node (NodeOp.Access 2) ≡ errs 13
   pub may_read : answer_to (with_rights 1) 1 a_node (NodeOp.Access 4) ≡ told NodeAnswer.Empty

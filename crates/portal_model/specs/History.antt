@@ -35,7 +35,7 @@ pub record Legal (s : State) (h : List Entry) : Type 0 where
 
 -- ---- cost, in bytes
 
--- a name and a content count their bytes, a forgotten node 16
+-- names and a content count their bytes, a forgotten node 16
 abbrev pub node_bytes : NodeOp → ℕ
 node_bytes (NodeOp.Lookup name) = length name
 node_bytes (NodeOp.BatchForget nodes) = 16 * length nodes
@@ -53,6 +53,8 @@ node_bytes NodeOp.OpenDir = 0
 node_bytes (NodeOp.ReadDir fh offset size) = 0
 node_bytes (NodeOp.ReleaseDir fh) = 0
 node_bytes (NodeOp.Access mask) = 0
+node_bytes (NodeOp.Rename new_parent flags old_name new_name) = length old_name + length new_name
+node_bytes (NodeOp.Unlink name) = length name
 
 abbrev pub who_bytes : Who → ℕ
 who_bytes Who.Host = 0

@@ -3,6 +3,10 @@ pub mod Ordered
 pub mod Rights
 pub mod Documents
 pub mod Applications
+pub mod SeatNames
+pub mod Made
+pub mod SoundNames
+pub mod SoundFiles
 pub mod Content
 pub mod NodeNumbers
 pub mod Place
@@ -29,6 +33,8 @@ pub mod Fsync
 pub mod Release
 pub mod ReleaseDir
 pub mod Access
+pub mod Rename
+pub mod Unlink
 pub mod Verdict
 pub mod Arguments
 pub mod Present
@@ -65,5 +71,7 @@ pub mod DocumentLaws
 pub mod DocumentExamples
 pub mod NodeLaws
 pub mod FileExamples
+pub mod FolderExamples
+pub mod SaveExamples
 pub mod StoreExamples
 pub mod StoreLaws

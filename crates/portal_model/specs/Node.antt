@@ -2,12 +2,13 @@
 use Rattle.std.specs.Prelude.{ℕ, ◌+◌, ◌==◌, nat_lt, List, [], ◌∷◌, ◌++◌, length, map, Bool, not, Option, Some, None, cond}
 use Rattle.std.specs.List.{filter}
 use Rattle.portal_base.specs.Content.{file_named}
-use Rattle.portal_base.specs.FileChanges.{change_named, new_file, put_file, resized, written}
+use Rattle.portal_base.specs.FileChanges.{change_named, fresh_file, new_file, put_file, resized, turned, written}
 use Rattle.portal_base.specs.declared.files.File.{File}
 use Rattle.portal_base.specs.declared.files.FileName.{FileName}
 use Rattle.portal_model.specs.declared.entry.Given.{Given}
 use Rattle.portal_model.specs.declared.handle.Handle.{Handle}
 use Rattle.portal_model.specs.declared.handle.OpenHandle.{OpenHandle}
+use Rattle.portal_model.specs.declared.opening.TakenGeneration.{TakenGeneration}
 use Rattle.portal_model.specs.declared.reply.Answer.{Answer}
 use Rattle.portal_model.specs.declared.reply.Code.TheVariants as Code
 use Rattle.portal_model.specs.declared.request.NodeOp.{NodeOp}
@@ -22,25 +23,29 @@ use Rattle.portal_model.specs.Forget.{forget}
 use Rattle.portal_model.specs.Fsync.{fsync}
 use Rattle.portal_model.specs.GetAttr.{get_attr}
 use Rattle.portal_model.specs.Lookup.{lookup}
-use Rattle.portal_model.specs.NodeVerdict.{NodeDoing, NodeVerdict, FileChange, FilesStay, Writes, Resizes, Creates, HandleChange, HandlesStay, Opens, Closes, Errs, Yields, Room}
+use Rattle.portal_model.specs.NodeVerdict.{NodeDoing, NodeVerdict, FileChange, FilesStay, Writes, Resizes, Creates, Freshens, Turns, HandleChange, HandlesStay, Opens, Closes, NameChange, NamesStay, Names, Begins, Drops, Renames, Errs, Yields, Room}
 use Rattle.portal_model.specs.Open.{open_node}
 use Rattle.portal_model.specs.OpenDir.{open_dir}
-use Rattle.portal_model.specs.Place.{Sight, place_of, reach_at}
+use Rattle.portal_model.specs.Place.{Sight, place_on, reach_at}
 use Rattle.portal_model.specs.Reach.{Reaching}
 use Rattle.portal_model.specs.Read.{read}
 use Rattle.portal_model.specs.ReadDir.{read_dir}
 use Rattle.portal_model.specs.Release.{release}
 use Rattle.portal_model.specs.ReleaseDir.{release_dir}
+use Rattle.portal_model.specs.Rename.{rename}
+use Rattle.portal_model.specs.SeatNames.{SeatNames, names_of, next_generation, with_name, with_naming, with_taken, without_temp}
 use Rattle.portal_model.specs.SetAttr.{set_attr}
 use Rattle.portal_model.specs.State.{State, handle_of, handles_of, is_handle}
+use Rattle.portal_model.specs.Unlink.{unlink}
 use Rattle.portal_model.specs.Walk.{Walk, walked}
 use Rattle.portal_model.specs.Write.{write}
 
 -- ---- what a request on a node depends on
 
 pub record NodeFacts : Type 0 where
-  -- what the caller sees at the node
+  -- what the caller sees at the node, and at another
   pub sight : Option Sight
+  pub sight_of : ℕ → Option Sight
   -- the open handle of each number, on the connection that asks
   pub handle : ℕ → Option Handle
   -- what an open file of a strict document may do now
@@ -48,12 +53,16 @@ pub record NodeFacts : Type 0 where
   -- the bytes of each file, as far as they are told
   pub bytes : FileName → List ℕ
   pub room : Room
+  -- what the connection that asks has named
+  pub names : SeatNames
+  -- the next generation of a path
+  pub generation : List ℕ → ℕ
   -- the greatest length of a file
   pub file_limit : ℕ
 
 -- the one walk of each request
 abbrev pub node_walk : NodeFacts → NodeRequest → NodeOp → Walk NodeVerdict
-node_walk f r (NodeOp.Lookup name) = lookup r name f.sight
+node_walk f r (NodeOp.Lookup name) = lookup r f.names name f.sight
 node_walk f r (NodeOp.Forget count) = forget
 node_walk f r (NodeOp.BatchForget nodes) = forget
 node_walk f r (NodeOp.GetAttr flags fh) = get_attr f.reach r flags f.sight (f.handle fh)
@@ -61,17 +70,22 @@ node_walk f r (NodeOp.SetAttr valid fh size) =
     set_attr f.reach r (record { valid = valid; size = size; limit = f.file_limit }) f.sight
     (f.handle fh)
 node_walk f r (NodeOp.Open flags) = open_node r flags f.sight f.room
-node_walk f r (NodeOp.Create name flags) = create r name flags f.sight f.room
+node_walk f r (NodeOp.Create name flags) =
+    create r name flags f.sight f.room f.names f.generation
 node_walk f r (NodeOp.Read fh offset size) = read f.reach f.bytes offset size (f.handle fh)
 node_walk f r (NodeOp.Write fh offset content) =
     write f.reach f.file_limit offset content (f.handle fh)
 node_walk f r (NodeOp.Flush fh) = flush (f.handle fh)
 node_walk f r (NodeOp.Fsync fh) = fsync (f.handle fh)
 node_walk f r (NodeOp.Release fh) = release fh (f.handle fh)
-node_walk f r NodeOp.OpenDir = open_dir r f.sight f.room
+node_walk f r NodeOp.OpenDir = open_dir r f.sight f.room f.names
 node_walk f r (NodeOp.ReadDir fh offset size) = read_dir offset size (f.handle fh)
 node_walk f r (NodeOp.ReleaseDir fh) = release_dir fh (f.handle fh)
 node_walk f r (NodeOp.Access mask) = access mask f.sight
+node_walk f r (NodeOp.Rename new_parent flags old_name new_name) =
+    rename (record { flags = flags; old_name = old_name; new_name = new_name }) f.names f.sight
+    (f.sight_of new_parent)
+node_walk f r (NodeOp.Unlink name) = unlink f.names name f.sight
 
 -- ---- these in a state
 
@@ -94,11 +108,14 @@ room_of s c = record {
 
 abbrev pub facts_of : State → Connection → ℕ → NodeFacts
 facts_of s c node = record {
-  sight = place_of s c.who node;
+  sight = place_on s c node;
+  sight_of = place_on s c;
   handle = handle_of s.handles c.seat;
   reach = reach_at s c.who;
   bytes = bytes_named s.files;
   room = room_of s c;
+  names = names_of c;
+  generation = next_generation s.taken;
   file_limit = s.limits.file_bytes;
 }
 
@@ -115,6 +132,18 @@ files_after told (Writes name offset content now) files =
 files_after told (Resizes name size now) files =
     cond told (change_named name (resized size now) files) files
 files_after told (Creates path now) files = cond told (put_file (new_file path now) files) files
+files_after told (Freshens name now) files =
+    cond told (put_file (fresh_file name now) files) files
+files_after told (Turns name) files = cond told (turned name files) files
+
+-- the generations that were taken are the portal's own, whatever the tree tells
+abbrev pub taken_after : FileChange → List TakenGeneration → List TakenGeneration
+taken_after (Freshens name now) taken = with_taken name.path name.generation taken
+taken_after FilesStay taken = taken
+taken_after (Writes name offset content now) taken = taken
+taken_after (Resizes name size now) taken = taken
+taken_after (Creates path now) taken = taken
+taken_after (Turns name) taken = taken
 
 abbrev pub new_handle : Connection → Handle → OpenHandle
 new_handle c handle = record { seat = c.seat; fh = c.opens + 1; handle = handle }
@@ -128,6 +157,21 @@ handles_after c (Closes fh) handles = filter (λ h. not (is_handle c.seat fh h))
 abbrev pub counted : ℕ → Connection → Connection
 counted seat c = cond (c.seat == seat) (record c { opens = c.opens + 1 }) c
 
+-- what a connection has named then
+abbrev pub names_after : NameChange → Connection → Connection
+names_after NamesStay c = c
+names_after (Names naming) c = record c { namings = with_naming c.namings naming }
+names_after (Begins temp) c =
+    record c {
+      temps = c.temps ++ record { k = c.added + 1; temp = temp } ∷ [];
+      added = c.added + 1;
+    }
+names_after (Drops k) c = record c { temps = without_temp c.temps k }
+names_after (Renames k temp name) c = record c { temps = with_name c.temps k temp name }
+
+abbrev pub named_on : ℕ → NameChange → Connection → Connection
+named_on seat change c = cond (c.seat == seat) (names_after change c) c
+
 abbrev pub connections_after : Connection → HandleChange → List Connection → List Connection
 connections_after c HandlesStay connections = connections
 connections_after c (Opens handle) connections = map (counted c.seat) connections
@@ -135,9 +179,10 @@ connections_after c (Closes fh) connections = connections
 
 abbrev pub node_done : State → Connection → NodeDoing → State
 node_done s c d = record s {
-  connections = connections_after c d.handle s.connections;
+  connections = map (named_on c.seat d.names) (connections_after c d.handle s.connections);
   handles = handles_after c d.handle s.handles;
   files = files_after s.told d.file s.files;
+  taken = taken_after d.file s.taken;
 }
 
 -- ---- the answer
@@ -149,7 +194,8 @@ settled_on_node s c (Some (Errs errno)) = (s, Answer.Refused (Code.Errno errno))
 settled_on_node s c (Some (Yields d)) = (node_done s c d, Answer.Node d.answer)
 
 abbrev pub node_given : Walk NodeVerdict → Given → Option NodeVerdict
-node_given walk given = walked walk (moment_given given.now) given.looks (is_tree given.fault)
+node_given walk given =
+    walked walk (moment_given given.now) given.listed given.looks (is_tree given.fault)
 
 -- a request on a node, of this connection: the state after, and the answer
 abbrev pub node_answer : State → Connection → NodeRequest → Given → State × Answer

@@ -59,9 +59,14 @@ rights_kept documents = fold with_grants [] documents
 abbrev pub each : {X Y : Type 0} → (X → List Y) → List X → List Y
 each f xs = flat_map f xs
 
--- a file that is there from the start is the first that its path has
 abbrev pub file_of : FileItem → File
-file_of f = record { path = f.path; generation = 0; bytes = f.content; moment = f.moment }
+file_of f = record {
+  path = f.path;
+  generation = f.generation;
+  bytes = f.content;
+  moment = f.moment;
+  present = f.present;
+}
 
 -- the first file of a path, which stands there
 abbrev pub first_item : List ℕ → List ℕ → ℕ → FileItem
@@ -147,7 +152,8 @@ pub record SoundOpening (o : OpeningState) : Type 0 where
   pub files_differ : IsDistinct is_same (map (λ f. f.path) o.files)
   pub files_apart : list_all (λ f. not (is_folder (map file_of o.files) f.path)) o.files ≡ true
   pub files_named : list_all (λ f. is_host_path f.path) o.files ≡ true
-  -- not yet: no document is a folder, and each file is the first that its path has
+  -- records keep no folders, and each file of a tree that a portal starts with is the first that
+  -- its path has
   pub no_folders : list_all (λ d. not d.folder) o.documents ≡ true
   pub files_first : list_all is_first_item o.files ≡ true
   pub none_taken : o.taken ≡ []

@@ -51,11 +51,12 @@ verdict_of s c request given = verdict_given (walk_of s c request given) given
 
 pub record LawfulBus (s : State) (c : Connection) (request : Request) (given : Given) : Type 0 where
   -- the tree shows what the request looks at, up to a call that fails
-  pub looks : Gives (files_told s) (walk_of s c request given) given.looks (is_tree given.fault)
+  pub looks :
+      Gives (files_told s) (walk_of s c request given) given.looks given.listed
+      (is_tree given.fault)
   -- the clock is read where a file is changed
   pub clock : is_some given.now ≡ reads_clock (walk_of s c request given) given.looks
-  -- no folder is listed, and no file is made to be renamed later
-  pub listed : given.listed ≡ None
+  -- no file is made to be renamed later
   pub generation : given.generation ≡ None
   pub words : length given.words ≡ words_drawn (verdict_of s c request given)
   pub numbers : AreDrawn s.made given.words given.numbers

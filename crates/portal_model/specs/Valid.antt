@@ -1,7 +1,7 @@
 -- What is true of every state that a portal reaches.
 use Rattle.std.specs.Prelude.{◌≡◌, ℕ, ◌==◌, ◌^◌, ◌<◌, ◌≤◌, nat_eq, nat_le, nat_lt, List, [], length, map, Bool, true, false, not, ◌&&◌, ◌||◌, Option, Some, None, is_some}
-use Rattle.std.specs.List.{list_any, list_all, IsDistinct}
-use Rattle.portal_base.specs.Names.{is_same, is_app_name, is_host_path, is_byte_of_path}
+use Rattle.std.specs.List.{All, list_any, list_all, IsDistinct}
+use Rattle.portal_base.specs.Names.{is_same, is_app_name, is_host_path, is_byte_of_path, root}
 use Rattle.portal_base.specs.declared.names.doc_id.DocId.{DocId}
 use Rattle.portal_base.specs.declared.who.Kind.{Kind}
 use Rattle.portal_base.specs.declared.who.Who.{Who}
@@ -13,16 +13,15 @@ use Rattle.portal_model.specs.declared.state.Connection.{Connection}
 use Rattle.portal_model.specs.declared.state.Document.{Document}
 use Rattle.portal_model.specs.declared.state.Triple.{Triple}
 use Rattle.portal_model.specs.declared.store.StoredEntry.{StoredEntry}
-use Rattle.portal_model.specs.Content.{is_folder}
 use Rattle.portal_model.specs.Data.{is_data}
 use Rattle.portal_model.specs.NodeNumbers.{view_of_node}
 use Rattle.portal_model.specs.Rights.{are_in_order}
+use Rattle.portal_model.specs.SoundFiles.{SoundFiles}
+use Rattle.portal_model.specs.SoundNames.{SoundNamings, SoundTemps}
 use Rattle.portal_model.specs.State.{State, connection_of, document_of, handles_of, is_mount}
 use Rattle.portal_model.specs.Store.{can_be_told}
+pub use Rattle.portal_model.specs.Made.{is_made}
 pub use Rattle.portal_model.specs.State.{is_none}
-
-abbrev pub is_made : List DocId → ℕ → Bool
-is_made made number = list_any (λ id. id.number == number) made
 
 abbrev pub is_numbered : List (List ℕ) → List ℕ → Bool
 is_numbered applications app = list_any (is_same app) applications
@@ -75,19 +74,16 @@ is_caller (Who.App app) = is_app_name app
 
 -- A connection is bound to a caller. Only the host's buses wait for changes; these tell of entries
 -- that are valid, or were.
-abbrev pub is_bound_connection : ℕ → Connection → Bool
-is_bound_connection queued c =
+abbrev pub is_sound_connection : ℕ → Connection → Bool
+is_sound_connection queued c =
     is_caller c.who
     && ((is_none c.unsent || is_host_bus c.who c.kind)
     && (list_all is_sound_change c.unsent
     && (list_all is_host_path c.queue && nat_le (length c.queue) queued)))
 
--- not yet: nothing was named on it below a folder, and no temporary was made
-abbrev pub has_no_names : Connection → Bool
-has_no_names c = is_none c.namings && (is_none c.temps && c.added == 0)
-
-abbrev pub is_sound_connection : ℕ → Connection → Bool
-is_sound_connection queued c = has_no_names c && is_bound_connection queued c
+-- the root has no name under which it could be exported
+abbrev pub has_name : Document → Bool
+has_name d = not (d.folder && is_same d.path root)
 
 -- the greatest number of applications that may be numbered
 abbrev pub applications_limit : ℕ
@@ -145,8 +141,7 @@ pub record Valid (s : State) : Type 0 where
   pub numbers_made : list_all (λ d. is_made s.made d.id.number) s.documents ≡ true
   pub identifiers : list_all has_identifier s.documents ≡ true
   pub paths : list_all (λ d. is_host_path d.path) s.documents ≡ true
-  -- not yet: no document is a folder
-  pub folders_none : list_all (λ d. not d.folder) s.documents ≡ true
+  pub folders_named : list_all has_name s.documents ≡ true
   pub applications_differ : IsDistinct is_same s.applications
   pub names : list_all is_app_name s.applications ≡ true
   -- rights stand in their one order, none twice
@@ -162,13 +157,10 @@ pub record Valid (s : State) : Type 0 where
       list_all (opens_within s.limits.handles s.handles) s.connections ≡ true
   pub entries_differ : IsDistinct same_entry s.entries
   pub entries_sound : list_all is_valid_entry s.entries ≡ true
-  -- files differ in path, which is one on the host; none lies below a file, and none is the root
-  pub files_differ : IsDistinct is_same (map (λ f. f.path) s.files)
-  pub files_apart : list_all (λ f. not (is_folder s.files f.path)) s.files ≡ true
-  pub files_named : list_all (λ f. is_host_path f.path) s.files ≡ true
-  pub files_told : s.told ≡ false → s.files ≡ []
-  -- not yet: no generation was taken
-  pub taken_none : s.taken ≡ []
+  -- what connections have named
+  pub namings : All (SoundNamings s) s.connections
+  pub temps : All (SoundTemps s) s.connections
+  pub files : SoundFiles s
   pub documents_within : length s.documents ≤ s.limits.documents
   pub made_within : length s.made ≤ s.limits.made
   pub applications_within : length s.applications ≤ applications_limit

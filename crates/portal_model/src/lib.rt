@@ -36,6 +36,7 @@ pub mod entry;
 pub mod errno;
 pub mod examples;
 pub mod file_examples;
+pub mod folder_examples;
 pub mod handle;
 pub mod laws;
 pub mod naming;

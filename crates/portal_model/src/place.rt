@@ -41,12 +41,26 @@ pub enum Place {
         /// The document's identifier.
         id: DocId,
     },
-    /// The file of a document.
+    /// The file of a document, or the folder that it exports.
     File {
         /// The view.
         view: u32,
         /// The document's identifier.
         id: DocId,
+    },
+    /// What the caller's connection named below an exported folder.
+    Named {
+        /// The view.
+        view: u32,
+        /// The number of the naming on the connection, from 1.
+        k: u32,
+    },
+    /// A temporary of the caller's connection.
+    Temporary {
+        /// The view.
+        view: u32,
+        /// The number of the temporary on the connection, from 1.
+        k: u32,
     },
 }
 

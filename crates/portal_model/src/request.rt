@@ -121,6 +121,22 @@ pub enum NodeOp {
         /// The rights that are asked for, as in access(2).
         mask: u32,
     },
+    /// FUSE_RENAME and FUSE_RENAME2.
+    Rename {
+        /// The node of the folder that the new name stands in.
+        new_parent: u64,
+        /// The flags of renameat2(2), 0 of a FUSE_RENAME.
+        flags: u32,
+        /// The name in the folder.
+        old_name: ByteList,
+        /// The new name.
+        new_name: ByteList,
+    },
+    /// FUSE_UNLINK.
+    Unlink {
+        /// The name in the folder.
+        name: ByteList,
+    },
 }
 
 /// The bit of the flags of a FUSE_GETATTR that says that it names an open
@@ -165,7 +181,8 @@ pub struct AddRequest {
     /// empty where the files aren't named.
     pub name: ByteList,
     /// The flags: 1 to use a document again, 2 to keep it beyond the run, 4 to
-    /// leave out what the application holds in its own folder.
+    /// leave out what the application holds in its own folder, 8 to export a
+    /// folder, 16 for open handles to follow later revocations.
     pub flags: u32,
     /// The application that is given permissions, or nothing.
     pub app: ByteList,
@@ -349,6 +366,20 @@ impl Replica for NodeOp {
             &NodeOp::ReadDir { fh, offset, size } => NodeOp::ReadDir { fh, offset, size },
             &NodeOp::ReleaseDir { fh } => NodeOp::ReleaseDir { fh },
             &NodeOp::Access { mask } => NodeOp::Access { mask },
+            NodeOp::Rename {
+                new_parent,
+                flags,
+                old_name,
+                new_name,
+            } => NodeOp::Rename {
+                new_parent: *new_parent,
+                flags: *flags,
+                old_name: old_name.replica(alloc)?,
+                new_name: new_name.replica(alloc)?,
+            },
+            NodeOp::Unlink { name } => NodeOp::Unlink {
+                name: name.replica(alloc)?,
+            },
         })
     }
 }
