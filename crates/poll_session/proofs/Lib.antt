@@ -6,4 +6,6 @@ pub mod Asking
 pub mod Stages
 pub mod Serving
 pub mod Connected
+pub mod EnterLeave
+pub mod Acting
 pub mod LawsOfPolls

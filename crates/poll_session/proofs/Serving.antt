@@ -22,7 +22,7 @@ use Rattle.poll_session.specs.Courses.{Around, Inside, Place, Sight, Standing, m
 use Rattle.poll_session.specs.Outside.{Counts, Faulted, NoneFalls, Waited}
 use Rattle.poll_session.specs.Polls.{Deeds, EndsAs, IsDry, IsHeld, IsIdle, Runs, Waits, followed_by, most_read}
 use Rattle.poll_session.specs.Steps.{AsksNext, Attends, Flushes, Holds, IsServed, MeetsOne, Pauses, Sent, Serves, Takes, TakenIs, turned}
-use Rattle.poll_session.proofs.Joining.{runs_on}
+use Rattle.poll_session.proofs.Joining.{behind_none, runs_on}
 use Rattle.poll_session.proofs.Stages.{ends_further, waits_further}
 use Rattle.poll_session.proofs.StepRuns.{nothing, read_one, runs_broke, runs_none, runs_passed, runs_read, runs_sent, runs_turned, silent, wrote}
 
@@ -158,6 +158,33 @@ module _ (s : Standing) (serves : s.turn ≡ turn.Serve) (idle : IsIdle s) (a : 
     where
       unmet : (f : Served) → met_by s.turn ≡ Some f → ⊥
       unmet f was = let none : met_by s.turn ≡ None = ap met_by serves in absurd (cc)
+
+module _ (s : Standing) (serves : s.turn ≡ turn.Serve) (idle : IsIdle s) (a : Seated) (n : ℕ) (l l' : Option (List ℕ)) (r r' : Counts) (o : Option (List ℕ)) (k : Counts) (same : l' ≡ l) where
+  nothing_came : l ≡ behind [] l'
+  nothing_came = behind_none l ∙ ap (behind []) (sym same)
+
+  -- where the counts of the source stand still
+  pub takes_still : (found : Taken) (t : Standing) → r' ≡ r → Takes found s (sight a n l r o k) t (sight a n l' r o k) → Takes found s (sight a n l r o k) t (sight a n l' r' o k)
+  takes_still found t still h = subst (λ (z : Counts). Takes found s (sight a n l r o k) t (sight a n l' z o k)) (sym still) h
+
+  -- the source ended
+  pub takes_dry : (e : Served) (t : Standing) → e ≡ ending_at s.left → IsDry (sight a n l r o k) → r' ≡ r → t ≡ turned s (turn.Leave e) → Takes taken.Met s (sight a n l r o k) t (sight a n l' r' o k)
+  takes_dry e t is dry still turned_is =
+      takes_still taken.Met t still
+      (subst (λ (z : Option (List ℕ)). Takes taken.Met s (sight a n l r o k) t (sight a n z r o k)) (sym same) (takes_end s serves idle a n l r o k e t is dry turned_is))
+
+  -- nothing came yet
+  pub takes_wait : Waited r r' → Takes taken.NotYet s (sight a n l r o k) s (sight a n l' r' o k)
+  takes_wait waited =
+      let none : record s { left = s.left ++ [] } ≡ s = ap (λ (z : List ℕ). record s { left = z }) (append-nil s.left) in
+      subst (λ (z : Standing). Takes taken.NotYet s (sight a n l r o k) z (sight a n l' r' o k)) none
+      (read_one [] [], runs_read s serves a n l l' r r' o k waited.falls [] nothing_came, (none, refl, waited.risen))
+
+  -- a read failed
+  pub takes_fault : (t : Standing) → Faulted r r' → t ≡ turned s (turn.Leave served.ReadFault) → Takes taken.Met s (sight a n l r o k) t (sight a n l' r' o k)
+  takes_fault t faulted turned_is =
+      subst (λ (z : Standing). Takes taken.Met s (sight a n l r o k) z (sight a n l' r' o k)) (sym turned_is)
+      (read_one [] [], runs_passed s serves a n l l' r r' o k faulted.falls [] nothing_came served.ReadFault (λ h. refl), (served.ReadFault, refl, (faulted.risen, idle)))
 
 -- ---- one piece after another
 

@@ -66,14 +66,15 @@ pub fn enter<D: TryDesk>(
         return;
     };
     let kind = course.client.kind;
-    match desk.try_ask(alloc, Request::Enter { who, kind }) {
+    let asked = desk.try_ask(alloc, Request::Enter { who, kind });
+    desk.known();
+    match asked {
         Asked::Answered(_) => course.turn = Turn::Serve,
         Asked::Refused(refused) => close(course, refused_ending(refused)),
         Asked::Busy { .. } => {
             let _ = context.yield_now::<()>();
         }
     }
-    desk.known();
 }
 
 /// Asks Leave, unless the desk is busy: the connection ended so.
@@ -94,14 +95,16 @@ pub fn leave<D: TryDesk>(
     ensures goes { D.goes desk.old desk.new }
 {
     desk.known();
-    match desk.try_ask(alloc, Request::Leave) {
-        // It isn't refused, since the connection is open.
-        Asked::Answered(_) | Asked::Refused(_) => close(course, ending),
+    let asked = desk.try_ask(alloc, Request::Leave);
+    desk.known();
+    match asked {
+        Asked::Answered(_) => close(course, ending),
+        // This doesn't come, since the connection is open.
+        Asked::Refused(_) => close(course, ending),
         Asked::Busy { .. } => {
             let _ = context.yield_now::<()>();
         }
     }
-    desk.known();
 }
 
 /// Asks the next item that was read. What answers it is unsent then, and nothing

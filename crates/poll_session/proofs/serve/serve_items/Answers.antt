@@ -1,0 +1,32 @@
+use Rattle.poll_session.specs.Courses.{standing}
+use Rattle.poll_session.proofs.Serving.{all_sent, desk_busy, ends_asking, going_none, none_asked, one_asked, sink_fails, sink_waits}
+use Rattle.poll_session.proofs.serve.serve_items.Goals as goal
+
+pub items-init : goal.items-init
+items-init g c = record {
+  going = λ l r. going_none _ _ c.requires;
+  kept = λ fact h. h;
+  goes = g.met.D.TryDesk.stands c.args.desk.now;
+}
+
+pub returns-in-NotYet-clause-serves : goal.returns-in-NotYet-clause-serves
+returns-in-NotYet-clause-serves g c l r = sink_waits _ _ _ _ _ _ l r _ _ _ _ (c.items.invariant.going l r) _ _ _ c.in-NotYet.ensures.flushes
+
+pub returns-in-Failed-clause-serves : goal.returns-in-Failed-clause-serves
+returns-in-Failed-clause-serves g c l r = rw c.meet.ensures (sink_fails _ _ _ _ _ _ l r _ _ _ _ (c.items.invariant.going l r) _ _ _ c.in-Failed.ensures.flushes)
+
+pub items-preserved : goal.items-preserved
+items-preserved g c = record {
+  going = λ l r. (one_asked _ _ _ _ _ _ l r _ _ _ _ (all_sent _ _ _ _ _ _ l r _ _ _ _ (c.items.invariant.going l r) _ _ _ c.in-All.ensures.flushes) _ _ _ (c.in-Asked.ensures.asks l r _ _)).0;
+  kept = λ fact h. c.flush.ensures.kept fact (c.items.invariant.kept fact h);
+  goes = g.met.D.TryDesk.follows _ _ _ c.items.invariant.goes c.ask_next.ensures.goes;
+}
+
+pub returns-in-NoItem-clause-serves : goal.returns-in-NoItem-clause-serves
+returns-in-NoItem-clause-serves g c l r = none_asked _ _ _ _ _ _ l r _ _ _ _ (all_sent _ _ _ _ _ _ l r _ _ _ _ (c.items.invariant.going l r) _ _ _ c.in-All.ensures.flushes) _ _ _ (c.in-NoItem.ensures.asks l r _ _)
+
+pub returns-in-Busy-clause-serves : goal.returns-in-Busy-clause-serves
+returns-in-Busy-clause-serves g c l r = desk_busy _ _ _ _ _ _ l r _ _ _ _ (all_sent _ _ _ _ _ _ l r _ _ _ _ (c.items.invariant.going l r) _ _ _ c.in-All.ensures.flushes) _ _ _ (c.in-Busy.ensures.asks l r _ _)
+
+pub returns-in-Met-clause-serves : goal.returns-in-Met-clause-serves
+returns-in-Met-clause-serves g c l r = ends_asking _ _ _ _ _ _ l r _ _ _ _ (all_sent _ _ _ _ _ _ l r _ _ _ _ (c.items.invariant.going l r) _ _ _ c.in-All.ensures.flushes) _ _ _ (c.in-Met.ensures.asks l r _ _)
