@@ -1,0 +1,6 @@
+pub mod Fronts
+pub mod Asking
+pub mod Seats
+pub mod FrontOut
+pub mod Made
+pub mod Steps

@@ -1,0 +1,136 @@
+//! A front that runs.
+
+ghost use Rattle.std.specs.Prelude.{◌≡◌, ℕ, List, []};
+ghost use Rattle.front_core.specs.declared.links.Link.{Link};
+ghost use Rattle.front_core.specs.Made.{front_at};
+ghost use Rattle.front_core.specs.Running.{EndsAs};
+ghost use Rattle.front_core.specs.Steps.{AppsAreServed, Stands};
+ghost use Rattle.portal_steps.specs.Story.{state_now};
+
+use crate::end::{FrontEnd, Given, NextInput};
+use front_core::front::{FrontInput, FrontOutput};
+use front_core::machine::FrontCore;
+use host_tree::HostTree;
+use portal_base::limits::Settings;
+use portal_base::list::List;
+use portal_base::memory::Replica;
+use portal_base::outside::{Clock, Words};
+use portal_core::portal::Portal;
+use record_keeper::Keeper;
+use std::alloc::Global;
+use std::sync::Wait;
+
+/// How a front ended.
+#[derive(Clone, Copy, PartialEq, Eq)]
+pub enum FrontStatus {
+    /// Its end closed.
+    Closed,
+    /// Its end failed.
+    EndFault,
+    /// There was no memory.
+    Memory,
+}
+
+/// How a front ended, and its portal.
+pub struct FrontDone<T: HostTree, K: Keeper, C: Clock, W: Words> {
+    /// How it ended.
+    pub status: FrontStatus,
+    /// Its portal, with the history that it made.
+    pub portal: Portal<T, K, C, W>,
+}
+
+/// Runs a front of a portal on which no connection is open, until its end closes or
+/// fails, or memory is wanted.
+pub fn run_front<R: Wait, E: FrontEnd, T: HostTree, K: Keeper, C: Clock, W: Words>(
+    alloc: Global,
+    rt: &R,
+    end: &mut E,
+    portal: Portal<T, K, C, W>,
+    settings: &Settings,
+) -> FrontDone<T, K, C, W>
+    requires { (state_now portal.story).connections ≡ [] }
+    ensures ends { (last : List (ℕ × Link)) × EndsAs result.status settings.now
+        (front_at portal []) (E.told end.old) (E.ends end.old) (E.faults end.old) (E.told end.new)
+        (E.ends end.new) (E.faults end.new) (front_at result.portal last) portal.refusals
+        result.portal.refusals }
+    // Whatever it ended with.
+    ensures stands { Stands (front_at portal []) (front_at result.portal []) }
+    ensures isolated { AppsAreServed (front_at portal []) (front_at result.portal []) }
+{
+    let Ok(settings) = settings.replica(alloc) else {
+        return FrontDone {
+            status: FrontStatus::Memory,
+            portal,
+        };
+    };
+    let mut core = FrontCore::new(alloc, portal, settings);
+    let status = run(alloc, rt, end, &mut core);
+    FrontDone {
+        status,
+        portal: core.into_portal(),
+    }
+}
+
+/// Takes the inputs of an end in, one after another.
+fn run<R: Wait, E: FrontEnd, T: HostTree, K: Keeper, C: Clock, W: Words>(
+    alloc: Global,
+    rt: &R,
+    end: &mut E,
+    core: &mut FrontCore<T, K, C, W>,
+) -> FrontStatus {
+    'inputs: for _ in rt.forever() {
+        let input = match end.next(alloc) {
+            NextInput::Input(input) => input,
+            NextInput::Closed => return FrontStatus::Closed,
+            NextInput::Failed => return FrontStatus::EndFault,
+            NextInput::Memory => return FrontStatus::Memory,
+        };
+        match take(alloc, end, core, input) {
+            Ok(()) => {}
+            Err(status) => return status,
+        }
+    }
+    unreachable!()
+}
+
+/// Takes an input in, and a wake behind it where one is due, and gives what they come
+/// to.
+fn take<E: FrontEnd, T: HostTree, K: Keeper, C: Clock, W: Words>(
+    alloc: Global,
+    end: &mut E,
+    core: &mut FrontCore<T, K, C, W>,
+    input: FrontInput,
+) -> Result<(), FrontStatus> {
+    if step(alloc, end, core, input)? {
+        // One wake: what is left unsent then was refused.
+        let _ = step(alloc, end, core, FrontInput::Wake)?;
+    }
+    Ok(())
+}
+
+/// Takes one input in and gives what it comes to. Says whether a wake is due.
+fn step<E: FrontEnd, T: HostTree, K: Keeper, C: Clock, W: Words>(
+    alloc: Global,
+    end: &mut E,
+    core: &mut FrontCore<T, K, C, W>,
+    input: FrontInput,
+) -> Result<bool, FrontStatus> {
+    match core.step(alloc, input) {
+        Ok(step) => {
+            give_all(end, step.outputs)?;
+            Ok(step.wake)
+        }
+        Err(_) => Err(FrontStatus::Memory),
+    }
+}
+
+/// Gives outputs, one after another.
+fn give_all<E: FrontEnd>(end: &mut E, outputs: List<FrontOutput>) -> Result<(), FrontStatus> {
+    for output in outputs.into_vec() {
+        match end.give(output) {
+            Given::Done => {}
+            Given::Failed => return Err(FrontStatus::EndFault),
+        }
+    }
+    Ok(())
+}
