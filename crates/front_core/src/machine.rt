@@ -5,6 +5,7 @@ ghost use Rattle.front_core.specs.FrontOut.{FrontOut};
 ghost use Rattle.front_core.specs.Fronts.{Agrees, front_at, front_of};
 ghost use Rattle.front_core.specs.Made.{Further, Makes, scene};
 ghost use Rattle.front_core.specs.Steps.{AppsAreServed, Comes, Stands, Steps};
+ghost use Rattle.front_links.specs.Links.{no_links};
 ghost use Rattle.portal_steps.specs.Story.{state_now};
 
 use crate::front::{FrontInput, FrontOutput, FrontStep};
@@ -61,7 +62,7 @@ impl<T: HostTree, K: Keeper, C: Clock, W: Words> FrontCore<T, K, C, W> {
         ensures { result ≡ record {
           portal = portal;
           settings = settings;
-          links = record { hearers = []; others = [] };
+          links = no_links;
           is_over = false;
         } }
     {

@@ -7,6 +7,10 @@ pub record LinksAre (L : Type 0) : Type 0 where
   pub hearers : List (ℕ × L)
   pub others : List (ℕ × L)
 
+-- no link is open
+abbrev pub no_links : {L : Type 0} → LinksAre L
+no_links = record { hearers = []; others = [] }
+
 -- the first, and else the second
 abbrev pub first_of_both : {L : Type 0} → Option L → Option L → Option L
 first_of_both None second = second

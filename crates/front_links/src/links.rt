@@ -1,7 +1,7 @@
 //! Links by their numbers.
 
-ghost use Rattle.std.specs.Prelude.{◌≡◌, IfOk, None, OnErr, OnOk, Some, [], is_some, option_copied};
-ghost use Rattle.front_links.specs.Links.{AreWhere, Becomes, first_of_both, found, hears_at, link_at, placed};
+ghost use Rattle.std.specs.Prelude.{◌≡◌, IfOk, None, OnErr, OnOk, Some, is_some, option_copied};
+ghost use Rattle.front_links.specs.Links.{AreWhere, Becomes, first_of_both, found, hears_at, link_at, no_links, placed};
 
 use portal_base::list::List;
 use portal_base::memory::WantOfMemory;
@@ -47,7 +47,7 @@ impl<L: Hears> Model for Links<L> {
 impl<L: Hears> Links<L> {
     /// No link is open.
     pub fn new(alloc: Global) -> Links<L>
-        ensures { result ≡ record { hearers = []; others = [] } }
+        ensures { result ≡ no_links }
     {
         Links {
             hearers: BTreeMap::new(alloc),

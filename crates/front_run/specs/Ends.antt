@@ -3,8 +3,8 @@ use Rattle.std.specs.Prelude.{◌≡◌, ℕ, ◌≤◌, List, [], ◌∷◌, �
 use Rattle.portal_base.specs.Outside.{HasRisen}
 use Rattle.front_run.specs.declared.end.EndEvent.{EndEvent}
 use Rattle.front_run.specs.declared.end.EndEvent.TheVariants.{Taken, Gave}
-use Rattle.front_run.specs.declared.end.Given.{Given}
-use Rattle.front_run.specs.declared.end.Given.TheVariants as given
+use Rattle.front_run.specs.declared.end.Given2.{Given2}
+use Rattle.front_run.specs.declared.end.Given2.TheVariants as given
 use Rattle.front_run.specs.declared.end.NextInput.{NextInput}
 use Rattle.front_run.specs.declared.end.NextInput.TheVariants as next
 use Rattle.front_core.specs.declared.front.FrontInput.{FrontInput}
@@ -36,12 +36,12 @@ NextCounts ends faults next.Failed ends' faults' = (ends' ≡ ends) × HasRisen 
 NextCounts ends faults next.Memory ends' faults' = (ends' ≡ ends) × (faults' ≡ faults)
 
 -- An output is given behind the others, or not at all.
-abbrev pub Gives : Option Log → FrontOutput → Given → Option Log → Type 0
+abbrev pub Gives : Option Log → FrontOutput → Given2 → Option Log → Type 0
 Gives None output answer new = new ≡ None
 Gives (Some old) output given.Done new =
     new ≡ Some (log old.coming (old.events ++ Gave output ∷ []))
 Gives (Some old) output given.Failed new = new ≡ Some old
 
-abbrev pub GiveCounts : ℕ → Given → ℕ → Type 0
+abbrev pub GiveCounts : ℕ → Given2 → ℕ → Type 0
 GiveCounts faults given.Done faults' = faults' ≡ faults
 GiveCounts faults given.Failed faults' = (faults ≤ faults') × HasRisen faults faults'

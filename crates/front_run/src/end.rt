@@ -20,7 +20,7 @@ pub enum NextInput {
 
 /// What became of an output.
 #[derive(Clone, Copy, PartialEq, Eq)]
-pub enum Given {
+pub enum Given2 {
     /// It was given.
     Done,
     /// The end failed.
@@ -61,7 +61,7 @@ pub trait FrontEnd {
             (faults self.new) };
 
     /// Gives an output.
-    fn give(&mut self, output: FrontOutput) -> Given
+    fn give(&mut self, output: FrontOutput) -> Given2
         ensures gives { Gives (told self.old) output result (told self.new) }
         ensures ends { ends self.new ≡ ends self.old }
         ensures counts { GiveCounts (faults self.old) result (faults self.new) };

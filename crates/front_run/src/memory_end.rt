@@ -4,7 +4,7 @@ ghost use Rattle.std.specs.Prelude.{◌≡◌, [], Some, IfOk};
 ghost use Rattle.front_run.specs.InMemory.{log_of};
 ghost use Rattle.front_run.specs.Ends.{log};
 
-use crate::end::{EndEvent, FrontEnd, Given, NextInput};
+use crate::end::{EndEvent, FrontEnd, Given2, NextInput};
 use front_core::front::{FrontInput, FrontOutput};
 use portal_base::list::List;
 use portal_base::memory::{Replica, WantOfMemory};
@@ -74,12 +74,12 @@ impl FrontEnd for MemoryEnd {
         }
     }
 
-    fn give(&mut self, output: FrontOutput) -> Given {
+    fn give(&mut self, output: FrontOutput) -> Given2 {
         match self.events.push(EndEvent::Gave(output)) {
-            Ok(()) => Given::Done,
+            Ok(()) => Given2::Done,
             Err(_) => {
                 self.faults = self.faults.saturating_add(1);
-                Given::Failed
+                Given2::Failed
             }
         }
     }

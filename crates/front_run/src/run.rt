@@ -1,13 +1,13 @@
 //! A front that runs.
 
-ghost use Rattle.std.specs.Prelude.{◌≡◌, ℕ, List, []};
-ghost use Rattle.front_core.specs.declared.links.Link.{Link};
-ghost use Rattle.front_core.specs.Made.{front_at};
-ghost use Rattle.front_core.specs.Running.{EndsAs};
+ghost use Rattle.std.specs.Prelude.{◌≡◌, ℕ, List, [], IfOk, IfErr, OnOk};
+ghost use Rattle.front_core.specs.Fronts.{LinkIs, front_at, front_of};
 ghost use Rattle.front_core.specs.Steps.{AppsAreServed, Stands};
+ghost use Rattle.front_links.specs.Links.{LinksAre, no_links};
+ghost use Rattle.front_run.specs.Running.{EndsAs, GivesAll, Ran, StepsSo, TakesSo};
 ghost use Rattle.portal_steps.specs.Story.{state_now};
 
-use crate::end::{FrontEnd, Given, NextInput};
+use crate::end::{FrontEnd, Given2, NextInput};
 use front_core::front::{FrontInput, FrontOutput};
 use front_core::machine::FrontCore;
 use host_tree::HostTree;
@@ -40,7 +40,8 @@ pub struct FrontDone<T: HostTree, K: Keeper, C: Clock, W: Words> {
 }
 
 /// Runs a front of a portal on which no connection is open, until its end closes or
-/// fails, or memory is wanted.
+/// fails, or memory is wanted. Behind each input that leaves signals unsent one wake is
+/// taken in.
 pub fn run_front<R: Wait, E: FrontEnd, T: HostTree, K: Keeper, C: Clock, W: Words>(
     alloc: Global,
     rt: &R,
@@ -49,14 +50,15 @@ pub fn run_front<R: Wait, E: FrontEnd, T: HostTree, K: Keeper, C: Clock, W: Word
     settings: &Settings,
 ) -> FrontDone<T, K, C, W>
     requires { (state_now portal.story).connections ≡ [] }
-    ensures ends { (last : List (ℕ × Link)) × EndsAs result.status settings.now
-        (front_at portal []) (E.told end.old) (E.ends end.old) (E.faults end.old) (E.told end.new)
-        (E.ends end.new) (E.faults end.new) (front_at result.portal last) portal.refusals
-        result.portal.refusals }
+    ensures ends { (links : LinksAre LinkIs) × EndsAs result.status settings.now
+        (front_at portal no_links) (E.told end.old) (E.ends end.old) (E.faults end.old)
+        (E.told end.new) (E.ends end.new) (E.faults end.new) (front_at result.portal links)
+        portal.refusals result.portal.refusals }
     // Whatever it ended with.
-    ensures stands { Stands (front_at portal []) (front_at result.portal []) }
-    ensures isolated { AppsAreServed (front_at portal []) (front_at result.portal []) }
+    ensures stands { Stands (front_at portal no_links) (front_at result.portal no_links) }
+    ensures isolated { AppsAreServed (front_at result.portal no_links) }
 {
+    portal.known();
     let Ok(settings) = settings.replica(alloc) else {
         return FrontDone {
             status: FrontStatus::Memory,
@@ -128,8 +130,8 @@ fn step<E: FrontEnd, T: HostTree, K: Keeper, C: Clock, W: Words>(
 fn give_all<E: FrontEnd>(end: &mut E, outputs: List<FrontOutput>) -> Result<(), FrontStatus> {
     for output in outputs.into_vec() {
         match end.give(output) {
-            Given::Done => {}
-            Given::Failed => return Err(FrontStatus::EndFault),
+            Given2::Done => {}
+            Given2::Failed => return Err(FrontStatus::EndFault),
         }
     }
     Ok(())
