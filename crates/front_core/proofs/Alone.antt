@@ -4,11 +4,11 @@ use Rattle.std.specs.List.{All}
 use Rattle.std.specs.Option.{option_map}
 use Rattle.std.proofs.lemmas.Bool.Decides.{nat_tests}
 use Rattle.std.proofs.lemmas.List.{append_cancel_left}
-use Rattle.portal_core.specs.Chain.{answered}
+use Rattle.portal_core.specs.Chain.{answered, refused}
 use Rattle.portal_core.specs.Growth.{RefusedFor}
 use Rattle.portal_model.specs.declared.entry.Entry.{Entry}
 use Rattle.portal_model.specs.declared.reply.Refused.{Refused}
-use Rattle.portal_model.specs.declared.reply.Refused.TheVariants as refused
+use Rattle.portal_model.specs.declared.reply.Refused.TheVariants as why_refused
 use Rattle.portal_model.specs.declared.request.Request.{Request}
 use Rattle.portal_model.specs.History.{cost, cost_of, of_seat, run}
 use Rattle.portal_model.specs.Seated.{BeginsWith, Binding, Exchange, HasCause, Moved, Seated, bound, bound_by, exchanges, rises_by}
@@ -29,8 +29,8 @@ cause_from : (t s : State) (h : List Entry) (request : Request) (why : Refused) 
 cause_from t s h request why e r = subst (λ (z : State). RefusedFor z h request why) e r
 
 cause_as : (d : Seated) (request : Request) (why : Refused) → HasCause d request why → RefusedFor d.opening d.seen request why
-cause_as d request refused.Memory h = h
-cause_as d request (refused.Full now limit) h = (h.0, h.1, let far = h.2 in let at = h.0 in let most = h.1 in omega arith)
+cause_as d request why_refused.Memory h = h
+cause_as d request (why_refused.Full now limit) h = (h.0, h.1, let far = h.2 in let at = h.0 in let most = h.1 in omega arith)
 
 pub causes_from : (os : List Outcome) (v w : Seated) (s : State) → v.opening ≡ s → ledger.AreCaused v w os → AreCaused s v.seen w.seen os
 causes_from [] v w s e h = tt
@@ -77,6 +77,9 @@ one_asked s h h' seat r o (first, us, mid, parts, asked, (none, last)) =
     let same : first ≡ o = cc in
     subst (λ (z : List Entry). IsAsked s h seat r o z) (sym last) (subst (λ (z : Outcome). IsAsked s h seat r z mid) same asked)
 
+counts_as : (m n c a b : ℕ) → c ≡ rises_by 0 m → c ≡ rises_by 0 n → b ≡ rises_by a m → b ≡ rises_by a n
+counts_as m n c a b e f g = omega arith
+
 -- ---- at a portal
 
 module _ {T K C W : Type 0} (p q : PortalIs T K C W) (seat count : ℕ) (own : Alone seat count p q) (same : state_first q.story ≡ state_first p.story) where
@@ -107,8 +110,4 @@ module _ {T K C W : Type 0} (p q : PortalIs T K C W) (seat count : ℕ) (own : A
     caused_alone = causes_from os (known_at p seat 0) (known_at q seat count) (state_first p.story) refl g.caused
 
     pub counted_alone : q.refusals ≡ rises_by p.refusals (denied os)
-    counted_alone =
-        let a = own.count in
-        let b = own.kept_count in
-        let c = g.refusals in
-        omega arith
+    counted_alone = counts_as (refused own.asked) (denied os) count p.refusals q.refusals own.count g.refusals own.kept_count

@@ -1,5 +1,5 @@
 -- Links that are opened and closed.
-use Rattle.std.proofs.Common.{◌≡◌, ◌⊎◌, inl, inr, ℕ, zero, suc, ◌+◌, ◌≤◌, ◌<◌, ◌==◌, List, [], ◌∷◌, ◌++◌, length, Bool, true, false, not, ◌&&◌, cond, Option, Some, None, is_some, is_none, Ok, Err, refl, sym, ap, ◌∙◌, subst, arith, nat_lt}
+use Rattle.std.proofs.Common.{◌≡◌, ◌⊎◌, inl, inr, ℕ, zero, suc, ◌+◌, ◌≤◌, ◌<◌, ◌==◌, List, [], ◌∷◌, ◌++◌, length, Bool, true, false, not, ◌&&◌, cond, Option, Some, None, is_some, is_none, Result, Ok, Err, refl, sym, ap, ◌∙◌, subst, arith, nat_lt}
 use Rattle.std.specs.Option.{option_map}
 use Rattle.std.specs.Prelude.{IfSome}
 use Rattle.std.proofs.lemmas.Bool.Decides.{nat_tests}
@@ -14,7 +14,7 @@ use Rattle.portal_model.specs.declared.reply.Refused.{Refused}
 use Rattle.portal_model.specs.declared.reply.Reply.{Reply}
 use Rattle.portal_model.specs.declared.request.Request.{Request}
 use Rattle.portal_model.specs.declared.state.Connection.{Connection}
-use Rattle.portal_model.specs.Seated.{Asks, Binding, Exchange, binding_of, bound, is_open, rises_by}
+use Rattle.portal_model.specs.Seated.{Asks, Binding, Exchange, Seated, binding_of, bound, is_open, rises_by}
 use Rattle.portal_model.specs.State.{State, connection_of}
 use Rattle.portal_steps.specs.Story.{PortalIs, state_first, state_now}
 use Rattle.session.specs.declared.act.Client.{Client}
@@ -22,7 +22,7 @@ use Rattle.session.specs.declared.served.Fed.TheVariants as fed
 use Rattle.session.specs.declared.served.Served.{Served}
 use Rattle.session.specs.Answers.{AreOf, Denied, Made, Outcome, denied}
 use Rattle.session.specs.Connections.{served_by}
-use Rattle.session.specs.Sessions.{Closes, ending, enter}
+use Rattle.session.specs.Sessions.{Closes, Opens, ending, enter}
 use Rattle.session.specs.Standings.{Standing, client, fresh}
 use Rattle.session.proofs.ConnectionStaysOpen.{not_open}
 use Rattle.session.proofs.Grew.{asked_err, asked_ok}
@@ -86,6 +86,32 @@ refused_alone p q seat count own same c why asks =
       counted = counted_alone p q seat count own same (o ∷ []) g;
     }
 
+-- by what beginning came to, and how many requests were refused
+
+begun_open : (c : Client) (v w : Seated) (session : Standing) → Opens c v (Ok session) w → Begins c v (begun.Open session) w
+begun_open c v w session h = (h.0, h.1)
+
+begun_refused : (c : Client) (v w : Seated) (why : Refused) → v.refusals ≡ 0 → 1 ≤ w.refusals → Opens c v (Err why) w → Begins c v (begun.Refused why) w
+begun_refused c v w why none some (inl (is, still), more) =
+    let same : w.refusals ≡ v.refusals = ap (λ (z : Seated). z.refusals) still in
+    absurd (omega arith)
+begun_refused c v w why none some (inr asks, more) = asks
+
+begun_unasked : (c : Client) (v w : Seated) (why : Refused) → v.refusals ≡ 0 → w.refusals ≡ 0 → Opens c v (Err why) w → Begins c v begun.Unasked w
+begun_unasked c v w why none still (inl (is, same), more) = same
+begun_unasked c v w why none still (inr asks, more) =
+    let risen : w.refusals ≡ rises_by v.refusals 1 = asks.answered.refusals in
+    absurd (omega arith)
+
+pub begins_open : (c : Client) (v w : Seated) (r : Result Standing Refused) (session : Standing) → r ≡ Ok session → Opens c v r w → Begins c v (begun.Open session) w
+begins_open c v w r session is h = begun_open c v w session (subst (λ (z : Result Standing Refused). Opens c v z w) is h)
+
+pub begins_refused : (c : Client) (v w : Seated) (r : Result Standing Refused) (why : Refused) → v.refusals ≡ 0 → 1 ≤ w.refusals → r ≡ Err why → Opens c v r w → Begins c v (begun.Refused why) w
+begins_refused c v w r why none some is h = begun_refused c v w why none some (subst (λ (z : Result Standing Refused). Opens c v z w) is h)
+
+pub begins_unasked : (c : Client) (v w : Seated) (r : Result Standing Refused) (why : Refused) → v.refusals ≡ 0 → w.refusals ≡ 0 → r ≡ Err why → Opens c v r w → Begins c v begun.Unasked w
+begins_unasked c v w r why none still is h = begun_unasked c v w why none still (subst (λ (z : Result Standing Refused). Opens c v z w) is h)
+
 -- ---- nothing is done
 
 none_taken : (t : Bool) (z : Option LinkIs) → (t ≡ true → z ≡ None) → cond t None z ≡ z
@@ -117,11 +143,11 @@ still_agrees p links links' same a = subst (λ (z : ℕ → Option LinkIs). Agre
 -- ---- a link is opened
 
 pub agrees_weaken : (a : Front) (number : ℕ) → Agrees a → AgreesBut number a
-agrees_weaken a number h = record { none = h.none; at = λ n other. h.at n }
+agrees_weaken a number h = record { none = h.none; each = λ n other. h.each n }
 
 -- where no link is open no connection is
 pub closed_at : (a : Front) (number : ℕ) → Agrees a → a.links number ≡ None → is_open (state_of a) number ≡ false
-closed_at a number h none = unbound (connection_of (state_of a).connections number) ((h.at number).bound_alike ∙ ap (option_map binding_at) none)
+closed_at a number h none = unbound (connection_of (state_of a).connections number) ((h.each number).bound_alike ∙ ap (option_map binding_at) none)
   where
     unbound : (o : Option Connection) → option_map binding_of o ≡ None → is_some o ≡ false
     unbound None e = refl
@@ -237,7 +263,7 @@ open_from_1 a (suc n) at h found = omega arith
 
 -- and an open connection of its client, and goes on
 pub open_at : (a : Front) (number : ℕ) (at : LinkIs) → Agrees a → a.links number ≡ Some at → bound (state_of a) number ≡ Some (binding at.session)
-open_at a number at h found = (h.at number).bound_alike ∙ ap (option_map binding_at) found
+open_at a number at h found = (h.each number).bound_alike ∙ ap (option_map binding_at) found
 
 pub goes_at : (a : Front) (number : ℕ) (at : LinkIs) → Agrees a → a.links number ≡ Some at → GoesOn at
-goes_at a number at h found = subst (λ (o : Option LinkIs). IfSome o GoesOn) found (h.at number).going
+goes_at a number at h found = subst (λ (o : Option LinkIs). IfSome o GoesOn) found (h.each number).going

@@ -99,7 +99,7 @@ module _ {T K C W : Type 0} (p q : PortalIs T K C W) (links links' : LinksAre Li
 
   -- a link is taken out, and its seat asks
   pub agrees_but : 1 ≤ number → Agrees (front_at p links) → AgreesBut number (front_at q links')
-  agrees_but h a = record { none = none_first h a.none; at = λ n other. stays_at n other (a.at n) }
+  agrees_but h a = record { none = none_first h a.none; each = λ n other. stays_at n other (a.each n) }
 
   put_here : IfSome x GoesOn → bound (state_now q.story) number ≡ option_map binding_at x → (n : ℕ) → (number == n) ≡ true → AgreesAt (front_at q links') n
   put_here going binding n t =
@@ -112,11 +112,11 @@ module _ {T K C W : Type 0} (p q : PortalIs T K C W) (links links' : LinksAre Li
 
   at_each : AgreesBut number (front_at p links) → IfSome x GoesOn → bound (state_now q.story) number ≡ option_map binding_at x → (n : ℕ) (t : Bool) → (number == n) ≡ t → AgreesAt (front_at q links') n
   at_each a going binding n true t = put_here going binding n t
-  at_each a going binding n false t = stays_at n t (a.at n t)
+  at_each a going binding n false t = stays_at n t (a.each n t)
 
   -- and is put again, or closed
   pub agrees_again : 1 ≤ number → AgreesBut number (front_at p links) → IfSome x GoesOn → bound (state_now q.story) number ≡ option_map binding_at x → Agrees (front_at q links')
-  agrees_again h a going binding = record { none = none_first h a.none; at = λ n. at_each a going binding n (number == n) refl }
+  agrees_again h a going binding = record { none = none_first h a.none; each = λ n. at_each a going binding n (number == n) refl }
 
 -- ---- what is made, one part behind another
 

@@ -1,11 +1,12 @@
 -- What a link is given, one part behind another, and what is true behind that.
-use Rattle.std.proofs.Common.{◌≡◌, ℕ, ◌+◌, ◌≤◌, ◌==◌, List, [], ◌∷◌, ◌++◌, length, Bool, true, false, ◌&&◌, Option, Some, None, refl, sym, ap, ◌∙◌, subst, arith, nat_lt}
+use Rattle.std.proofs.Common.{◌≡◌, ℕ, ◌+◌, ◌-◌, ◌≤◌, ◌==◌, List, [], ◌∷◌, ◌++◌, length, Bool, true, false, ◌&&◌, Option, Some, None, Result, Ok, Err, refl, sym, ap, ◌∙◌, subst, arith, nat_lt}
 use Rattle.std.specs.Option.{option_map}
-use Rattle.std.specs.Prelude.{IfSome, if◌then◌else◌}
+use Rattle.std.specs.Prelude.{IfSome, OnOk, if◌then◌else◌}
 use Rattle.std.proofs.lemmas.Bool.Decides.{nat_tests}
 use Rattle.std.proofs.lemmas.List.{append-nil, append_assoc}
 use Rattle.front_links.specs.Links.{LinksAre, hears_at, link_at, placed}
 use Rattle.front_links.specs.Pending.{is_slow, most_pending}
+use Rattle.portal_base.specs.declared.limits.Settings.{Settings}
 use Rattle.portal_base.specs.declared.who.Who.{Who}
 use Rattle.portal_model.specs.declared.entry.Entry.{Entry}
 use Rattle.portal_model.specs.declared.request.Request.{Request}
@@ -21,15 +22,16 @@ use Rattle.session.specs.Pushes.{is_ready, with_serial}
 use Rattle.session.specs.Standings.{Standing}
 use Rattle.front_core.specs.declared.front.FrontEnding.{FrontEnding}
 use Rattle.front_core.specs.declared.front.FrontEnding.TheVariants as ends
+use Rattle.front_core.specs.declared.front.FrontInput.TheVariants.{Took}
 use Rattle.front_core.specs.declared.front.FrontOutput.{FrontOutput}
 use Rattle.front_core.specs.declared.front.FrontOutput.TheVariants.{Close}
-use Rattle.front_core.specs.FrontOut.{AtLink, CameAt, CameGives, Gives, IsMet, Settles, TellsLink, ends_by, has_room, met_by, written}
-use Rattle.front_core.specs.Fronts.{Agrees, AgreesBut, Front, LinkIs, binding, front_at, may_be_told}
-use Rattle.front_core.specs.Made.{Further, Makes, scene}
+use Rattle.front_core.specs.FrontOut.{AtLink, CameAt, CameGives, FrontOut, Gives, IsMet, Settles, TellsLink, ends_by, has_room, met_by, took_at, took_from, written}
+use Rattle.front_core.specs.Fronts.{Agrees, AgreesBut, Front, GoesOn, LinkIs, binding, front_at, may_be_told}
+use Rattle.front_core.specs.Made.{Further, Makes, Scene, scene}
 use Rattle.front_core.specs.Seats.{Leaves}
-use Rattle.front_core.proofs.Coming.{placed_none}
+use Rattle.front_core.proofs.Coming.{agrees_weaken, goes_at, open_at, open_from_1, placed_none, still_agrees}
 use Rattle.front_core.proofs.Hearing.{Heard, came_gives, met_at}
-use Rattle.front_core.proofs.Placing.{agrees_again, fronts_alike, gives_behind, makes_as, placed_here}
+use Rattle.front_core.proofs.Placing.{agrees_again, fronts_alike, gives_behind, makes_as, placed_here, placed_twice}
 use Rattle.front_core.proofs.Telling.{Pushed}
 
 pub further_none : {T K C W : Type 0} (p : PortalIs T K C W) → Further p p
@@ -135,3 +137,76 @@ pub told_host : (links : LinksAre LinkIs) (number : ℕ) (at : LinkIs) → hears
 told_host links number at h found =
     let both = of_both (is_host at.session.client.who) (is_ready at.session) (ap (hears_at may_be_told) (sym found) ∙ h) in
     (the_host at.session.client.who both.0, both.1)
+
+-- ---- what a call answers that may want memory
+
+pub ok_as : {X E P Q : Type 0} (r : Result X E) → (P → Q) → OnOk r P → OnOk r Q
+ok_as (Ok x) to p = to p
+ok_as (Err e) to p = tt
+
+pub ok_both : {X E P Q S : Type 0} (r : Result X E) → (P → Q → S) → OnOk r P → OnOk r Q → OnOk r S
+ok_both (Ok x) to p q = to p q
+ok_both (Err e) to p q = tt
+
+-- ---- the bytes of pieces, and the link that they are given
+
+module _ {T K C W : Type 0} (p q : PortalIs T K C W) (links links' : LinksAre LinkIs) (number : ℕ) (at : LinkIs) (pieces : List (List ℕ)) (met : Option FrontEnding) (outs outs' : List FrontOutput) (bytes : List ℕ) (pending : ℕ) (bytes_are : bytes ≡ joined pieces) (pending_is : pending ≡ at.pending + length bytes) (r : Option FrontEnding) (r_is : r ≡ ends_by pending met) where
+  abbrev SettlingPieces : Front → List Outcome → List FrontOutput → Front → Type 0
+  SettlingPieces a os said b = Settles a a.history number at.session (at.pending + length (joined pieces)) (joined pieces) (ends_by (at.pending + length (joined pieces)) met) os said b
+
+  -- by what was computed of them
+  by_pieces : (w : Scene) → Makes (λ a os said b. Settles a a.history number at.session pending bytes (ends_by pending met) os said b) (scene p links outs) w → Makes SettlingPieces (scene p links outs) w
+  by_pieces w m =
+      subst (λ (n : ℕ). Makes (λ a os said b. Settles a a.history number at.session n (joined pieces) (ends_by n met) os said b) (scene p links outs) w) (pending_is ∙ ap (λ (z : List ℕ). at.pending + length z) bytes_are)
+      (subst (λ (z : List ℕ). Makes (λ a os said b. Settles a a.history number at.session pending z (ends_by pending met) os said b) (scene p links outs) w) bytes_are m)
+
+  pub pieces_go : r ≡ None → outs' ≡ outs ++ written number bytes → link_at links' ≡ placed (link_at links) number (Some (record { session = at.session; pending = pending })) → Makes SettlingPieces (scene p links outs) (scene p links' outs')
+  pieces_go how said put = by_pieces (scene p links' outs') (settled_goes p p links links' number at.session pending bytes met outs outs' (sym r_is ∙ how) put said)
+
+  pub pieces_end : (e : FrontEnding) → r ≡ Some e → link_at links number ≡ None → Leaves number p q → outs' ≡ (outs ++ written number bytes) ++ Close number e ∷ [] → Makes SettlingPieces (scene p links outs) (scene q links outs')
+  pieces_end e how out leaves said = by_pieces (scene q links outs') (settled_ends p q links links number at.session pending bytes met outs outs' e (sym r_is ∙ how) out leaves said)
+
+  pub go_agrees : 1 ≤ number → AgreesBut number (front_at p links) → r ≡ None → (met ≡ None → at.session.fed ≡ fed.More) → bound (state_now p.story) number ≡ Some (binding at.session) → link_at links' ≡ placed (link_at links) number (Some (record { session = at.session; pending = pending })) → Agrees (front_at p links')
+  go_agrees first but how more bound_now put = goes_agrees p p links links' number at.session pending bytes met outs outs' first but (sym r_is ∙ how) more bound_now put
+
+-- behind outputs that were written before
+pub written_on : (outs mid outs' : List FrontOutput) (number : ℕ) (bytes : List ℕ) (e : FrontEnding) → mid ≡ outs ++ written number bytes → outs' ≡ mid ++ Close number e ∷ [] → outs' ≡ (outs ++ written number bytes) ++ Close number e ∷ []
+written_on outs mid outs' number bytes e f g = g ∙ ap (λ (z : List FrontOutput). z ++ Close number e ∷ []) f
+
+-- ---- bytes that a client took
+
+pub took_some : (links mid new : ℕ → Option LinkIs) (number count : ℕ) (at : LinkIs) → links number ≡ Some at → mid ≡ placed links number None → new ≡ placed mid number (Some (record { session = at.session; pending = at.pending - count })) → new ≡ took_at links number count
+took_some links mid new number count at found left put =
+    put
+    ∙ (ap (λ (z : ℕ → Option LinkIs). placed z number (Some (record { session = at.session; pending = at.pending - count }))) left
+    ∙ (placed_twice links number None (Some (record { session = at.session; pending = at.pending - count }))
+    ∙ ap (took_from links number count) (sym found)))
+
+pub took_none : (links mid : ℕ → Option LinkIs) (number count : ℕ) → links number ≡ None → mid ≡ placed links number None → mid ≡ took_at links number count
+took_none links mid number count found left = left ∙ (placed_none links number found ∙ ap (took_from links number count) (sym found))
+
+pub out_now : (links mid : ℕ → Option LinkIs) (number : ℕ) → mid ≡ placed links number None → mid number ≡ None
+out_now links mid number left = ap (λ (z : ℕ → Option LinkIs). z number) left ∙ placed_here links number None
+
+module _ {T K C W : Type 0} (settings : Settings) (p : PortalIs T K C W) (links links' : LinksAre LinkIs) (number count : ℕ) (took : link_at links' ≡ took_at (link_at links) number count) where
+  pub took_makes : (outs : List FrontOutput) → Makes (λ a os said b. FrontOut settings a (Took number count) os said b) (scene p links outs) (scene p links' outs)
+  took_makes outs = record {
+    outcomes = [];
+    said = [];
+    given = (refl, refl, fronts_alike (record { opening = state_first p.story; history = p.story.history; links = took_at (link_at links) number count }) (front_at p links') refl refl took);
+    outputs = sym (append-nil outs);
+    caused = tt;
+    refusals = let n = p.refusals in omega arith;
+  }
+
+  pub took_agrees : Agrees (front_at p links) → Agrees (front_at p links')
+  took_agrees a = by_link (link_at links number) refl
+    where
+      less : (at : LinkIs) → GoesOn at → GoesOn (record { session = at.session; pending = at.pending - count })
+      less at g = let few = g.pending in record { fed = g.fed; pending = omega arith }
+
+      by_link : (o : Option LinkIs) → link_at links number ≡ o → Agrees (front_at p links')
+      by_link None found = still_agrees p links links' (took ∙ ap (took_from (link_at links) number count) found) a
+      by_link (Some at) found =
+          agrees_again p p links links' number (Some (record { session = at.session; pending = at.pending - count })) (took ∙ ap (took_from (link_at links) number count) found) (λ n other. refl) (open_from_1 (front_at p links) number at a found)
+          (agrees_weaken (front_at p links) number a) (less at (goes_at (front_at p links) number at a found)) (open_at (front_at p links) number at a found)

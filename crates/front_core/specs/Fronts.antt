@@ -81,9 +81,9 @@ pub record AgreesAt (a : Front) (n : ℕ) : Type 0 where
 -- so at each number, and no link has the number 0
 pub record Agrees (a : Front) : Type 0 where
   pub none : a.links 0 ≡ None
-  pub at : (n : ℕ) → AgreesAt a n
+  pub each : (n : ℕ) → AgreesAt a n
 
 -- the same but at one number, whose link was taken out
 pub record AgreesBut (number : ℕ) (a : Front) : Type 0 where
   pub none : a.links 0 ≡ None
-  pub at : (n : ℕ) → (number == n) ≡ false → AgreesAt a n
+  pub each : (n : ℕ) → (number == n) ≡ false → AgreesAt a n

@@ -1,6 +1,6 @@
 //! The sessions of links at the seats of a portal.
 
-ghost use Rattle.std.specs.Prelude.{◌≡◌, ℕ, ◌≤◌, false, true, None, Some};
+ghost use Rattle.std.specs.Prelude.{◌≡◌, ℕ, ◌≤◌, false, true, OnErr, OnOk, Some};
 ghost use Rattle.front_core.specs.Fronts.{binding};
 ghost use Rattle.front_core.specs.Made.{Further};
 ghost use Rattle.front_core.specs.Seats.{Alone, Begins, IsOpened, Leaves, known_at, sunk};
@@ -8,7 +8,7 @@ ghost use Rattle.portal_base.specs.declared.who.Who.{Who as TheWho};
 ghost use Rattle.portal_model.specs.Seated.{bound, is_open};
 ghost use Rattle.portal_steps.specs.Story.{state_first, state_now};
 ghost use Rattle.session.specs.Pushes.{Pushes, is_ready};
-ghost use Rattle.session.specs.Sessions.{Closes, Feeds, ending};
+ghost use Rattle.session.specs.Sessions.{Closes, Feeds, Opens, ending};
 ghost use Rattle.session.specs.Standings.{client};
 
 use host_tree::HostTree;
@@ -35,6 +35,15 @@ pub enum Begun {
     Unasked,
 }
 
+/// What beginning at the desk of a seat came to.
+#[derive(Drop)]
+struct Beginning {
+    /// The session, or why there is none.
+    begun: Result<Session, Refused>,
+    /// How many requests were refused.
+    refusals: u64,
+}
+
 /// Opens a connection at a seat where none is open.
 pub fn begin<T: HostTree, K: Keeper, C: Clock, W: Words>(
     alloc: Global,
@@ -52,15 +61,43 @@ pub fn begin<T: HostTree, K: Keeper, C: Clock, W: Words>(
         (known_at portal.new seat count) }
     ensures open_now { IsOpened who.now kind result (state_now portal.new.story) seat }
 {
-    let mut desk = LocalDesk::new(portal, seat);
-    let begun = Session::begin(alloc, &mut desk, who, kind, settings);
-    // Where nothing was refused, nothing was asked.
-    let is_refused = desk.refusals() > 0;
+    let Beginning { begun, refusals } = begin_at(alloc, portal, seat, who, kind, settings);
     match begun {
         Ok(session) => Begun::Open(session),
-        Err(why) if is_refused => Begun::Refused(why),
-        Err(_) => Begun::Unasked,
+        Err(why) => {
+            // Where nothing was refused, nothing was asked.
+            if refusals > 0 {
+                Begun::Refused(why)
+            } else {
+                Begun::Unasked
+            }
+        }
     }
+}
+
+/// Begins a session at the desk of a seat.
+fn begin_at<T: HostTree, K: Keeper, C: Clock, W: Words>(
+    alloc: Global,
+    portal: &mut Portal<T, K, C, W>,
+    seat: u32,
+    who: &Who,
+    kind: Kind,
+    settings: &Settings,
+) -> Beginning
+    requires seat { 1 ≤ seat }
+    requires closed { is_open (state_now portal.old.story) seat ≡ false }
+    ensures further { Further portal.old portal.new }
+    ensures own { Alone seat result.refusals portal.old portal.new }
+    ensures opens { Opens (client who.now kind settings.now) (known_at portal.old seat 0)
+        result.begun (known_at portal.new seat result.refusals) }
+    ensures open_now { OnOk result.begun (bound (state_now portal.new.story) seat
+        ≡ Some (record { who = who.now; kind = kind })) }
+    ensures still_closed { OnErr result.begun (is_open (state_now portal.new.story) seat ≡ false) }
+{
+    let mut desk = LocalDesk::new(portal, seat);
+    let begun = Session::begin(alloc, &mut desk, who, kind, settings);
+    let refusals = desk.refusals();
+    Beginning { begun, refusals }
 }
 
 /// Feeds bytes to a session, and gathers its answers.
