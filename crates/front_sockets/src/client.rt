@@ -20,6 +20,7 @@ pub(crate) struct Client {
 }
 
 /// How sending ended.
+#[derive(Clone, Copy)]
 pub(crate) struct Sent {
     /// How many bytes the system took.
     pub(crate) count: u64,
