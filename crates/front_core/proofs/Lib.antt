@@ -6,3 +6,6 @@ pub mod Hearing
 pub mod Telling
 pub mod Coming
 pub mod Serving
+pub mod Waking
+pub mod Stepping
+pub mod Pieces

@@ -129,7 +129,7 @@ the_host : (who : Who) → is_host who ≡ true → who ≡ Who.Host
 the_host Who.Host h = refl
 the_host (Who.App name) h = absurd (cc)
 
-of_both : (a b : Bool) → (a && b) ≡ true → (a ≡ true) × (b ≡ true)
+pub of_both : (a b : Bool) → (a && b) ≡ true → (a ≡ true) × (b ≡ true)
 of_both true b h = (refl, h)
 of_both false b h = absurd (cc)
 
