@@ -9,3 +9,4 @@ pub mod Serving
 pub mod Waking
 pub mod Stepping
 pub mod Pieces
+pub mod Served

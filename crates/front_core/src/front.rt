@@ -68,7 +68,7 @@ pub enum FrontOutput {
 }
 
 /// How the connection of a link ended.
-#[derive(Clone, Copy, PartialEq, Eq)]
+#[derive(Clone, Copy)]
 pub enum FrontEnding {
     /// As a connection that is served ends.
     Served(Served),

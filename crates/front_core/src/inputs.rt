@@ -6,6 +6,7 @@ ghost use Rattle.front_core.specs.Fronts.{Agrees, front_at, may_be_told};
 ghost use Rattle.front_core.specs.Made.{Further, Makes, scene};
 ghost use Rattle.front_links.specs.Links.{hears_at, link_at};
 ghost use Rattle.session.specs.Connections.{served_by};
+ghost use Rattle.session.specs.declared.served.Fed.TheVariants.{More as more};
 
 use crate::front::{FrontEnding, FrontOutput};
 use crate::link::{Link, is_host, waiting};
@@ -86,6 +87,16 @@ fn met_by(fed: Fed) -> Result<Option<FrontEnding>, WantOfMemory>
     }
 }
 
+/// Whether a push came to its end, or wanted memory.
+fn see_more(fed: Fed) -> Result<(), WantOfMemory>
+    ensures { OnOk result (fed ≡ more) }
+{
+    match fed {
+        Fed::More => Ok(()),
+        _ => Err(WantOfMemory),
+    }
+}
+
 /// Serves the bytes that came on a link.
 pub fn came<T: HostTree, K: Keeper, C: Clock, W: Words>(
     alloc: Global,
@@ -101,54 +112,51 @@ pub fn came<T: HostTree, K: Keeper, C: Clock, W: Words>(
         (scene portal.old links.old outputs.old) (scene portal.new links.new outputs.new)) }
     ensures agrees { OnOk result (Agrees (front_at portal.new links.new)) }
 {
-    let Some(link) = links.take(number) else {
-        return Ok(());
-    };
-    let Link {
-        session,
-        pending,
-        is_host,
-    } = link;
-    let mut session = session;
-    let mut written = MemorySink::new(alloc, 0);
-    let fed = seats::feed(
-        alloc,
-        portal,
-        number,
-        &mut session,
-        bytes.as_slice(),
-        &mut written,
-    );
-    let met = met_by(fed)?;
-    let link = Link {
-        session,
-        pending,
-        is_host,
-    };
-    let pieces = written.pieces().as_slice();
-    settle(alloc, portal, links, number, link, pieces, met, outputs)
+    match links.take(number) {
+        None => Ok(()),
+        Some(link) => {
+            let Link {
+                session,
+                pending,
+                is_host,
+            } = link;
+            let mut session = session;
+            let bytes = bytes.as_slice();
+            let mut written = MemorySink::new(alloc, 0);
+            let fed = seats::feed(alloc, portal, number, &mut session, bytes, &mut written);
+            let met = met_by(fed)?;
+            let link = Link {
+                session,
+                pending,
+                is_host,
+            };
+            let pieces = written.pieces().as_slice();
+            settle(alloc, portal, links, number, link, pieces, met, outputs)
+        }
+    }
 }
 
 /// Takes bytes that the client of a link took from those that are pending.
 pub fn took(links: &mut Links<Link>, number: u32, count: u64) -> Result<(), WantOfMemory>
     ensures { OnOk result (link_at links.new ≡ took_at (link_at links.old) number count) }
 {
-    let Some(link) = links.take(number) else {
-        return Ok(());
-    };
-    let Link {
-        session,
-        pending,
-        is_host,
-    } = link;
-    links.put(
-        number,
-        Link {
-            session,
-            pending: pending_without(pending, count),
-            is_host,
-        },
-    )
+    match links.take(number) {
+        None => Ok(()),
+        Some(link) => {
+            let Link {
+                session,
+                pending,
+                is_host,
+            } = link;
+            let pending = pending_without(pending, count);
+            let link = Link {
+                session,
+                pending,
+                is_host,
+            };
+            links.put(number, link)
+        }
+    }
 }
 
 /// Closes a link whose input ended.
@@ -165,14 +173,16 @@ pub fn ended<T: HostTree, K: Keeper, C: Clock, W: Words>(
         (scene portal.old links.old outputs.old) (scene portal.new links.new outputs.new)) }
     ensures agrees { OnOk result (Agrees (front_at portal.new links.new)) }
 {
-    let Some(link) = links.take(number) else {
-        return Ok(());
-    };
-    let served = seats::end(alloc, portal, number, link.session);
-    outputs.push(FrontOutput::Close {
-        link: number,
-        ending: FrontEnding::Served(served),
-    })
+    match links.take(number) {
+        None => Ok(()),
+        Some(link) => {
+            let served = seats::end(alloc, portal, number, link.session);
+            outputs.push(FrontOutput::Close {
+                link: number,
+                ending: FrontEnding::Served(served),
+            })
+        }
+    }
 }
 
 /// Closes a link that failed.
@@ -189,11 +199,13 @@ pub fn failed<T: HostTree, K: Keeper, C: Clock, W: Words>(
         (scene portal.old links.old outputs.old) (scene portal.new links.new outputs.new)) }
     ensures agrees { OnOk result (Agrees (front_at portal.new links.new)) }
 {
-    let Some(link) = links.take(number) else {
-        return Ok(());
-    };
-    let ending = FrontEnding::Lost;
-    close(alloc, portal, number, link.session, ending, outputs)
+    match links.take(number) {
+        None => Ok(()),
+        Some(link) => {
+            let ending = FrontEnding::Lost;
+            close(alloc, portal, number, link.session, ending, outputs)
+        }
+    }
 }
 
 /// Tells each link that waits what it wasn't told yet, by rising number.
@@ -231,25 +243,25 @@ fn tell<T: HostTree, K: Keeper, C: Clock, W: Words>(
         (scene portal.old links.old outputs.old) (scene portal.new links.new outputs.new)) }
     ensures agrees { OnOk result (Agrees (front_at portal.new links.new)) }
 {
-    let Some(link) = links.take(number) else {
-        return Ok(());
-    };
-    let Link {
-        session,
-        pending,
-        is_host,
-    } = link;
-    let mut session = session;
-    let mut written = MemorySink::new(alloc, 0);
-    match seats::push(alloc, portal, number, &mut session, &mut written) {
-        Fed::More => {}
-        _ => return Err(WantOfMemory),
+    match links.take(number) {
+        None => Ok(()),
+        Some(link) => {
+            let Link {
+                session,
+                pending,
+                is_host,
+            } = link;
+            let mut session = session;
+            let mut written = MemorySink::new(alloc, 0);
+            let fed = seats::push(alloc, portal, number, &mut session, &mut written);
+            see_more(fed)?;
+            let link = Link {
+                session,
+                pending,
+                is_host,
+            };
+            let pieces = written.pieces().as_slice();
+            settle(alloc, portal, links, number, link, pieces, None, outputs)
+        }
     }
-    let link = Link {
-        session,
-        pending,
-        is_host,
-    };
-    let pieces = written.pieces().as_slice();
-    settle(alloc, portal, links, number, link, pieces, None, outputs)
 }

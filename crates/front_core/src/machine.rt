@@ -99,16 +99,23 @@ impl<T: HostTree, K: Keeper, C: Clock, W: Words> FrontCore<T, K, C, W> {
             self.portal.known();
             return Err(WantOfMemory);
         }
-        let came = come(
+        match come(
             alloc,
             &mut self.portal,
             &mut self.links,
             &self.settings,
             &input,
-        );
-        self.portal.known();
-        self.is_over = came.is_err();
-        came
+        ) {
+            Ok(step) => {
+                self.portal.known();
+                Ok(step)
+            }
+            Err(error) => {
+                self.portal.known();
+                self.is_over = true;
+                Err(error)
+            }
+        }
     }
 }
 

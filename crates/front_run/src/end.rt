@@ -19,7 +19,7 @@ pub enum NextInput {
 }
 
 /// What became of an output.
-#[derive(Clone, Copy, PartialEq, Eq)]
+#[derive(Clone, Copy)]
 pub enum Given2 {
     /// It was given.
     Done,

@@ -154,8 +154,10 @@ impl Hall {
     fn let_go(&mut self, link: u32) -> io::Result<()> {
         let _ = self.clients.remove(&link);
         self.lingering.retain(|other| *other != link);
-        while let Some(door) = self.held_up.pop_front() {
-            self.door_turns.push_back(door)?;
+        for _ in 0..self.held_up.len() {
+            if let Some(door) = self.held_up.pop_front() {
+                self.door_turns.push_back(door)?;
+            }
         }
         Ok(())
     }
@@ -181,7 +183,7 @@ impl Hall {
             }
             return Ok(());
         }
-        let link = (told.token - MOST_DOORS) as u32;
+        let link = (told.token - MOST_DOORS).min(u32::MAX as usize) as u32;
         let Some(client) = self.clients.get_mut(&link) else {
             return Ok(());
         };
