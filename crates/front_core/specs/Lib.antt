@@ -4,3 +4,4 @@ pub mod Seats
 pub mod FrontOut
 pub mod Made
 pub mod Steps
+pub mod Parts

@@ -1,5 +1,5 @@
 -- What a front does between its end and its portal.
-use Rattle.std.specs.Prelude.{◌≡◌, ◌⊎◌, ℕ, List, [], ◌∷◌, ◌++◌, map, Option, Some, None, IfSome}
+use Rattle.std.specs.Prelude.{◌≡◌, ◌⊎◌, ℕ, List, [], ◌∷◌, ◌++◌, map, Bool, IsTrue, ◌↔◌, Option, Some, None, IfSome, Result, Ok, Err}
 use Rattle.portal_base.specs.Outside.{HasRisen}
 use Rattle.portal_base.specs.declared.limits.Settings.{Settings}
 use Rattle.portal_model.specs.Seated.{rises_by}
@@ -104,6 +104,46 @@ StopsSo settings a outcomes events b = StopsBetween a outcomes events b
 abbrev pub BreaksSo : Settings → Front → List Outcome → List EndEvent → Front → Type 0
 BreaksSo settings a outcomes events b = StopsBetween a outcomes events b
     ⊎ (BreaksAtInput settings a outcomes events b ⊎ BreaksAtWake settings a outcomes events b)
+
+-- ---- the parts of a run
+
+-- outputs are given, one after another: all of them, or some until the end failed
+abbrev pub GivesAll : List FrontOutput → Option Log → ℕ → Result Unit FrontStatus → Option Log → ℕ
+    → Type 0
+GivesAll outs told faults (Ok done) told' faults' =
+    WasTold told (map Gave outs) told' × (faults' ≡ faults)
+GivesAll outs told faults (Err status) told' faults' = (status ≡ EndFault) × HasRisen faults faults'
+    × ((given : List EndEvent) × SomeGiven outs given × WasTold told given told')
+
+-- An input was taken before, and is taken in: all its outputs are given, and it says whether signals
+-- are unsent; or the end failed behind some of them; or memory was wanted, and nothing is given.
+abbrev pub StepsSo : Settings → Front → FrontInput → List Outcome → Option Log → ℕ
+    → Result Bool FrontStatus → Option Log → ℕ → Front → Type 0
+StepsSo settings a input outcomes told faults (Ok wake) told' faults' b = (outs : List FrontOutput)
+    × FrontOut settings a input outcomes outs b × WasTold told (map Gave outs) told'
+    × (faults' ≡ faults) × (IsTrue wake ↔ SomeWaits b)
+StepsSo settings a input outcomes told faults (Err EndFault) told' faults' b =
+    (outs : List FrontOutput) × (given : List EndEvent) × FrontOut settings a input outcomes outs b
+    × SomeGiven outs given × WasTold told given told' × HasRisen faults faults'
+StepsSo settings a input outcomes told faults (Err Memory) told' faults' b =
+    BreaksOff settings a input outcomes b × (told' ≡ told) × (faults' ≡ faults)
+StepsSo settings a input outcomes told faults (Err Closed) told' faults' b = ⊥
+
+-- the same of an input and the wake behind it
+abbrev pub TakesSo : Settings → Front → FrontInput → List Outcome → Option Log → ℕ
+    → Result Unit FrontStatus → Option Log → ℕ → Front → Type 0
+TakesSo settings a input outcomes told faults (Ok done) told' faults' b = (outs : List FrontOutput)
+    × Takes settings a input outcomes outs b × WasTold told (map Gave outs) told'
+    × (faults' ≡ faults)
+TakesSo settings a input outcomes told faults (Err EndFault) told' faults' b =
+    (given : List EndEvent) × WasTold told given told' × HasRisen faults faults'
+    × (StopsBehindInput settings a outcomes (Taken input ∷ given) b
+    ⊎ StopsBehindWake settings a outcomes (Taken input ∷ given) b)
+TakesSo settings a input outcomes told faults (Err Memory) told' faults' b =
+    (given : List EndEvent) × WasTold told given told' × (faults' ≡ faults)
+    × (BreaksAtInput settings a outcomes (Taken input ∷ given) b
+    ⊎ BreaksAtWake settings a outcomes (Taken input ∷ given) b)
+TakesSo settings a input outcomes told faults (Err Closed) told' faults' b = ⊥
 
 -- ---- how a front ended
 

@@ -1,11 +1,13 @@
 //! A front that runs.
 
-ghost use Rattle.std.specs.Prelude.{◌≡◌, ℕ, List, [], IfOk, IfErr, OnOk};
+ghost use Rattle.std.specs.Prelude.{◌≡◌, List, [], OnOk, false};
 ghost use Rattle.front_core.specs.Fronts.{LinkIs, front_at, front_of};
 ghost use Rattle.front_core.specs.Steps.{AppsAreServed, Stands};
 ghost use Rattle.front_links.specs.Links.{LinksAre, no_links};
-ghost use Rattle.front_run.specs.Running.{EndsAs, GivesAll, Ran, StepsSo, TakesSo};
+ghost use Rattle.front_run.specs.Running.{EndsAs, GivesAll, StepsSo, TakesSo};
+ghost use Rattle.portal_model.specs.Seated.{rises_by};
 ghost use Rattle.portal_steps.specs.Story.{state_now};
+ghost use Rattle.session.specs.Answers.{Outcome, denied};
 
 use crate::end::{FrontEnd, Given2, NextInput};
 use front_core::front::{FrontInput, FrontOutput};
@@ -79,7 +81,13 @@ fn run<R: Wait, E: FrontEnd, T: HostTree, K: Keeper, C: Clock, W: Words>(
     rt: &R,
     end: &mut E,
     core: &mut FrontCore<T, K, C, W>,
-) -> FrontStatus {
+) -> FrontStatus
+    requires { core.old.is_over ≡ false }
+    ensures ends { EndsAs result core.old.settings (front_of core.old) (E.told end.old)
+        (E.ends end.old) (E.faults end.old) (E.told end.new) (E.ends end.new) (E.faults end.new)
+        (front_of core.new) core.old.portal.refusals core.new.portal.refusals }
+    ensures stands { Stands (front_of core.old) (front_of core.new) }
+{
     'inputs: for _ in rt.forever() {
         let input = match end.next(alloc) {
             NextInput::Input(input) => input,
@@ -102,7 +110,17 @@ fn take<E: FrontEnd, T: HostTree, K: Keeper, C: Clock, W: Words>(
     end: &mut E,
     core: &mut FrontCore<T, K, C, W>,
     input: FrontInput,
-) -> Result<(), FrontStatus> {
+) -> Result<(), FrontStatus>
+    requires { core.old.is_over ≡ false }
+    ensures takes { (outcomes : List Outcome) × TakesSo core.old.settings (front_of core.old) input
+        outcomes (E.told end.old) (E.faults end.old) result (E.told end.new) (E.faults end.new)
+        (front_of core.new)
+        × (core.new.portal.refusals ≡ rises_by core.old.portal.refusals (denied outcomes)) }
+    ensures ends { E.ends end.new ≡ E.ends end.old }
+    ensures settings { core.new.settings ≡ core.old.settings }
+    ensures goes_on { OnOk result (core.new.is_over ≡ false) }
+    ensures stands { Stands (front_of core.old) (front_of core.new) }
+{
     if step(alloc, end, core, input)? {
         // One wake: what is left unsent then was refused.
         let _ = step(alloc, end, core, FrontInput::Wake)?;
@@ -116,7 +134,17 @@ fn step<E: FrontEnd, T: HostTree, K: Keeper, C: Clock, W: Words>(
     end: &mut E,
     core: &mut FrontCore<T, K, C, W>,
     input: FrontInput,
-) -> Result<bool, FrontStatus> {
+) -> Result<bool, FrontStatus>
+    requires { core.old.is_over ≡ false }
+    ensures steps { (outcomes : List Outcome) × StepsSo core.old.settings (front_of core.old) input
+        outcomes (E.told end.old) (E.faults end.old) result (E.told end.new) (E.faults end.new)
+        (front_of core.new)
+        × (core.new.portal.refusals ≡ rises_by core.old.portal.refusals (denied outcomes)) }
+    ensures ends { E.ends end.new ≡ E.ends end.old }
+    ensures settings { core.new.settings ≡ core.old.settings }
+    ensures goes_on { OnOk result (core.new.is_over ≡ false) }
+    ensures stands { Stands (front_of core.old) (front_of core.new) }
+{
     match core.step(alloc, input) {
         Ok(step) => {
             give_all(end, step.outputs)?;
@@ -127,7 +155,11 @@ fn step<E: FrontEnd, T: HostTree, K: Keeper, C: Clock, W: Words>(
 }
 
 /// Gives outputs, one after another.
-fn give_all<E: FrontEnd>(end: &mut E, outputs: List<FrontOutput>) -> Result<(), FrontStatus> {
+fn give_all<E: FrontEnd>(end: &mut E, outputs: List<FrontOutput>) -> Result<(), FrontStatus>
+    ensures gives { GivesAll outputs (E.told end.old) (E.faults end.old) result (E.told end.new)
+        (E.faults end.new) }
+    ensures ends { E.ends end.new ≡ E.ends end.old }
+{
     for output in outputs.into_vec() {
         match end.give(output) {
             Given2::Done => {}
