@@ -1,6 +1,6 @@
 //! The machine of a front.
 
-ghost use Rattle.std.specs.Prelude.{◌≡◌, [], Err, IfOk, OnErr, OnOk, false, true};
+ghost use Rattle.std.specs.Prelude.{◌≡◌, [], IfOk, OnErr, OnOk, false, is_err, true};
 ghost use Rattle.front_core.specs.FrontOut.{FrontOut};
 ghost use Rattle.front_core.specs.Fronts.{Agrees, front_at, front_of};
 ghost use Rattle.front_core.specs.Made.{Further, Makes, scene};
@@ -89,7 +89,7 @@ impl<T: HostTree, K: Keeper, C: Clock, W: Words> FrontCore<T, K, C, W> {
     pub fn step(&mut self, alloc: Global, input: FrontInput) -> Result<FrontStep, WantOfMemory>
         ensures steps { IfOk result (Steps self.old input self.new) }
         ensures err { OnErr result (self.new.is_over ≡ true) }
-        ensures over { self.old.is_over ≡ true → result ≡ Err WantOfMemory }
+        ensures over { self.old.is_over ≡ true → is_err result ≡ true }
         ensures still { self.old.is_over ≡ true → self.new ≡ self.old }
         // Whatever it answers.
         ensures stands { Stands (front_of self.old) (front_of self.new) }
