@@ -1,0 +1,3 @@
+mod OwnLemmas
+mod TakenLemmas
+mod WithinLimit
