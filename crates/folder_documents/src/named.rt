@@ -69,7 +69,8 @@ impl Hash for Key {
     ghost use Rattle.std.specs.Cmp.Rules.{comparing, hashing};
     ghost use Rattle.std.specs.Hash as fed;
 
-    ghost hash_input = { λ a. fed.u32 a.view ++ fed.u32 a.document.number ++ fed.slice fed.u8 a.path };
+    ghost hash_input = { λ a. fed.u32 a.view ++ fed.u32 a.document.number
+        ++ fed.slice fed.u8 a.path };
 
     ghost respects_eq = { Prim.search (hashing, rules) };
 

@@ -157,7 +157,8 @@ ghost use Rattle.save_files.specs.Own.{is_called, number_in, with_name};
 
 /// The number of the first temporary in a view, of a document and of a name.
 fn first_called(temps: &IndexMap<u32, Temp>, view: u32, document: DocId, name: &[u8]) -> Option<u32>
-    ensures { result ≡ number_in (find (is_called view document.number name.now) temps.now.entries) }
+    ensures { result ≡ number_in
+        (find (is_called view document.number name.now) temps.now.entries) }
 {
     for (k, temp) in temps.iter() {
         if has_name(temp, view, document, name) {
