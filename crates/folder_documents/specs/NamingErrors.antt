@@ -1,5 +1,5 @@
 -- Why a naming gets no number: the connection has as many as it may, or there is no memory.
-use Rattle.std.specs.Prelude.{◌≡◌, ℕ, ◌<◌, ◌≤◌, false, length}
+use Rattle.std.specs.Prelude.{◌≡◌, ◌<◌, ◌≤◌, false, length}
 use Rattle.portal_model.specs.declared.naming.Naming.{Naming}
 use Rattle.folder_documents.specs.Named.{Named, has_naming, most_namings}
 use Rattle.folder_documents.specs.declared.named.NamingError.{NamingError}
