@@ -1,8 +1,8 @@
 -- What the trees in memory are.
-use Rattle.std.specs.Prelude.{ℕ, List, [], Bool, Some}
+use Rattle.std.specs.Prelude.{ℕ, List, [], ◌∷◌, ◌++◌, Bool, Some}
 use Rattle.portal_base.specs.Calls.{Counted, counted, uncalled}
 use Rattle.portal_base.specs.declared.files.File.{File}
-use Rattle.host_tree.specs.Trees.{Noted, TreeIs, note, put_file, unnoted}
+use Rattle.host_tree.specs.Trees.{Held, Noted, TreeIs, held_with, note, put_file, unnoted}
 use Rattle.host_tree.specs.declared.tree.TreeCall.{TreeCall}
 
 -- the calls of a tree, and the kinds of the first of them
@@ -19,10 +19,13 @@ abbrev pub made : TreeCall → CallsMade → Bool → CallsMade
 made kind calls failed =
     record { count = counted calls.count failed; noted = note kind calls.noted }
 
--- the files that the tree began with and those that it has, and its calls
+-- the present files that the tree began with and those that it has, the same of those beside them,
+-- and its calls
 pub record TreeState : Type 0 where
   pub began : List File
   pub files : List File
+  pub began_hidden : List File
+  pub hidden : List File
   pub count : Counted
   pub noted : Noted
 
@@ -30,6 +33,8 @@ abbrev pub tree_of : TreeState → TreeIs
 tree_of s = record {
   began = Some s.began;
   told = Some s.files;
+  began_hidden = s.began_hidden;
+  hidden = s.hidden;
   faults = s.count.faults;
   calls = Some s.count.calls;
   noted = s.noted;
@@ -39,16 +44,28 @@ tree_of s = record {
 pub record QuietState : Type 0 where
   pub began : List File
   pub files : List File
+  pub began_hidden : List File
+  pub hidden : List File
   pub made : ℕ
 
 abbrev pub quiet_tree_of : QuietState → TreeIs
 quiet_tree_of s = record {
   began = Some s.began;
   told = Some s.files;
+  began_hidden = s.began_hidden;
+  hidden = s.hidden;
   faults = 0;
   calls = Some (record { made = s.made; failing = [] });
   noted = unnoted;
 }
+
+-- no files
+abbrev pub no_files : Held
+no_files = held_with [] []
+
+-- one more present file
+abbrev pub put_present : File → Held → Held
+put_present f held = held_with (put_file f held.present) held.hidden
 
 -- one more file, of those that it began with too
 abbrev pub with_file : File → TreeState → TreeState
@@ -56,3 +73,12 @@ with_file f s = record s { began = put_file f s.began; files = put_file f s.file
 
 abbrev pub quiet_with_file : File → QuietState → QuietState
 quiet_with_file f s = record s { began = put_file f s.began; files = put_file f s.files }
+
+-- the same of one that isn't present
+abbrev pub with_hidden : File → TreeState → TreeState
+with_hidden f s =
+    record s { began_hidden = s.began_hidden ++ f ∷ []; hidden = s.hidden ++ f ∷ [] }
+
+abbrev pub quiet_with_hidden : File → QuietState → QuietState
+quiet_with_hidden f s =
+    record s { began_hidden = s.began_hidden ++ f ∷ []; hidden = s.hidden ++ f ∷ [] }

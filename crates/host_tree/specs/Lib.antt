@@ -1,3 +1,5 @@
+pub mod Children
 pub mod Devices
+pub mod NameOrders
 pub mod Stored
 pub mod Trees

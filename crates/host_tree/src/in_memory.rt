@@ -3,14 +3,15 @@
 ghost use Rattle.std.specs.Prelude.{◌≡◌, [], OnOk, OnErr, Some, false};
 ghost use Rattle.portal_base.specs.Content.{IsTree, ArePlaced, paths_of};
 ghost use Rattle.portal_base.specs.Calls.{uncalled};
-ghost use Rattle.host_tree.specs.Trees.{put_file, file_with};
-ghost use Rattle.host_tree.specs.Devices.{with_file, quiet_with_file};
+ghost use Rattle.host_tree.specs.Trees.{put_file, file_as, file_with};
+ghost use Rattle.host_tree.specs.Devices.{with_file, quiet_with_file, with_hidden, quiet_with_hidden};
 ghost use Rattle.host_tree.specs.Trees.{unnoted};
 
-use crate::files::{Files, bytes_from};
+use crate::files::bytes_from;
+use crate::held::{HeldFiles, add_hidden_to_both};
 use crate::made::CallsMade;
-use crate::tree::{AttrAnswer, HostTree, LookAnswer, TreeCall, TreeDone, TreeRead};
-use portal_base::files::FileName;
+use crate::tree::{AttrAnswer, HostTree, ListAnswer, LookAnswer, TreeCall, TreeDone, TreeRead};
+use portal_base::files::{ChildName, FileName};
 use portal_base::list::{ByteList, List};
 use portal_base::memory::{Replica, WantOfMemory};
 use portal_base::names::HostPath;
@@ -22,8 +23,8 @@ use std::marker::Model;
 pub struct MemoryTree {
     alloc: Global,
     // Contracts speak of the files that it began with too, so each file takes its room twice.
-    began: Files,
-    files: Files,
+    began: HeldFiles,
+    files: HeldFiles,
     made: CallsMade,
 }
 
@@ -33,8 +34,10 @@ impl Model for MemoryTree {
     ghost Value = { TreeState };
 
     ghost view = { λ t. record {
-      began = t.began;
-      files = t.files;
+      began = t.began.present;
+      files = t.files.present;
+      began_hidden = t.began.hidden;
+      hidden = t.files.hidden;
       count = t.made.count;
       noted = t.made.noted;
     } };
@@ -47,19 +50,22 @@ impl MemoryTree {
         ensures { result ≡ record {
           began = [];
           files = [];
+          began_hidden = [];
+          hidden = [];
           count = uncalled fails;
           noted = unnoted;
         } }
     {
         MemoryTree {
             alloc,
-            began: Files::new(alloc),
-            files: Files::new(alloc),
+            began: HeldFiles::new(alloc),
+            files: HeldFiles::new(alloc),
             made: CallsMade::new(alloc, fails),
         }
     }
 
-    /// Adds a file to those that the tree began with, before its first call.
+    /// Adds the first file of a path to those that the tree began with, before its first
+    /// call.
     pub fn add_file(
         &mut self,
         path: HostPath,
@@ -74,11 +80,55 @@ impl MemoryTree {
         ensures ok { OnOk result (self.new ≡ with_file (file_with path content moment) self.old) }
         ensures err { OnErr result (self.new ≡ self.old) }
     {
+        let name = FileName {
+            path,
+            generation: 0,
+        };
+        self.add_present(name, content, moment)
+    }
+
+    /// Adds a present file to those that the tree began with, before its first call.
+    pub fn add_present(
+        &mut self,
+        name: FileName,
+        content: ByteList,
+        moment: u64,
+    ) -> Result<(), WantOfMemory>
+        requires fresh { self.old.count.calls.made ≡ 0 }
+        requires began { ArePlaced
+            (paths_of (put_file (file_as name content moment) self.old.began)) }
+        requires files { ArePlaced
+            (paths_of (put_file (file_as name content moment) self.old.files)) }
+        ensures ok { OnOk result (self.new ≡ with_file (file_as name content moment) self.old) }
+        ensures err { OnErr result (self.new ≡ self.old) }
+    {
         add_to_both(
             self.alloc,
             &mut self.began,
             &mut self.files,
-            path,
+            name,
+            content,
+            moment,
+        )
+    }
+
+    /// Adds a file that isn't present to those that the tree began with, before its first
+    /// call.
+    pub fn add_hidden(
+        &mut self,
+        name: FileName,
+        content: ByteList,
+        moment: u64,
+    ) -> Result<(), WantOfMemory>
+        requires { self.old.count.calls.made ≡ 0 }
+        ensures ok { OnOk result (self.new ≡ with_hidden (file_as name content moment) self.old) }
+        ensures err { OnErr result (self.new ≡ self.old) }
+    {
+        add_hidden_to_both(
+            self.alloc,
+            &mut self.began,
+            &mut self.files,
+            name,
             content,
             moment,
         )
@@ -116,6 +166,13 @@ impl HostTree for MemoryTree {
         attributes(&self.files, file)
     }
 
+    fn list(&mut self, path: &HostPath) -> ListAnswer {
+        if self.made.next_fails(TreeCall::List) {
+            return ListAnswer::Failed;
+        }
+        listed(self.alloc, &self.files, path)
+    }
+
     fn read(&mut self, file: &FileName, offset: u64, size: u32) -> TreeRead {
         if self.made.next_fails(TreeCall::Read) {
             return TreeRead::Failed;
@@ -144,6 +201,20 @@ impl HostTree for MemoryTree {
         self.files.create(self.alloc, path, now)
     }
 
+    fn fresh(&mut self, file: &FileName, now: u64) -> TreeDone {
+        if self.made.next_fails(TreeCall::Fresh) {
+            return TreeDone::Failed;
+        }
+        self.files.fresh(self.alloc, file, now)
+    }
+
+    fn turn(&mut self, file: &FileName) -> TreeDone {
+        if self.made.next_fails(TreeCall::Turn) {
+            return TreeDone::Failed;
+        }
+        self.files.turn(self.alloc, file)
+    }
+
     fn sync(&mut self, file: &FileName) -> TreeDone {
         if self.made.next_fails(TreeCall::Sync) {
             return TreeDone::Failed;
@@ -167,8 +238,8 @@ impl HostTree for MemoryTree {
 #[derive(Drop)]
 pub struct QuietTree {
     alloc: Global,
-    began: Files,
-    files: Files,
+    began: HeldFiles,
+    files: HeldFiles,
     made: u64,
 }
 
@@ -177,23 +248,36 @@ impl Model for QuietTree {
 
     ghost Value = { QuietState };
 
-    ghost view = { λ t. record { began = t.began; files = t.files; made = t.made } };
+    ghost view = { λ t. record {
+      began = t.began.present;
+      files = t.files.present;
+      began_hidden = t.began.hidden;
+      hidden = t.files.hidden;
+      made = t.made;
+    } };
 }
 
 impl QuietTree {
     /// A tree without files.
     pub fn new(alloc: Global) -> QuietTree
-        ensures { result ≡ record { began = []; files = []; made = 0 } }
+        ensures { result ≡ record {
+          began = [];
+          files = [];
+          began_hidden = [];
+          hidden = [];
+          made = 0;
+        } }
     {
         QuietTree {
             alloc,
-            began: Files::new(alloc),
-            files: Files::new(alloc),
+            began: HeldFiles::new(alloc),
+            files: HeldFiles::new(alloc),
             made: 0,
         }
     }
 
-    /// Adds a file to those that the tree began with, before its first call.
+    /// Adds the first file of a path to those that the tree began with, before its first
+    /// call.
     pub fn add_file(
         &mut self,
         path: HostPath,
@@ -209,11 +293,55 @@ impl QuietTree {
             (self.new ≡ quiet_with_file (file_with path content moment) self.old) }
         ensures err { OnErr result (self.new ≡ self.old) }
     {
+        let name = FileName {
+            path,
+            generation: 0,
+        };
+        self.add_present(name, content, moment)
+    }
+
+    /// Adds a present file to those that the tree began with, before its first call.
+    pub fn add_present(
+        &mut self,
+        name: FileName,
+        content: ByteList,
+        moment: u64,
+    ) -> Result<(), WantOfMemory>
+        requires fresh { self.old.made ≡ 0 }
+        requires began { ArePlaced
+            (paths_of (put_file (file_as name content moment) self.old.began)) }
+        requires files { ArePlaced
+            (paths_of (put_file (file_as name content moment) self.old.files)) }
+        ensures ok { OnOk result (self.new ≡ quiet_with_file (file_as name content moment) self.old) }
+        ensures err { OnErr result (self.new ≡ self.old) }
+    {
         add_to_both(
             self.alloc,
             &mut self.began,
             &mut self.files,
-            path,
+            name,
+            content,
+            moment,
+        )
+    }
+
+    /// Adds a file that isn't present to those that the tree began with, before its first
+    /// call.
+    pub fn add_hidden(
+        &mut self,
+        name: FileName,
+        content: ByteList,
+        moment: u64,
+    ) -> Result<(), WantOfMemory>
+        requires { self.old.made ≡ 0 }
+        ensures ok { OnOk result (self.new ≡ quiet_with_hidden (file_as name content moment) self.old) }
+        ensures err { OnErr result (self.new ≡ self.old) }
+    {
+        add_hidden_to_both(
+            self.alloc,
+            &mut self.began,
+            &mut self.files,
+            name,
             content,
             moment,
         )
@@ -233,6 +361,11 @@ impl HostTree for QuietTree {
     fn attr(&mut self, name: &FileName) -> AttrAnswer {
         self.made = self.made.saturating_add(1);
         attributes(&self.files, name)
+    }
+
+    fn list(&mut self, path: &HostPath) -> ListAnswer {
+        self.made = self.made.saturating_add(1);
+        listed(self.alloc, &self.files, path)
     }
 
     fn read(&mut self, name: &FileName, offset: u64, size: u32) -> TreeRead {
@@ -255,6 +388,16 @@ impl HostTree for QuietTree {
         self.files.create(self.alloc, path, now)
     }
 
+    fn fresh(&mut self, name: &FileName, now: u64) -> TreeDone {
+        self.made = self.made.saturating_add(1);
+        self.files.fresh(self.alloc, name, now)
+    }
+
+    fn turn(&mut self, name: &FileName) -> TreeDone {
+        self.made = self.made.saturating_add(1);
+        self.files.turn(self.alloc, name)
+    }
+
     fn sync(&mut self, name: &FileName) -> TreeDone {
         self.made = self.made.saturating_add(1);
         rest(&self.files, name)
@@ -271,38 +414,42 @@ impl HostTree for QuietTree {
     }
 }
 
-ghost use Rattle.host_tree.specs.Trees.{Attrs, Gets, Does, has_file, as_before, is_attr_fault, is_read_fault, is_done_fault};
+ghost use Rattle.std.specs.Prelude.{◌++◌, ◌||◌, IfOk, MatchOption, true};
+ghost use Rattle.portal_base.specs.Content.{is_folder};
+ghost use Rattle.portal_base.specs.FolderNames.{AreInOrder, names_in};
+ghost use Rattle.host_tree.specs.Devices.{put_present};
+ghost use Rattle.host_tree.specs.Trees.{Attrs, Gets, Lists, Does, has_file, as_before, is_attr_fault, is_list_fault, is_read_fault, is_done_fault};
 
 /// Adds a file to two lists of files, or to none of them.
 fn add_to_both(
     alloc: Global,
-    began: &mut Files,
-    files: &mut Files,
-    path: HostPath,
+    began: &mut HeldFiles,
+    files: &mut HeldFiles,
+    name: FileName,
     content: ByteList,
     moment: u64,
 ) -> Result<(), WantOfMemory>
-    requires began { ArePlaced (paths_of (put_file (file_with path content moment) began.old)) }
-    requires files { ArePlaced (paths_of (put_file (file_with path content moment) files.old)) }
-    ensures ok { OnOk result ((began.new ≡ put_file (file_with path content moment) began.old)
-        × (files.new ≡ put_file (file_with path content moment) files.old)) }
+    requires began { ArePlaced (paths_of (put_file (file_as name content moment) began.old.present)) }
+    requires files { ArePlaced (paths_of (put_file (file_as name content moment) files.old.present)) }
+    ensures ok { OnOk result ((began.new ≡ put_present (file_as name content moment) began.old)
+        × (files.new ≡ put_present (file_as name content moment) files.old)) }
     ensures err { OnErr result ((began.new ≡ began.old) × (files.new ≡ files.old)) }
 {
-    let first_path = path.replica(alloc)?;
-    let second_path = path.replica(alloc)?;
+    let first_name = name.replica(alloc)?;
+    let second_name = name.replica(alloc)?;
     let first_content = content.replica(alloc)?;
     began.known();
-    began.add(first_path, first_content, moment)?;
-    if files.add(second_path, content, moment).is_err() {
-        began.take_back(&path);
+    began.add(first_name, first_content, moment)?;
+    if files.add(second_name, content, moment).is_err() {
+        began.take_back(&name.path);
         return Err(WantOfMemory);
     }
     Ok(())
 }
 
 /// The length and the moment of a file.
-fn attributes(files: &Files, name: &FileName) -> AttrAnswer
-    ensures attrs { Attrs (Some files.now) name.now result }
+fn attributes(files: &HeldFiles, name: &FileName) -> AttrAnswer
+    ensures attrs { Attrs (Some (files.now.present ++ files.now.hidden)) name.now result }
     ensures no_fault { is_attr_fault result ≡ false }
 {
     match files.named(name) {
@@ -314,9 +461,38 @@ fn attributes(files: &Files, name: &FileName) -> AttrAnswer
     }
 }
 
+/// The names in a folder.
+fn listed(alloc: Global, files: &HeldFiles, path: &HostPath) -> ListAnswer
+    ensures lists { Lists (Some files.now.present) path.now result }
+    ensures no_fault { is_list_fault result ≡ false }
+{
+    match names_in(alloc, files, path) {
+        Ok(Some(names)) => ListAnswer::Names(names),
+        Ok(None) => ListAnswer::NotFolder,
+        Err(_) => ListAnswer::Memory,
+    }
+}
+
+/// The names in a folder; none where there is no folder.
+fn names_in(
+    alloc: Global,
+    files: &HeldFiles,
+    path: &HostPath,
+) -> Result<Option<List<ChildName>>, WantOfMemory>
+    ensures { IfOk result (λ found. MatchOption found (is_folder files.now.present path.now ≡ false)
+        (λ names. AreInOrder names × (is_folder files.now.present path.now ≡ true)
+        × (names ≡ names_in files.now.present path.now))) }
+{
+    if !files.is_folder(path) {
+        return Ok(None);
+    }
+    let names = files.names_below(alloc, path)?;
+    Ok(Some(names.into_list(alloc)?))
+}
+
 /// Bytes of a file.
-fn content(alloc: Global, files: &Files, name: &FileName, offset: u64, size: u32) -> TreeRead
-    ensures gets { Gets (Some files.now) name.now offset size result }
+fn content(alloc: Global, files: &HeldFiles, name: &FileName, offset: u64, size: u32) -> TreeRead
+    ensures gets { Gets (Some (files.now.present ++ files.now.hidden)) name.now offset size result }
     ensures no_fault { is_read_fault result ≡ false }
 {
     let Some(stored) = files.named(name) else {
@@ -329,8 +505,9 @@ fn content(alloc: Global, files: &Files, name: &FileName, offset: u64, size: u32
 }
 
 /// Bytes in memory are at rest.
-fn rest(files: &Files, name: &FileName) -> TreeDone
-    ensures does { Does (has_file name.now) as_before (Some files.now) result (Some files.now) }
+fn rest(files: &HeldFiles, name: &FileName) -> TreeDone
+    ensures does { Does (λ present. has_file name.now present || has_file name.now files.now.hidden)
+        as_before (Some files.now.present) result (Some files.now.present) }
     ensures no_fault { is_done_fault result ≡ false }
 {
     if files.named(name).is_some() {

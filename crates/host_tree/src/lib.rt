@@ -12,7 +12,8 @@
 //! |---|---|
 //! | `tree` | the trait [`HostTree`] and its answers |
 //! | `in_memory` | [`MemoryTree`], whose told calls fail, and [`QuietTree`], which never fails |
-//! | `files` | the files of a tree in memory, by path |
+//! | `names` | the names in a folder as they are found |
+//! | `held`, `files`, `hidden` | the files of a tree in memory: the present ones by path, and those beside them |
 //! | `made` | the calls of a tree in memory |
 //!
 //! ```text
@@ -22,9 +23,13 @@
 #![tactic(auto)]
 
 mod files;
+mod held;
+mod hidden;
 mod in_memory;
 mod made;
+pub mod names;
 mod tree;
 
 pub use in_memory::{MemoryTree, QuietTree};
-pub use tree::{AttrAnswer, HostTree, LookAnswer, TreeCall, TreeDone, TreeRead};
+pub use portal_base::files::ChildName;
+pub use tree::{AttrAnswer, HostTree, ListAnswer, LookAnswer, TreeCall, TreeDone, TreeRead};
