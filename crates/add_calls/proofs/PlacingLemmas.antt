@@ -19,6 +19,7 @@ use Rattle.portal_model.specs.Applications.{numbered}
 use Rattle.portal_model.specs.Valid.{applications_limit, is_numbered}
 use Rattle.rights_rule.specs.Rights.{holds_any}
 use Rattle.std.proofs.lemmas.List.Sums.{sum_by-cons}
+use Rattle.portal_model.proofs.DrawnNumbers.{drawn-length}
 use Rattle.add_files.specs.Plans.{IsOfCall, followed, is_new, Followed, document_at, follow_item, item_given, listed_given, own_given, placed, used_for}
 use Rattle.add_files.specs.declared.plan.AddPlan.{AddPlan}
 use Rattle.add_files.specs.declared.plan.PlanItem.{PlanItem}
@@ -29,7 +30,7 @@ use Rattle.add_calls.specs.declared.give.Given.{Given}
 use Rattle.add_calls.specs.declared.place.Drawn.{Drawn}
 use Rattle.add_calls.specs.declared.place.Use.{Use}
 use Rattle.add_calls.specs.Giving.{GaveBoth, GaveListed, GaveOwn, HasRoomForBoth, HasRoomForCaller, HasRoomForNamed, caller_with}
-use Rattle.add_calls.specs.Placing.{Book, Drew, Finds, Follows, Found, HasDrawn, IsLastMade, IsLastUse, IsMade, Makes, Placed, PlacedItem, UsedAll, WasUsed, book_of, followed_at, none_drawn, with_lists}
+use Rattle.add_calls.specs.Placing.{Book, Drew, Finds, Follows, Found, HasDrawnUpTo, IsLastMade, IsLastUse, IsMade, Makes, Placed, PlacedItem, UsedAll, WasUsed, book_of, followed_at, none_drawn, with_lists}
 use Rattle.add_calls.specs.Limits.{HasRoomForAll, OwnHolds, OwnsHold, both_numbered, caller_numbered, exceeds_planned, has_document, named_numbered, numbered_by, uses_documents}
 use Rattle.add_calls.proofs.Counts.{numbered-length, numbered-once}
 use Rattle.add_calls.proofs.Giving.{front-back}
@@ -66,8 +67,15 @@ pub drew-joined : (old mid new : Option (List ℕ)) (words more : List ℕ) → 
 drew-joined old mid new [] more d e = subst (λ (told : Option (List ℕ)). Drew told more new) d e
 drew-joined old mid new (w ∷ ws) more d e = (d.0, d.1, drew-joined d.0 mid new ws more d.2 e)
 
-pub drew-one : (old new : Option (List ℕ)) (word : ℕ) → Draws old word new → HasDrawn old new
-drew-one old new word d = (word ∷ [], (new, d, refl))
+pub drew-one : (old new : Option (List ℕ)) (word : ℕ) → Draws old word new → HasDrawnUpTo 1 old new
+drew-one old new word d =
+    let few : length (word ∷ []) ≤ 1 = omega arith in
+    (word ∷ [], (new, d, refl), few)
+
+pub drew-none : (most : ℕ) (old new : Option (List ℕ)) → new ≡ old → HasDrawnUpTo most old new
+drew-none most old new e =
+    let few : 0 ≤ most = omega arith in
+    ([], e, few)
 
 pub drawn-joined : (made : List DocId) (words more : List ℕ) (numbers rest : List DocId) → AreDrawn made words numbers → AreDrawn (made ++ numbers) more rest → AreDrawn made (words ++ more) (numbers ++ rest)
 drawn-joined made [] more [] rest d e = subst (λ (m : List DocId). AreDrawn m more rest) (right-nil made) e
@@ -202,10 +210,10 @@ module _ (who : Who) (a : AddRequest) (plan : AddPlan) (item : PlanItem) (docume
   found-last (Earlier k) id f = tt
   found-last New id f = record { before = documents; last = new_document a id item.path; number = refl; added = f.added; new = f.unused.unused }
 
-  pub found-drawn : (place : PlanUse) (id : Option DocId) → Found a item.path place id documents after told told_after drawn drawn_after → HasDrawn told told_after
-  found-drawn LeftOut id f = ([], f.undrawn)
-  found-drawn (Live live) id f = ([], f.undrawn)
-  found-drawn (Earlier k) id f = ([], f.undrawn)
+  pub found-drawn : (place : PlanUse) (id : Option DocId) → Found a item.path place id documents after told told_after drawn drawn_after → HasDrawnUpTo 1 told told_after
+  found-drawn LeftOut id f = drew-none 1 told told_after f.undrawn
+  found-drawn (Live live) id f = drew-none 1 told told_after f.undrawn
+  found-drawn (Earlier k) id f = drew-none 1 told told_after f.undrawn
   found-drawn New None f = absurd f
   found-drawn New (Some id) f = drew-one told told_after f.word f.draws
 
@@ -303,6 +311,62 @@ room-rest who a plan items item rest None before after e h w =
 room-rest who a plan items item rest (Some used) before after e h w =
     let all : new_left items ≡ cond (is_new item.place) 1 0 + new_left rest = ap new_left e ∙ one-and-rest item rest in
     room-by a item.path item.place used.id before.documents after.documents (new_left rest) (subst (λ (n : ℕ). n ≤ room before.documents) all h) w.made
+
+-- ---- words, one for a file at most
+
+made-more : (a : AddRequest) (path : List ℕ) (place : PlanUse) (id : DocId) (d e : DocumentList) → IsMade a path place id d e → length e.made ≤ length d.made + 1
+made-more a path LeftOut id d e m = let same : length e.made ≡ length d.made = ap (λ (x : DocumentList). length x.made) m in omega arith
+made-more a path (Live live) id d e m = let same : length e.made ≡ length d.made = ap (λ (x : DocumentList). length x.made) m in omega arith
+made-more a path (Earlier k) id d e m = let same : length e.made ≡ length d.made = ap (λ (x : DocumentList). length x.made) m in omega arith
+made-more a path New id d e m =
+    let made : length e.made ≡ length d.made + 1 = ap (λ (x : DocumentList). length x.made) m ∙ length-append d.made (id ∷ []) in
+    omega arith
+
+used-made : (who : Who) (a : AddRequest) (plan : AddPlan) (item : PlanItem) (used : Option Use) (before after : Book) → WasUsed who a plan item used before after → length after.documents.made ≤ length before.documents.made + 1
+used-made who a plan item None before after w = let same : length after.documents.made ≡ length before.documents.made = ap (λ (b : Book). length b.documents.made) w in omega arith
+used-made who a plan item (Some used) before after w = made-more a item.path item.place used.id before.documents after.documents w.made
+
+module _ (who : Who) (a : AddRequest) (plan : AddPlan) (item : PlanItem) (used : Option Use) (before mid : Book) (told told_mid : Option (List ℕ)) (drawn drawn_mid : Drawn) (p : PlacedItem who a plan item used before mid told told_mid drawn drawn_mid) where
+  one-word : length p.placed.words ≤ 1
+  one-word =
+      let made : length mid.documents.made ≡ length before.documents.made + length p.placed.numbers = ap (λ (l : List DocId). length l) p.placed.made ∙ length-append before.documents.made p.placed.numbers in
+      let same : length p.placed.words ≡ length p.placed.numbers = drawn-length before.documents.made p.placed.words p.placed.numbers p.placed.drawn_for in
+      let more = used-made who a plan item used before mid p.undone in
+      omega (arith, made, same, more)
+
+  -- behind a file that was placed
+  pub drew-behind : (items rest : List PlanItem) (told_after : Option (List ℕ)) → items ≡ item ∷ rest → HasDrawnUpTo (length rest) told_mid told_after → HasDrawnUpTo (length items) told told_after
+  drew-behind items rest told_after e d =
+      let all : length items ≡ length (item ∷ rest) = ap (λ (l : List PlanItem). length l) e in
+      let both : length (p.placed.words ++ d.0) ≡ length p.placed.words + length d.0 = length-append p.placed.words d.0 in
+      let few : length (p.placed.words ++ d.0) ≤ length items = omega (arith, all, both, one-word, d.2) in
+      (p.placed.words ++ d.0, drew-joined told told_mid told_after p.placed.words d.0 p.placed.drew d.1, few)
+
+-- by the first of some files
+pub drew-first : (items : List PlanItem) (item : PlanItem) (rest : List PlanItem) (old new : Option (List ℕ)) → items ≡ item ∷ rest → HasDrawnUpTo 1 old new → HasDrawnUpTo (length items) old new
+drew-first items item rest old new e d =
+    let all : length items ≡ length (item ∷ rest) = ap (λ (l : List PlanItem). length l) e in
+    let few : length d.0 ≤ length items = omega (arith, all, d.2) in
+    (d.0, d.1, few)
+
+used-all-made : (who : Who) (a : AddRequest) (plan : AddPlan) (items : List PlanItem) (uses : List (Option Use)) (before after : Book) → UsedAll who a plan items uses before after → length after.documents.made ≤ length before.documents.made + length items
+used-all-made who a plan [] uses before after u = let same : length after.documents.made ≡ length before.documents.made = ap (λ (b : Book). length b.documents.made) u in omega arith
+used-all-made who a plan (item ∷ items) [] before after u = absurd u
+used-all-made who a plan (item ∷ items) (used ∷ uses) before after u =
+    let mid : Book = u.0 in
+    let one : length mid.documents.made ≤ length before.documents.made + 1 = used-made who a plan item used before mid u.1 in
+    let rest : length after.documents.made ≤ length mid.documents.made + length items = used-all-made who a plan items uses mid after u.3 in
+    omega arith
+
+-- a plan that was followed
+pub drew-followed : (who : Who) (a : AddRequest) (plan : AddPlan) (before after : Book) (told told_after : Option (List ℕ)) (drawn : Drawn) (uses : List (Option Use)) → Follows who a plan before after told told_after drawn → UsedAll who a plan plan.items uses before after →
+    HasDrawnUpTo (length plan.items) told told_after
+drew-followed who a plan before after told told_after drawn uses f u =
+    let made : length after.documents.made ≡ length before.documents.made + length drawn.numbers = ap (λ (l : List DocId). length l) f.made ∙ length-append before.documents.made drawn.numbers in
+    let same : length drawn.words ≡ length drawn.numbers = drawn-length before.documents.made drawn.words drawn.numbers f.drawn_for in
+    let more : length after.documents.made ≤ length before.documents.made + length plan.items = used-all-made who a plan plan.items uses before after u in
+    let few : length drawn.words ≤ length plan.items = omega arith in
+    (drawn.words, f.drew, few)
 
 -- ---- room for applications
 

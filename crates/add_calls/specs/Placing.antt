@@ -1,6 +1,6 @@
 -- The files of a plan placed one after another: what becomes of the portal's own lists, of the
 -- words and of what is told of both.
-use Rattle.std.specs.Prelude.{◌≡◌, ◌<◌, ◌^◌, ℕ, List, [], ◌∷◌, ◌++◌, fold, Option, Some, None, is_some}
+use Rattle.std.specs.Prelude.{◌≡◌, ◌<◌, ◌≤◌, ◌^◌, ℕ, List, [], ◌∷◌, ◌++◌, fold, length, Option, Some, None, is_some}
 use Rattle.portal_base.specs.Outside.{Draws}
 use Rattle.portal_base.specs.declared.names.doc_id.DocId.{DocId}
 use Rattle.portal_base.specs.declared.who.Who.{Who}
@@ -54,6 +54,10 @@ Drew old (word ∷ words) new = (mid : Option (List ℕ)) × Draws old word mid 
 
 abbrev pub HasDrawn : Option (List ℕ) → Option (List ℕ) → Type 0
 HasDrawn old new = (words : List ℕ) × Drew old words new
+
+-- the same, so many words at most
+abbrev pub HasDrawnUpTo : ℕ → Option (List ℕ) → Option (List ℕ) → Type 0
+HasDrawnUpTo most old new = (words : List ℕ) × Drew old words new × (length words ≤ most)
 
 -- ---- the document of a file
 

@@ -1,10 +1,11 @@
 //! The plan of an addition.
 
-ghost use Rattle.std.specs.Prelude.{◌≡◌, IfOk, IfErr, List, length, map, true};
+ghost use Rattle.std.specs.Prelude.{◌≡◌, IfOk, IfErr, OnOk, List, length, map, true};
 ghost use Rattle.portal_base.specs.declared.names.doc_id.DocId.{DocId as Number};
 ghost use Rattle.portal_model.specs.declared.state.Connection.{Connection};
 ghost use Rattle.portal_model.specs.Add.{add as add_walk};
 ghost use Rattle.portal_model.specs.State.{State};
+ghost use Rattle.add_files.specs.Arguments.{are_few};
 ghost use Rattle.add_files.specs.Items.{are_below, paths_of};
 ghost use Rattle.add_files.specs.Plans.{IsAsked, IsOfCall, IsPlan, IsRefused};
 
@@ -39,6 +40,7 @@ pub fn plan_add(
     paths: &[HostPath],
 ) -> Result<AddPlan, AddError>
     requires { are_below (length paths.now) add.now.handles ≡ true }
+    ensures few { OnOk result (are_few add.now ≡ true) }
     ensures call { IfOk result (IsOfCall who.now add.now) }
     ensures paths { IfOk result (λ plan. map (λ item. item.path) plan.items
         ≡ paths_of add.now paths.now add.now.handles) }

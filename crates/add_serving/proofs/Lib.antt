@@ -3,4 +3,5 @@ mod Regranted
 mod Stirred
 mod RecordSteps
 mod AddSteps
+pub mod Bounded
 mod PlaceSteps

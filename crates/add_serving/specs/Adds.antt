@@ -1,5 +1,5 @@
 -- An addition that is served, over the portal's lists, the tree, the words and the keeper.
-use Rattle.std.specs.Prelude.{◌≡◌, ℕ, List, drop, length, map, true, false, cond, Option}
+use Rattle.std.specs.Prelude.{◌≡◌, ◌+◌, ◌≤◌, ℕ, List, drop, length, map, nat_le, true, false, cond, Option}
 use Rattle.portal_base.specs.declared.files.File.{File}
 use Rattle.portal_base.specs.declared.who.Who.{Who}
 use Rattle.host_tree.specs.Trees.{TreeIs}
@@ -9,7 +9,7 @@ use Rattle.portal_model.specs.declared.request.Request.{Request}
 use Rattle.portal_model.specs.declared.state.Connection.{Connection}
 use Rattle.portal_model.specs.declared.state.Document.{Document}
 use Rattle.portal_model.specs.declared.state.Triple.{Triple}
-use Rattle.portal_model.specs.AddArguments.{are_presented}
+use Rattle.portal_model.specs.AddArguments.{are_presented, files_limit}
 use Rattle.portal_model.specs.Outside.{files_told}
 use Rattle.portal_model.specs.Present.{with_queue}
 use Rattle.portal_model.specs.State.{State}
@@ -26,9 +26,20 @@ use Rattle.document_calls.specs.KeeperCalls.{ServesKept}
 use Rattle.document_calls.specs.declared.served.ServedCall.{ServedCall}
 use Rattle.record_keeper.specs.Keepers.{KeeperIs}
 
--- the tree was asked some times, and no call failed
-abbrev pub WasAsked : TreeIs → TreeIs → Type 0
-WasAsked old new = (calls : ℕ) × Asked old calls false new
+-- How many looks a call makes at most: one at each file, or two where a file is named in each. With
+-- more than 16 files it makes none.
+abbrev pub most_looks : AddRequest → ℕ
+most_looks a =
+    cond (nat_le (length a.handles) files_limit)
+    (cond a.named (length a.handles + length a.handles) (length a.handles)) 0
+
+-- how many words it draws at most: one for each file
+abbrev pub most_words : AddRequest → ℕ
+most_words a = cond (nat_le (length a.handles) files_limit) (length a.handles) 0
+
+-- the tree was asked so many times at most, and no call failed
+abbrev pub WasAsked : ℕ → TreeIs → TreeIs → Type 0
+WasAsked most old new = (calls : ℕ) × Asked old calls false new × (calls ≤ most)
 
 -- the files that the call takes leave the queue, unless a device failed
 abbrev pub left_by : Fault → Connection → AddRequest → State → State

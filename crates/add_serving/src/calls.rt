@@ -10,11 +10,12 @@ ghost use Rattle.portal_model.specs.AddArguments.{paths_looked_at};
 ghost use Rattle.portal_model.specs.State.{State};
 ghost use Rattle.portal_model.specs.Valid.{Valid};
 ghost use Rattle.add_calls.specs.Limits.{exceeds_planned};
-ghost use Rattle.add_calls.specs.Placing.{Drew, HasDrawn, book_of};
+ghost use Rattle.add_calls.specs.Placing.{Drew, HasDrawnUpTo, book_of};
 ghost use Rattle.add_calls.specs.Shown.{Asked, Shows};
+ghost use Rattle.add_files.specs.Arguments.{are_few};
 ghost use Rattle.add_files.specs.Items.{are_below, paths_of, presented_of};
 ghost use Rattle.add_files.specs.Plans.{IsOfCall};
-ghost use Rattle.add_serving.specs.Adds.{Adds, IsPlanOf, WasAsked};
+ghost use Rattle.add_serving.specs.Adds.{Adds, IsPlanOf, WasAsked, most_looks, most_words};
 ghost use Rattle.document_calls.specs.Books.{IsBook, IsQueue, queue_set, with_book};
 ghost use Rattle.document_calls.specs.Changes.{SameLimits};
 ghost use Rattle.document_calls.specs.KeeperCalls.{KeeperStays, ServesKept};
@@ -47,6 +48,10 @@ use std::alloc::Global;
 /// of applications is met, before a word is drawn. `Failed`: the tree or the
 /// keeper failed. The lists are then as before, but for the queue, which the
 /// files leave unless a device failed.
+///
+/// Want of memory leaves the lists and the queue as they were. Before it the tree
+/// showed each file of the call at most, or each folder and the file in it, and one
+/// word was drawn for each file at most.
 pub fn add<T: HostTree, W: Words, K: Keeper>(
     alloc: Global,
     documents: &mut Documents,
@@ -75,8 +80,10 @@ pub fn add<T: HostTree, W: Words, K: Keeper>(
     ensures grants { OnErr result (grants.new ≡ grants.old) }
     ensures applications { OnErr result (applications.new ≡ applications.old) }
     ensures queue { OnErr result (queue.new ≡ queue.old) }
-    ensures tree { OnErr result (WasAsked (T.is tree.old) (T.is tree.new)) }
-    ensures words { OnErr result (HasDrawn (W.told words.old) (W.told words.new)) }
+    ensures tree { OnErr result
+        (WasAsked (most_looks add.now) (T.is tree.old) (T.is tree.new)) }
+    ensures words { OnErr result
+        (HasDrawnUpTo (most_words add.now) (W.told words.old) (W.told words.new)) }
     ensures keeper { OnErr result (KeeperStays (K.is keeper.old) (K.is keeper.new)) }
 {
     if !are_presented(queue.as_slice(), add) {
@@ -128,8 +135,10 @@ fn add_presented<T: HostTree, W: Words, K: Keeper>(
     ensures documents { OnErr result (documents.new ≡ documents.old) }
     ensures grants { OnErr result (grants.new ≡ grants.old) }
     ensures applications { OnErr result (applications.new ≡ applications.old) }
-    ensures tree { OnErr result (WasAsked (T.is tree.old) (T.is tree.new)) }
-    ensures words { OnErr result (HasDrawn (W.told words.old) (W.told words.new)) }
+    ensures tree { OnErr result
+        (WasAsked (most_looks add.now) (T.is tree.old) (T.is tree.new)) }
+    ensures words { OnErr result
+        (HasDrawnUpTo (most_words add.now) (W.told words.old) (W.told words.new)) }
     ensures keeper { OnErr result (KeeperStays (K.is keeper.old) (K.is keeper.new)) }
 {
     match plan_add(alloc, documents, grants, who, add, paths) {
@@ -164,6 +173,7 @@ fn add_planned<T: HostTree, W: Words, K: Keeper>(
     paths: &[HostPath],
     plan: &AddPlan,
 ) -> Result<ServedCall, WantOfMemory>
+    requires few { are_few add.now ≡ true }
     requires below { are_below (length paths.now) add.now.handles ≡ true }
     requires planned { map (λ item. item.path) plan.now.items
         ≡ paths_of add.now paths.now add.now.handles }
@@ -181,8 +191,10 @@ fn add_planned<T: HostTree, W: Words, K: Keeper>(
     ensures documents { OnErr result (documents.new ≡ documents.old) }
     ensures grants { OnErr result (grants.new ≡ grants.old) }
     ensures applications { OnErr result (applications.new ≡ applications.old) }
-    ensures tree { OnErr result (WasAsked (T.is tree.old) (T.is tree.new)) }
-    ensures words { OnErr result (HasDrawn (W.told words.old) (W.told words.new)) }
+    ensures tree { OnErr result
+        (WasAsked (most_looks add.now) (T.is tree.old) (T.is tree.new)) }
+    ensures words { OnErr result
+        (HasDrawnUpTo (most_words add.now) (W.told words.old) (W.told words.new)) }
     ensures keeper { OnErr result (KeeperStays (K.is keeper.old) (K.is keeper.new)) }
 {
     let shown = match look(alloc, tree, add, paths, plan) {

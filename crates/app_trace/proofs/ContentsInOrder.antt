@@ -1,5 +1,5 @@
 -- Paths that are sorted, each taken once, name the contents of a view.
-use Rattle.std.proofs.Common.{◌≡◌, ◌<◌, ◌≤◌, ◌+◌, ℕ, zero, suc, length, get_or, drop, slice_get, List, [], ◌∷◌, ◌++◌, map, Bool, true, false, not, ◌||◌, cond, Option, Some, None, append_assoc, find, refl, sym, ap, ◌∙◌, arith}
+use Rattle.std.proofs.Common.{◌≡◌, ◌<◌, ◌≤◌, ◌+◌, ℕ, zero, suc, length, get_or, drop, slice_get, List, [], ◌∷◌, ◌++◌, map, Bool, true, false, not, ◌||◌, cond, Option, Some, None, append_assoc, refl, sym, ap, ◌∙◌, arith}
 use Rattle.std.specs.Cmp.Lexicographic.{slice_cmp}
 use Rattle.std.specs.List.{list_all, list_any}
 use Rattle.std.specs.List.Sorted.{IsPermutation, IsSortedBy}
@@ -7,9 +7,9 @@ use Rattle.std.specs.Ordering.{nat_cmp, is_lt}
 use Rattle.std.proofs.lemmas.Bool.Decides.{nat_tests}
 use Rattle.std.proofs.lemmas.Cmp.{nat_list_cmp_total, same_from_slice_cmp}
 use Rattle.std.proofs.lemmas.List.Sorted.{list_any-IsPermutation, ranks_by, sorted_far}
-use Rattle.portal_base.specs.Names.{is_same, root}
+use Rattle.portal_base.specs.Names.{is_same}
 use Rattle.portal_base.specs.declared.files.File.{File}
-use Rattle.portal_model.specs.Content.{content_at, content_of, has_room, is_above, is_folder}
+use Rattle.portal_model.specs.Content.{content_at, content_of, file_at, has_room, is_folder}
 use Rattle.portal_model.specs.Ordered.{bytes_less, is_rising}
 use Rattle.portal_model.proofs.RisingLists.{put_all-rising}
 use Rattle.portal_model.proofs.TripleOrder.{bytes-through, bytes-total, is_same-eq, is_same-refl}
@@ -161,12 +161,6 @@ once-more files contents more ps i p h e m invariant =
 
 -- ---- the file of a path
 
-pub folder-below : (files : List File) (path : List ℕ) → is_same path root ≡ false → list_any (λ f. is_above path f.path) files ≡ is_folder files path
-folder-below files path e = rw e refl
-
-abbrev pub has_path : List ℕ → File → Bool
-has_path path f = is_same f.path path
-
-pub with-file : (files : List File) (path : List ℕ) (o : Option File) → o ≡ find (has_path path) files →
+pub with-file : (files : List File) (path : List ℕ) (o : Option File) → file_at files path ≡ o →
     content_at files path ≡ content_of o (is_folder files path) (has_room files path)
-with-file files path o e = ap (λ (f : Option File). content_of f (is_folder files path) (has_room files path)) (sym e)
+with-file files path o e = ap (λ (f : Option File). content_of f (is_folder files path) (has_room files path)) e

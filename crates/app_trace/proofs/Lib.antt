@@ -3,4 +3,5 @@ pub mod Told
 pub mod Matched
 pub mod HeldInOrder
 pub mod ContentsInOrder
+pub mod FilesPlaced
 pub mod ViewedParts

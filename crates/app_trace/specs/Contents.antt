@@ -1,8 +1,10 @@
--- Paths of which none is repeated, where equal ones stand together.
-use Rattle.std.specs.Prelude.{ℕ, List, [], ◌∷◌, Bool, false, cond, Option, Some, None}
+-- Paths of which none is repeated, where equal ones stand together; and files that show the same.
+use Rattle.std.specs.Prelude.{◌≡◌, ℕ, List, [], ◌∷◌, Bool, false, cond, Option, Some, None}
 use Rattle.std.specs.Cmp.Lexicographic.{slice_cmp}
 use Rattle.std.specs.Ordering.{is_lt, nat_cmp}
 use Rattle.portal_base.specs.Names.{is_same}
+use Rattle.portal_base.specs.declared.files.File.{File}
+use Rattle.portal_model.specs.Content.{content_at}
 use Rattle.app_trace.specs.declared.view.HeldDocument.{HeldDocument}
 
 abbrev pub first_of : List (List ℕ) → Option (List ℕ)
@@ -26,3 +28,7 @@ path_less a b = is_lt (slice_cmp nat_cmp a b)
 
 abbrev pub path_held : HeldDocument → List ℕ
 path_held d = d.document.path
+
+-- at each path the same is there
+abbrev pub ShowAlike : List File → List File → Type 0
+ShowAlike fs gs = (path : List ℕ) → content_at fs path ≡ content_at gs path

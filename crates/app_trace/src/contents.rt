@@ -2,29 +2,27 @@
 
 ghost use Rattle.std.specs.Prelude.{◌≡◌, ◌+◌, ◌<◌, ◌++◌, ◌∷◌, [], None, cond, length, map, option_copied, slice_get, IfOk, OnOk};
 ghost use Rattle.std.specs.Cmp.Lexicographic.{slice_cmp};
-ghost use Rattle.std.specs.List.{find, list_any};
 ghost use Rattle.std.specs.List.Sorted.{IsPermutation, IsSortedBy};
 ghost use Rattle.std.specs.Ordering.{nat_cmp};
 ghost use Rattle.app_world.specs.View.{contents_at as contents_of_view, path_content as content_of_path};
-ghost use Rattle.portal_base.specs.Names.{is_same, parent_of};
-ghost use Rattle.portal_model.specs.Content.{OfFile, content_at as content_of_tree, content_of, is_above, is_folder as is_folder_of_tree};
+ghost use Rattle.portal_base.specs.Names.{parent_of};
+ghost use Rattle.portal_model.specs.Content.{OfFile, content_at as content_of_tree, content_of, is_folder as is_folder_of_tree};
 ghost use Rattle.app_trace.specs.Contents.{comes_again, once_each, path_held, path_less};
 ghost use Rattle.app_trace.specs.Told.{content_told, path_told};
 
 use crate::view::{Content, HeldDocument, PathContent};
-use portal_base::files::File;
 use portal_base::list::List;
 use portal_base::memory::{Replica, WantOfMemory};
 use portal_base::names::HostPath;
-use portal_base::names::host_path::{is_root, lies_above};
 use std::alloc::Global;
 use std::cmp::Ordering;
+use tree_files::{KeptFile, TreeFiles};
 
 /// What is at the path of each document, in byte order of the paths, of which
-/// none is repeated. For each path the files are looked through.
+/// none is repeated. Of n files and k paths it takes about k log n steps.
 pub fn contents_of(
     alloc: Global,
-    files: &[File],
+    files: &TreeFiles,
     held: &[HeldDocument],
 ) -> Result<List<PathContent>, WantOfMemory>
     ensures { IfOk result (λ contents. map path_told contents
@@ -67,7 +65,7 @@ fn byte_order(first: &HostPath, second: &HostPath) -> Ordering
 /// What is at each of the paths, of which equal ones stand together.
 fn contents_at(
     alloc: Global,
-    files: &[File],
+    files: &TreeFiles,
     paths: &[HostPath],
 ) -> Result<List<PathContent>, WantOfMemory>
     ensures { IfOk result (λ contents. map path_told contents
@@ -86,7 +84,7 @@ fn contents_at(
 fn push_content(
     alloc: Global,
     contents: &mut List<PathContent>,
-    files: &[File],
+    files: &TreeFiles,
     path: &HostPath,
     again: bool,
 ) -> Result<(), WantOfMemory>
@@ -118,7 +116,11 @@ fn comes_again(path: &HostPath, next: Option<&HostPath>) -> bool
 }
 
 /// A path, and what is there.
-fn path_content(alloc: Global, files: &[File], path: &HostPath) -> Result<PathContent, WantOfMemory>
+fn path_content(
+    alloc: Global,
+    files: &TreeFiles,
+    path: &HostPath,
+) -> Result<PathContent, WantOfMemory>
     ensures { IfOk result
         (λ content. path_told content ≡ content_of_path files.now path.now) }
 {
@@ -129,66 +131,47 @@ fn path_content(alloc: Global, files: &[File], path: &HostPath) -> Result<PathCo
 }
 
 /// What is at a path.
-pub fn content_at(alloc: Global, files: &[File], path: &HostPath) -> Result<Content, WantOfMemory>
+pub fn content_at(
+    alloc: Global,
+    files: &TreeFiles,
+    path: &HostPath,
+) -> Result<Content, WantOfMemory>
     ensures { IfOk result
         (λ content. content_told content ≡ content_of_tree files.now path.now) }
 {
-    match file_at(files, path.as_bytes()) {
+    match files.at(path) {
         Some(file) => file_content(alloc, file),
         None => content_without_file(alloc, files, path),
     }
 }
 
 /// What a file is.
-pub fn file_content(alloc: Global, file: &File) -> Result<Content, WantOfMemory>
-    ensures { IfOk result (λ content. content_told content
-        ≡ OfFile file.now.generation file.now.bytes file.now.moment) }
+pub fn file_content(alloc: Global, file: &KeptFile) -> Result<Content, WantOfMemory>
+    ensures { IfOk result
+        (λ content. content_told content ≡ OfFile 0 file.now.bytes file.now.moment) }
 {
     Ok(Content::File {
-        generation: file.generation,
+        generation: 0,
         bytes: file.bytes.replica(alloc)?,
         moment: file.moment,
     })
 }
 
-/// The file of a path.
-fn file_at<'a>(files: &'a [File], path: &[u8]) -> Option<&'a File>
-    ensures { option_copied result ≡ find (λ f. is_same f.path path.now) files.now }
-{
-    files.iter().find(|file| file.path.as_bytes() == path)
-}
-
 /// What is at a path that has no file.
 fn content_without_file(
     alloc: Global,
-    files: &[File],
+    files: &TreeFiles,
     path: &HostPath,
 ) -> Result<Content, WantOfMemory>
     ensures { IfOk result (λ content. content_told content
         ≡ content_of None (is_folder_of_tree files.now path.now)
         (is_folder_of_tree files.now (parent_of path.now))) }
 {
-    if is_folder(files, path.as_bytes()) {
+    if files.is_folder(path) {
         return Ok(Content::Folder);
     }
     let parent = path.parent(alloc)?;
     Ok(Content::Missing {
-        room: is_folder(files, parent.as_bytes()),
+        room: files.is_folder(&parent),
     })
-}
-
-/// Says whether a path is a folder: the root, and each path above a file.
-fn is_folder(files: &[File], path: &[u8]) -> bool
-    ensures { result ≡ is_folder_of_tree files.now path.now }
-{
-    is_root(path) || has_file_below(files, path)
-}
-
-/// Says whether a file lies below a path.
-fn has_file_below(files: &[File], path: &[u8]) -> bool
-    ensures { result ≡ list_any (λ f. is_above path.now f.path) files.now }
-{
-    files
-        .iter()
-        .any(|file| lies_above(path, file.path.as_bytes()))
 }

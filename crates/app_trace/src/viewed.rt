@@ -28,7 +28,7 @@ pub fn view_of(alloc: Global, opening: &OpeningState, app: &AppId) -> Result<App
     let rights = rights(alloc, items)?;
     let documents = held_documents(alloc, items, &rights, app)?;
     let files = files_of(alloc, opening)?;
-    let contents = contents_of(alloc, files.as_slice(), documents.as_slice())?;
+    let contents = contents_of(alloc, &files, documents.as_slice())?;
     Ok(AppView {
         handles: opening.limits.handles,
         queued: opening.limits.queued,

@@ -161,7 +161,14 @@ by_the_host =
 
 abbrev pub a_document : Document
 a_document =
-    record { id = id 10; path = n_text; persistent = true; reusable = true; strict = false; folder = false }
+    record {
+      id = id 10;
+      path = n_text;
+      persistent = true;
+      reusable = true;
+      strict = false;
+      folder = false;
+    }
 
 abbrev pub deletes : RightSet
 deletes = record { read = false; write = false; grant_permissions = false; delete = true }
@@ -188,7 +195,14 @@ reused_by_the_host =
 
 abbrev pub n_document_of : ℕ → Bool → Document
 n_document_of number reuse =
-    record { id = id number; path = n_text; persistent = false; reusable = reuse; strict = false; folder = false }
+    record {
+      id = id number;
+      path = n_text;
+      persistent = false;
+      reusable = reuse;
+      strict = false;
+      folder = false;
+    }
 
 abbrev pub gains_reading : ℕ → TraceItem
 gains_reading number = Gained (n_document_of number false) reads (OfFile 0 [] 0)

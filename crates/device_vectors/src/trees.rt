@@ -3,7 +3,7 @@
 ghost use Rattle.std.specs.Prelude.{◌≡◌, ◌≢◌};
 ghost use Rattle.portal_base.specs.Names.{root};
 
-use host_tree::{HostTree, MemoryTree, QuietTree, TreeRead};
+use host_tree::{HostTree, ListAnswer, MemoryTree, QuietTree, TreeRead};
 use portal_base::files::FileName;
 use portal_base::names::HostPath;
 use std::alloc::Global;
@@ -80,7 +80,7 @@ fn put_step<T: HostTree>(
     put
 }
 
-/// `look PATH`, `create PATH NOW`, `settle PATH`; and of the file of a path `attr PATH`,
+/// `look PATH`, `list PATH`, `create PATH NOW`, `settle PATH`; and of the file of a path `attr PATH`,
 /// `read PATH OFFSET SIZE`, `write PATH OFFSET NOW BYTES`, `len PATH SIZE NOW`,
 /// `sync PATH`, `later PATH`, which asks for its generation 1.
 fn put_answer<T: HostTree>(
@@ -109,9 +109,38 @@ fn put_answer<T: HostTree>(
             let answer = tree.settle();
             Ok(write!(out, "{answer:?}")?)
         }
+        "list" => put_list(alloc, out, tree, &file.path),
         "read" => put_read(alloc, out, tree, file, first, rest),
         _ => put_change(alloc, out, tree, kind, file, first, rest),
     }
+}
+
+/// The names in a folder, those of folders with a slash behind them, or why none came.
+fn put_list<T: HostTree>(
+    alloc: Global,
+    out: &mut String,
+    tree: &mut T,
+    path: &HostPath,
+) -> Result<(), VectorError> {
+    match tree.list(path) {
+        ListAnswer::Names(names) => {
+            out.push_str("Names(")?;
+            for (index, child) in names.iter().enumerate() {
+                if index > 0 {
+                    out.push(' ')?;
+                }
+                out.push_str(String::from_utf8_lossy(alloc, child.name.as_slice())?.as_str())?;
+                if child.folder {
+                    out.push('/')?;
+                }
+            }
+            out.push(')')?;
+        }
+        ListAnswer::NotFolder => out.push_str("NotFolder")?,
+        ListAnswer::Failed => out.push_str("Failed")?,
+        ListAnswer::Memory => out.push_str("Memory")?,
+    }
+    Ok(())
 }
 
 /// The bytes that are read, as digits, or why none came.

@@ -99,4 +99,5 @@ has_flags persistent strict folder (Some d) =
 
 -- the same of the live document of a number
 abbrev pub number_serves : List Document → Bool → Bool → Bool → ℕ → Bool
-number_serves live persistent strict folder number = has_flags persistent strict folder (document_of live number)
+number_serves live persistent strict folder number =
+    has_flags persistent strict folder (document_of live number)

@@ -25,7 +25,8 @@
 //!
 //! ```text
 //! let id = documents.unused_from(word);
-//! documents.add(Document { id, path, persistent: false, reusable: true, strict: false, folder: false })?;
+//! let (persistent, reusable, strict, folder) = (false, true, false, false);
+//! documents.add(Document { id, path, persistent, reusable, strict, folder })?;
 //! grants.add(&app, id, Rights::READ)?;
 //! ```
 //!

@@ -197,8 +197,8 @@ impl PlacedDocuments {
         strict: bool,
         folder: bool,
     ) -> Option<DocId>
-        ensures { result ≡ find (λ id. number_serves self.now.live persistent strict folder id.number)
-            ids.now }
+        ensures { result ≡ find
+            (λ id. number_serves self.now.live persistent strict folder id.number) ids.now }
     {
         ids.iter()
             .find(|id| self.has_flags(**id, persistent, strict, folder))

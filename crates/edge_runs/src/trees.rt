@@ -1,7 +1,7 @@
 //! The real tree of files.
 
 use host_real::{RealTree, System};
-use host_tree::{HostTree, LookAnswer, TreeDone, TreeRead};
+use host_tree::{HostTree, ListAnswer, LookAnswer, TreeDone, TreeRead};
 use portal_base::files::{FileName, Look};
 use portal_base::names::HostPath;
 use std::alloc::Global;
@@ -65,7 +65,7 @@ fn answer_away<T: HostTree>(
     Ok(out)
 }
 
-/// `look PATH`, `create PATH NOW`; and of the file of a path `attr PATH`, `later
+/// `look PATH`, `list PATH`, `create PATH NOW`; and of the file of a path `attr PATH`, `later
 /// PATH`, which asks for its generation 1, `read PATH OFFSET SIZE`, and a change.
 fn answer<T: HostTree>(alloc: Global, tree: &mut T, step: &str) -> Result<String, VectorError> {
     let (kind, rest) = cut(step);
@@ -88,6 +88,7 @@ fn answer_of<T: HostTree>(
 ) -> Result<String, VectorError> {
     match kind {
         "look" => Ok(debug(alloc, &shown(tree.look(&file.path)))?),
+        "list" => listed(alloc, tree, &file.path),
         "create" => Ok(debug(alloc, &tree.create(&file.path, number(rest)?))?),
         "attr" | "later" => Ok(debug(alloc, &tree.attr(file))?),
         "read" => read(alloc, tree, file, rest),
@@ -111,6 +112,32 @@ fn shown(look: LookAnswer) -> LookAnswer {
         }),
         other => other,
     }
+}
+
+/// The names in a folder, those of folders with a slash behind them, or why none came.
+fn listed<T: HostTree>(
+    alloc: Global,
+    tree: &mut T,
+    path: &HostPath,
+) -> Result<String, VectorError> {
+    let names = match tree.list(path) {
+        ListAnswer::Names(names) => names,
+        ListAnswer::NotFolder => return Ok(String::from_str(alloc, "NotFolder")?),
+        ListAnswer::Failed => return Ok(String::from_str(alloc, "Failed")?),
+        ListAnswer::Memory => return Ok(String::from_str(alloc, "Memory")?),
+    };
+    let mut out = String::from_str(alloc, "Names(")?;
+    for (index, child) in names.iter().enumerate() {
+        if index > 0 {
+            out.push(' ')?;
+        }
+        out.push_str(String::from_utf8_lossy(alloc, child.name.as_slice())?.as_str())?;
+        if child.folder {
+            out.push('/')?;
+        }
+    }
+    out.push(')')?;
+    Ok(out)
 }
 
 /// The bytes that are read, as digits, or why none came.

@@ -3,3 +3,4 @@ pub mod Quiet
 pub mod Going
 pub mod Fronts
 pub mod LentLists
+pub mod FreshFiles

@@ -15,6 +15,7 @@ use Rattle.app_trace.specs.Told.{item_told}
 use Rattle.app_trace.specs.declared.trace.TraceItem.{TraceItem}
 use Rattle.app_world.specs.World.{items}
 use Rattle.given_laws.specs.OneGiven.{AreFirst}
+use Rattle.named_paths.specs.OpenNumbers.{Cover, OpenNumbers}
 use Rattle.portal_steps.specs.Story.{PortalIs, Story, cost_with, limit_of, state_now}
 
 -- ---- how it begins
@@ -56,11 +57,12 @@ pub record IsAt (o : OpeningState) (h : List Entry) (p : Story) : Type 0 where
   pub state : state_now p ≡ run (opened o) h
   pub cost : cost p.history ≤ cost h
 
--- the front of a history was replayed: the portal is in its state, these are the files of that
--- state, and its items are told
+-- the front of a history was replayed: the portal is in its state, the number of each open handle
+-- of that state is kept, these are its files, and its items are told
 pub record IsReplayed (app : List ℕ) (o : OpeningState) (h : List Entry) (p : Story)
-    (files : List File) (told : List TraceItem) : Type 0 where
+    (numbers : OpenNumbers) (files : List File) (told : List TraceItem) : Type 0 where
   pub at : IsAt o h p
+  pub covered : Cover numbers (run (opened o) h).handles
   pub files_are : files ≡ (run (opened o) h).files
   pub items_are : map item_told told ≡ items app (opened o) h
 

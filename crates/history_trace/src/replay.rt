@@ -1,6 +1,8 @@
 //! One entry of a history, asked again.
 
 ghost use Rattle.std.specs.Prelude.{◌≡◌, ◌++◌, ◌≤◌, ◌≢◌, false, map, true, IfOk, OnOk};
+ghost use Rattle.named_paths.specs.OpenNumbers.{Cover};
+ghost use Rattle.portal_model.specs.State.{State};
 ghost use Rattle.trace_items.specs.Awaited.{Shows};
 ghost use Rattle.app_trace.specs.Told.{item_told};
 ghost use Rattle.app_world.specs.Touched.{is_done as was_done};
@@ -13,7 +15,7 @@ ghost use Rattle.history_trace.specs.Replayed.{GoesOn, HasRoom, Replies};
 
 use crate::beginning::QuietPortal;
 use app_trace::TraceItem;
-use portal_base::files::File;
+use named_paths::{OpenNumbers, follow};
 use portal_base::list::List;
 use portal_base::memory::{Replica, WantOfMemory};
 use portal_base::names::AppId;
@@ -22,31 +24,66 @@ use portal_model::entry::{Entry, Fault};
 use portal_model::reply::{Refused, Reply};
 use portal_model::request::Request;
 use std::alloc::Global;
+use trace_items::lent::connection_of;
 use trace_items::{Lent, come, foresee, is_done};
+use tree_files::TreeFiles;
 
 /// Asks an entry again, appends what it tells the application, and lets the
-/// files be those behind it.
+/// numbers of open handles and the files be those behind it.
 pub(crate) fn replay(
     alloc: Global,
     portal: &mut QuietPortal,
     app: &AppId,
     entry: &Entry,
-    files: &mut Vec<File>,
+    numbers: &mut OpenNumbers,
+    files: &mut TreeFiles,
     items: &mut List<TraceItem>,
 ) -> Result<(), WantOfMemory>
     requires lawful { Lawful (state_now portal.old.story) entry.now }
     requires room { HasRoom portal.old.story entry.now }
-    requires files { (state_now portal.old.story).files ≡ files.old.items }
+    requires covered { Cover numbers.old (state_now portal.old.story).handles }
+    requires files { (state_now portal.old.story).files ≡ files.old }
     ensures goes { OnOk result (GoesOn portal.old.story entry.now portal.new.story) }
-    ensures files { OnOk result (files.new.items
+    ensures covered { OnOk result (Cover numbers.new
+        (after (state_now portal.old.story) entry.now).handles) }
+    ensures files { OnOk result (files.new
+        ≡ (after (state_now portal.old.story) entry.now).files) }
+    ensures items { OnOk result (map item_told items.new ≡ map item_told items.old
+        ++ items_of app.now (state_now portal.old.story) entry.now) }
+{
+    tell_again(alloc, portal, app, entry, numbers, files, items)?;
+    follow_entry(alloc, portal, entry, numbers)?;
+    Ok(())
+}
+
+/// Asks an entry again, appends what it tells the application, and lets the
+/// files be those behind it.
+fn tell_again(
+    alloc: Global,
+    portal: &mut QuietPortal,
+    app: &AppId,
+    entry: &Entry,
+    numbers: &OpenNumbers,
+    files: &mut TreeFiles,
+    items: &mut List<TraceItem>,
+) -> Result<(), WantOfMemory>
+    requires lawful { Lawful (state_now portal.old.story) entry.now }
+    requires room { HasRoom portal.old.story entry.now }
+    requires covered { Cover numbers.now (state_now portal.old.story).handles }
+    requires files { (state_now portal.old.story).files ≡ files.old }
+    ensures goes { OnOk result (GoesOn portal.old.story entry.now portal.new.story) }
+    ensures files { OnOk result (files.new
         ≡ (after (state_now portal.old.story) entry.now).files) }
     ensures items { OnOk result (map item_told items.new ≡ map item_told items.old
         ++ items_of app.now (state_now portal.old.story) entry.now) }
 {
     portal.known();
-    let awaited = foresee(alloc, &lent(portal, files), app, entry)?;
+    let awaited = foresee(alloc, &lent(portal, numbers, files), app, entry)?;
     match ask_again(alloc, portal, entry) {
-        Ok(done) => come(alloc, items, files, awaited, done),
+        Ok(done) => {
+            portal.known();
+            come(alloc, items, files, awaited, done)
+        }
         Err(error) => {
             drop(awaited);
             Err(error)
@@ -54,9 +91,34 @@ pub(crate) fn replay(
     }
 }
 
-/// What a portal lends, with the files of its tree.
-fn lent<'a>(portal: &'a QuietPortal, files: &'a [File]) -> Lent<'a>
+/// Lets the numbers of open handles be those behind an entry that was asked again.
+fn follow_entry(
+    alloc: Global,
+    portal: &QuietPortal,
+    entry: &Entry,
+    numbers: &mut OpenNumbers,
+) -> Result<(), WantOfMemory>
+    ensures { OnOk result ((s : State) → Cover numbers.old s.handles →
+        state_now portal.now.story ≡ after s entry.now →
+        Cover numbers.new (state_now portal.now.story).handles) }
+{
+    portal.known();
+    let connection = connection_of(portal.connections(), entry.seat);
+    follow(
+        alloc,
+        numbers,
+        portal.handles(),
+        connection,
+        entry.seat,
+        &entry.request,
+    )
+}
+
+/// What a portal lends, with the numbers of its open handles and the files of its
+/// tree.
+fn lent<'a>(portal: &'a QuietPortal, numbers: &'a OpenNumbers, files: &'a TreeFiles) -> Lent<'a>
     requires told { is_told portal.now.story.began ≡ true }
+    requires covered { Cover numbers.now (state_now portal.now.story).handles }
     requires files { (state_now portal.now.story).files ≡ files.now }
     ensures { Shows result (state_now portal.now.story) }
 {
@@ -64,6 +126,7 @@ fn lent<'a>(portal: &'a QuietPortal, files: &'a [File]) -> Lent<'a>
         book: portal.book(),
         connections: portal.connections(),
         handles: portal.handles(),
+        numbers,
         files,
     }
 }

@@ -11,12 +11,14 @@ ghost use Rattle.history_trace.specs.Replayed.{Begins};
 use crate::beginning::{QuietPortal, opened_portal};
 use crate::replay::replay;
 use app_trace::{Trace, TraceItem, files_of, view_of};
+use named_paths::OpenNumbers;
 use portal_base::list::List;
 use portal_base::memory::WantOfMemory;
 use portal_base::names::AppId;
 use portal_history::History;
 use portal_model::opening::OpeningState;
 use std::alloc::Global;
+use std::collections::BTreeMap;
 
 /// The trace of an application in a legal history, which begins in an opening
 /// state and costs no more than its limit: what it holds of that state, and what
@@ -74,15 +76,25 @@ fn replay_all(
 ) -> Result<List<TraceItem>, WantOfMemory>
     requires legal { Legal (opened opening.now) history.now.entries }
     requires within { cost history.now.entries ≤ opening.now.limits.history }
+    requires started { IsOpeningState (opened opening.now) }
     requires begins { Begins opening.now portal.old.story }
     ensures { IfOk result (λ told. map item_told told
         ≡ items app.now (opened opening.now) history.now.entries) }
 {
     let mut files = files_of(alloc, opening)?;
+    let mut numbers: OpenNumbers = BTreeMap::new(alloc);
     let mut told = List::new(alloc);
     for place in 0..history.len() {
         match history.entry(place) {
-            Some(entry) => replay(alloc, portal, app, entry, &mut files, &mut told)?,
+            Some(entry) => replay(
+                alloc,
+                portal,
+                app,
+                entry,
+                &mut numbers,
+                &mut files,
+                &mut told,
+            )?,
             None => unreachable!(),
         }
     }

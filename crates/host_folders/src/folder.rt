@@ -1,5 +1,8 @@
 //! A folder that is open.
 
+ghost use Rattle.std.specs.Prelude.{◌≤◌, length, IfOk};
+
+use crate::sight::{Sight, at};
 use std::io;
 
 /// A folder that is open, by its number, until it is dropped.
@@ -22,6 +25,25 @@ impl Folder {
     /// Its number.
     pub fn number(&self) -> i32 {
         self.number
+    }
+
+    /// The next of its names, `.` and `..` among them, at the front of the buffer, each
+    /// ended by a zero byte: how many bytes they take, none behind the last name. The buffer
+    /// has room for any name of 4,096 bytes.
+    pub fn read_names(&self, buffer: &mut [u8]) -> io::Result<usize>
+        ensures { IfOk result (λ len. len ≤ length buffer.new) }
+    {
+        let len = os::read_dir(self.number, buffer);
+        match os::errno() {
+            // A folder that was removed has no more names.
+            0 | libc::ENOENT => Ok(len),
+            error => Err(io::Error::from_raw_os_error(error)),
+        }
+    }
+
+    /// What stands at a name in it; a link isn't followed.
+    pub fn sight_of(&self, name: &str) -> io::Result<Sight> {
+        at(self.number, name)
     }
 
     /// Brings its names to rest.

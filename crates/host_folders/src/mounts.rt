@@ -1,6 +1,7 @@
 //! The devices that a way down doesn't step onto.
 
 use crate::error::OpenError;
+use crate::numbers::device;
 use portal_base::list::List;
 use std::alloc::Global;
 use std::fs::{File, Files};
@@ -63,9 +64,4 @@ fn kernels_device(line: &str) -> Option<u64> {
     let numbers = mount.split(' ').nth(2)?;
     let (major, minor) = numbers.split_once(':')?;
     Some(device(major.parse().ok()?, minor.parse().ok()?))
-}
-
-/// The number of a device, as the system gives it in a look (makedev(3)).
-fn device(major: u64, minor: u64) -> u64 {
-    (major & 0xffff_f000) << 32 | (major & 0xfff) << 8 | (minor & 0xffff_ff00) << 12 | minor & 0xff
 }

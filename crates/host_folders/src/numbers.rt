@@ -61,3 +61,8 @@ impl Numbers {
         self.path(bytes.get(..end).unwrap_or(bytes))
     }
 }
+
+/// The number of a device, as the system gives it in a look (makedev(3)).
+pub fn device(major: u64, minor: u64) -> u64 {
+    (major & 0xffff_f000) << 32 | (major & 0xfff) << 8 | (minor & 0xffff_ff00) << 12 | minor & 0xff
+}

@@ -111,6 +111,25 @@ impl Way {
         }
     }
 
+    /// The folder at a path, open; nothing where no folder stands there.
+    pub fn folder_at(&mut self, path: &HostPath) -> Result<Option<Folder>, TreeError> {
+        let Some(Place { folder, name }) = self.to(path)? else {
+            return Ok(None);
+        };
+        if name.is_empty() {
+            return Ok(Some(folder));
+        }
+        match folder.below(name) {
+            Ok(below) => {
+                let is_step = self.is_step(&below, name, text_of(path)?)?;
+                Ok(is_step.then_some(below))
+            }
+            Err(error) if is_missing(&error) => Ok(None),
+            Err(error) if is_refused(&error) && name.contains('/') => Ok(None),
+            Err(_) => Err(TreeError::System),
+        }
+    }
+
     /// Says whether a folder that was opened by a name is a step of the way, which leads to
     /// this path.
     fn is_step(&mut self, folder: &Folder, name: &str, meant: &str) -> Result<bool, TreeError> {

@@ -1,8 +1,10 @@
 //! The calls on files below a root folder.
 
-ghost use Rattle.std.specs.Prelude.{◌≤◌, length, IfOk};
+ghost use Rattle.std.specs.Prelude.{◌≤◌, length, IfOk, IfSome};
+ghost use Rattle.portal_base.specs.FolderNames.{AreInOrder};
 
 use crate::kept::KeptFiles;
+use crate::listing;
 use crate::made::MadeFiles;
 use crate::opener::{Opener, Purpose};
 use crate::system::{System, Waiter};
@@ -12,7 +14,7 @@ use host_folders::error::{OpenError, TreeError, is_missing, is_refused};
 use host_folders::numbers::Numbers;
 use host_folders::sight::{Kind, Sight, seen};
 use host_folders::way::{Place, Way, text_of};
-use portal_base::files::{FileName, Look};
+use portal_base::files::{ChildName, FileName, Look};
 use portal_base::list::{ByteList, List};
 use portal_base::names::HostPath;
 use std::alloc::Global;
@@ -116,6 +118,17 @@ impl<R: Waiter> FilesBelow<R> {
                 moment: sight.moment,
             },
         }
+    }
+
+    /// The names of the files and folders in a folder; nothing where there is no folder.
+    pub fn list(&mut self, path: &HostPath) -> Result<Option<List<ChildName>>, TreeError>
+        ensures { IfOk result (λ found. IfSome found AreInOrder) }
+    {
+        let Some(folder) = self.way.folder_at(path)? else {
+            return Ok(None);
+        };
+        let names = listing::names(self.alloc, &self.way, &folder)?;
+        Ok(Some(names.into_list(self.alloc)?))
     }
 
     /// What the system shows of a file.

@@ -9,6 +9,7 @@
 //! |---|---|
 //! | `tree` | [`RealTree`], and its calls as a tree of files |
 //! | `below` | the calls on files below the root |
+//! | `listing` | the names in a folder |
 //! | `opener` | opens that don't hold up the one who asks |
 //! | `kept`, `made` | the files that are kept open, and those that were made here |
 //! | `writing` | the file of the last write, which stays open to write until it rests |
@@ -24,6 +25,7 @@
 mod below;
 mod descriptors;
 mod kept;
+mod listing;
 mod made;
 mod opener;
 mod system;

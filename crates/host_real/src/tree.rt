@@ -7,7 +7,7 @@ ghost use Rattle.host_tree.specs.Trees.{is_done_fault};
 use crate::below::{Attributes, FilesBelow};
 use crate::system::{System, Waiter};
 use host_folders::error::{OpenError, TreeError};
-use host_tree::{AttrAnswer, HostTree, LookAnswer, TreeDone, TreeRead};
+use host_tree::{AttrAnswer, HostTree, ListAnswer, LookAnswer, TreeDone, TreeRead};
 use portal_base::files::FileName;
 use portal_base::memory::WantOfMemory;
 use portal_base::names::HostPath;
@@ -111,6 +111,18 @@ impl<R: Waiter> HostTree for RealTree<R> {
             Err(_) => {
                 self.fault();
                 AttrAnswer::Failed
+            }
+        }
+    }
+
+    fn list(&mut self, path: &HostPath) -> ListAnswer {
+        match self.below.list(path) {
+            Ok(Some(names)) => ListAnswer::Names(names),
+            Ok(None) => ListAnswer::NotFolder,
+            Err(TreeError::Memory) => ListAnswer::Memory,
+            Err(_) => {
+                self.fault();
+                ListAnswer::Failed
             }
         }
     }

@@ -1,5 +1,5 @@
 -- The names of a folder in a map by name.
-use Rattle.std.proofs.Common.{◌≡◌, ℕ, ◌+◌, ◌≤◌, nat_lt, List, [], ◌∷◌, Bool, true, false, ◌||◌, cond, map, fold, take, drop, length, Option, Some, None, is_some, Result, Ok, Err, OnOk, refl, sym, ap, subst, ◌∙◌, arith}
+use Rattle.std.proofs.Common.{◌≡◌, ℕ, ◌+◌, ◌≤◌, nat_lt, List, [], ◌∷◌, Bool, true, false, ◌||◌, cond, map, fold, take, drop, length, Some, None, is_some, Result, Ok, Err, OnOk, refl, sym, ap, subst, ◌∙◌, arith}
 use Rattle.std.proofs.lemmas.Bool.Decides.{nat_tests}
 use Rattle.std.proofs.lemmas.List.{take_all}
 use Rattle.std.specs.List.{position, position_or_len}
@@ -67,9 +67,6 @@ above-root folder e = ap (λ (b : Bool). cond b 1 (length folder + 1)) e
 
 pub below-other : (folder path : List ℕ) (b : Bool) → is_same folder root ≡ false → is_above folder path ≡ b → is_below folder path ≡ b
 below-other folder path b e h = ap (λ (c : Bool). c || is_above folder path) e ∙ h
-
-pub above-other : (folder : List ℕ) → is_same folder root ≡ false → length_above folder ≡ length folder + 1
-above-other folder e = ap (λ (b : Bool). cond b 1 (length folder + 1)) e
 
 pub put-below : (folder path rest : List ℕ) (names : List ChildName) → is_below folder path ≡ true → rest ≡ drop (length_above folder) path → put_name (first_part rest) names ≡ put_path folder names path
 put-below folder path rest names b e =

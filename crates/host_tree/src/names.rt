@@ -114,10 +114,8 @@ impl FolderNames {
             (self.new ≡ put_name (record { name = name.now; folder = folder }) self.old) }
         ensures err { OnErr result (self.new ≡ self.old) }
     {
-        let name = Name {
-            text: List::copied(alloc, name)?,
-        };
-        self.names.insert(name, folder)?;
+        let text = List::copied(alloc, name)?;
+        self.names.insert(Name { text }, folder)?;
         Ok(())
     }
 
@@ -127,10 +125,8 @@ impl FolderNames {
         ensures ok { OnOk result (self.new ≡ put_name (first_part rest.now) self.old) }
         ensures err { OnErr result (self.new ≡ self.old) }
     {
-        match rest.iter().position(|byte| *byte == b'/') {
-            Some(end) => self.put(alloc, rest.split_at(end).0, true),
-            None => self.put(alloc, rest, false),
-        }
+        let part = first_part_of(rest);
+        self.put(alloc, part.0, part.1)
     }
 
     /// The names, in byte order.
@@ -139,16 +135,43 @@ impl FolderNames {
         ensures order { IfOk result AreInOrder }
     {
         let FolderNames { names } = self;
-        children(alloc, names)
+        are_in_order(&names);
+        let list = children(alloc, names)?;
+        Ok(list)
     }
 }
 
+ghost use Rattle.std.specs.List.{position};
+ghost use Rattle.portal_base.specs.Names.{is_slash};
 ghost use Rattle.host_tree.specs.Children.{children_of};
+
+/// The first part of a text, which a slash or its end ends, and whether a slash does.
+fn first_part_of(rest: &[u8]) -> (&[u8], bool)
+    ensures { first_part rest.now ≡ record { name = result.0.now; folder = result.1 } }
+{
+    match slash_of(rest) {
+        Some(end) => (rest.split_at(end).0, true),
+        None => (rest, false),
+    }
+}
+
+/// Where the first slash stands.
+fn slash_of(text: &[u8]) -> Option<usize>
+    ensures { result ≡ position is_slash text.now }
+{
+    text.iter().position(|byte| *byte == b'/')
+}
+
+/// What is true at each moment: a map's names stand in its order.
+fn are_in_order(names: &BTreeMap<Name, bool>)
+    ensures { AreInOrder (children_of names.now.entries) }
+{
+    let _ = names.iter();
+}
 
 /// The names of a map, in its order.
 fn children(alloc: Global, names: BTreeMap<Name, bool>) -> Result<List<ChildName>, WantOfMemory>
-    ensures names { IfOk result (λ list. list ≡ children_of names.entries) }
-    ensures order { IfOk result AreInOrder }
+    ensures { IfOk result (λ list. list ≡ children_of names.entries) }
 {
     let mut list = List::new(alloc);
     for (Name { text }, folder) in names {

@@ -7,12 +7,14 @@ use crate::loading::ready_tables;
 use crate::log::{FirstPage, LEAST_LEN, Log};
 use memchr::memmem;
 use os::RangeLock;
-use sqlite::{Connection, Error, ErrorCode, File as DatabaseFile, FileStore};
+use sqlite::{Connection, Error, ErrorCode, File as DatabaseFile, FileStore, Options, Unknown};
+use sqlite_std_file::OpenError;
 use sqlite_tables::earlier::EARLIER_TABLES;
 use sqlite_tables::fault::DatabaseFault;
 use sqlite_tables::tables::TABLES;
 use std::alloc::Global;
 use std::fs::{self, File, Metadata, OpenOptions};
+use std::hash::{BuildHasher, RandomState};
 use std::io::{self, ErrorKind};
 use std::os::fd::AsRawFd;
 use std::os::unix::fs::{FileExt, MetadataExt, OpenOptionsExt};
@@ -28,6 +30,10 @@ const MAGIC: &[u8] = b"SQLite format 3\0";
 const PAGE_SIZE: usize = 16;
 
 const PAGE_SIZE_END: usize = 20;
+
+/// How many pages of the database are kept in memory, which is taken at the start: a megabyte. A
+/// start reads each page once, and a change some few, which the system has in memory too.
+const CACHED_PAGES: usize = 256;
 
 /// The bytes that a process locks that has a database open (Database File Format, "The
 /// Lock-Byte Page").
@@ -54,9 +60,42 @@ fn connect(
 ) -> Result<Connection<FileStore<DatabaseFile>>, DatabaseFault> {
     // A commit is synced once, as SQLite's WAL with synchronous FULL does, on the premise that a
     // torn write leaves each byte old or new. To take no such premise would sync twice.
-    let mut conn = Connection::open(rt, path)?;
+    let mut conn = connected(rt, path)?;
     ready_tables(&mut conn)?;
     Ok(conn)
+}
+
+/// The same, with fewer pages kept in memory than SQLite keeps where nothing is said.
+fn connected(
+    rt: &HostRuntime,
+    path: &str,
+) -> Result<Connection<FileStore<DatabaseFile>>, DatabaseFault> {
+    let files = match sqlite_std_file::open(rt, path, Unknown) {
+        Ok(files) => files,
+        Err(error) => return Err(unopened(&error)),
+    };
+    let seed = met(RandomState::new(rt))?.hash_one(&0u8);
+    let options = Options {
+        cache_pages: CACHED_PAGES,
+        ..Options::new(seed)
+    };
+    match Connection::open_files(rt.alloc(), files, options) {
+        Ok(mut conn) => {
+            conn.set_clock(rt);
+            Ok(conn)
+        }
+        Err((error, _)) => Err(DatabaseFault::from(error)),
+    }
+}
+
+/// What is met where SQLite's files aren't opened.
+fn unopened(error: &OpenError) -> DatabaseFault {
+    match error {
+        OpenError::OutOfMemory => DatabaseFault::Memory,
+        OpenError::Busy => DatabaseFault::Sqlite(Error::SqliteFailure(ErrorCode::DatabaseBusy)),
+        OpenError::Io(error) if error.kind() == ErrorKind::OutOfMemory => DatabaseFault::Memory,
+        _ => DatabaseFault::Sqlite(Error::SqliteFailure(ErrorCode::CannotOpen)),
+    }
 }
 
 /// Makes sure that a path leads to a file of records, or to an empty one: to which, where it has

@@ -8,7 +8,7 @@ use Rattle.portal_model.specs.declared.reply.Refused.{Refused}
 use Rattle.portal_model.specs.declared.reply.Reply.{Reply}
 use Rattle.portal_model.specs.declared.request.Request.{Request}
 use Rattle.portal_steps.specs.Answered.{Answers, Spends, Went}
-use Rattle.portal_steps.specs.Story.{IsAsBefore, PortalIs}
+use Rattle.portal_steps.specs.Story.{IsAsBefore, OnlyCounts, PortalIs}
 
 abbrev pub counted_at : {T K C W : Type 0} → PortalIs T K C W → ℕ → PortalIs T K C W
 counted_at p n = record p { refusals = n }
@@ -19,11 +19,10 @@ as_before {T = T} {K = K} {C = C} {W = W} old mid new n e same =
     let count : n ≡ new.refusals = sym (ap (λ (p : PortalIs T K C W). p.refusals) e) in
     e ∙ (ap (λ (p : PortalIs T K C W). counted_at p n) same ∙ (λ i. record old { spare = spare i; refusals = count i }))
 
-pub the_same : {T K C W : Type 0} (old mid : PortalIs T K C W) → mid ≡ old → IsAsBefore old mid
-the_same {T = T} {K = K} {C = C} {W = W} old mid same =
-    let spare : old.spare ≡ mid.spare = sym (ap (λ (p : PortalIs T K C W). p.spare) same) in
-    let count : old.refusals ≡ mid.refusals = sym (ap (λ (p : PortalIs T K C W). p.refusals) same) in
-    same ∙ (λ i. record old { spare = spare i; refusals = count i })
+pub only_counts : {T K C W : Type 0} (old mid new : PortalIs T K C W) (n : ℕ) → new ≡ counted_at mid n → mid ≡ old → OnlyCounts old new
+only_counts {T = T} {K = K} {C = C} {W = W} old mid new n e same =
+    let count : n ≡ new.refusals = sym (ap (λ (p : PortalIs T K C W). p.refusals) e) in
+    e ∙ (ap (λ (p : PortalIs T K C W). counted_at p n) same ∙ (λ i. record old { refusals = count i }))
 
 pub as_before_err : {T K C W : Type 0} (r : Result Reply Refused) (old mid new : PortalIs T K C W) (n : ℕ) → new ≡ counted_at mid n → OnErr r (IsAsBefore old mid) → OnErr r (IsAsBefore old new)
 as_before_err (Ok reply) old mid new n e h = h
@@ -56,9 +55,11 @@ module _ {T K C W : Type 0} (tree_is : T → TreeIs) (keeper_is : K → KeeperIs
   spends_counted request s = record {
     tree = s.tree;
     few = s.few;
+    looks = s.looks;
     keeper = s.keeper;
     clock = s.clock;
     words = s.words;
+    drawn = s.drawn;
     story = s.story;
     unkept = s.unkept;
     unasked = s.unasked;

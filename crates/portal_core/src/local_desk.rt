@@ -78,7 +78,10 @@ impl<'a, S: Storied> Desk for LocalDesk<'a, S> {
 
     ghost stands = { λ d. (refl, goes_nowhere S.says S.spends S.refusals _ _) };
 
-    ghost follows = { λ d e f h k. (k.0 ∙ h.0, goes_further S.says S.spends S.refusals _ _ _ _ _ _ h.1 k.1) };
+    ghost follows = { λ d e f h k. (
+      k.0 ∙ h.0,
+      goes_further S.says S.spends S.refusals _ _ _ _ _ _ h.1 k.1,
+    ) };
 }
 
 impl<'a, S: Storied> TryDesk for LocalDesk<'a, S> {
@@ -112,5 +115,8 @@ impl<'a, S: Storied> TryDesk for LocalDesk<'a, S> {
 
     ghost stands = { λ d. (refl, goes_nowhere S.says S.spends S.refusals _ _) };
 
-    ghost follows = { λ d e f h k. (k.0 ∙ h.0, goes_further S.says S.spends S.refusals _ _ _ _ _ _ h.1 k.1) };
+    ghost follows = { λ d e f h k. (
+      k.0 ∙ h.0,
+      goes_further S.says S.spends S.refusals _ _ _ _ _ _ h.1 k.1,
+    ) };
 }

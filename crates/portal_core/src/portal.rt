@@ -9,19 +9,17 @@ ghost use Rattle.portal_model.specs.Opening.{opened_over};
 ghost use Rattle.portal_model.specs.Seated.{is_open, rises_by};
 ghost use Rattle.portal_model.specs.Valid.{Valid};
 ghost use Rattle.portal_steps.specs.Answered.{Answers, KeepsState, Spends, TellsFault};
-ghost use Rattle.portal_steps.specs.Devices.{TellsFailure, is_reserved, may_ask_in_vain, may_ask_tree_in_vain, may_change_records};
+ghost use Rattle.portal_steps.specs.Devices.{TellsFailure, is_reserved, may_ask_in_vain, may_ask_tree_in_vain, may_change_records, room_lent};
 ghost use Rattle.portal_steps.specs.Documents.{is_document_call};
 ghost use Rattle.portal_steps.specs.Held.{told_files};
 ghost use Rattle.portal_core.specs.OpenFiles.{GoesByHandles, OpensByRights, StrictFollows};
 ghost use Rattle.portal_start.specs.Loading.{AreLists};
-ghost use Rattle.portal_core.specs.Renewing.{CannotRenew, Renews};
 ghost use Rattle.portal_core.specs.Started.{HandsBack, Starts, reopened};
-ghost use Rattle.portal_steps.specs.Story.{HasCause, IsAsBefore, cost_with, limit_of, state_first, state_now};
+ghost use Rattle.portal_steps.specs.Story.{HasCause, IsAsBefore, OnlyCounts, cost_with, limit_of, state_first, state_now};
 ghost use Rattle.store_serving.specs.Serving.{may_change_entries};
 ghost use Rattle.store_serving.specs.Waiting.{silent};
 
 use crate::portal::asked::refusals_after;
-use crate::renewal::{RenewError, least_seat};
 use crate::room::{keep_ahead, make_room, taken};
 use app_view::ViewBook;
 use change_signals::Outboxes;
@@ -47,7 +45,6 @@ use portal_model::reply::{Answer, Code, Refused, Reply};
 use portal_model::request::{AddRequest, NodeRequest, Request};
 use portal_model::state::Connection;
 use portal_model::store::StoreCall;
-use portal_start::renewed::opening_of;
 use portal_start::start::{Lists, StartRefusal, load};
 use portal_steps::additions::serve_add;
 use portal_steps::entries::{
@@ -62,6 +59,7 @@ use std::mem;
 
 mod asked;
 mod lent;
+mod renewed;
 mod reopened;
 mod reserve;
 
@@ -71,8 +69,8 @@ mod reserve;
 /// began with, the history, for how many requests memory was taken ahead, and how
 /// many requests were refused. The history is legal, and the portal is in the state
 /// after it: a tree that tells has the files of that state, and a keeper that tells
-/// the records that stand for it. The counts of nodes are those that the history
-/// looked up and forgot, on which no answer depends.
+/// the records that stand for it. Its own counts of nodes, which no contract sees, are
+/// those that the history looked up and forgot.
 #[derive(Drop)]
 pub struct Portal<T: HostTree, K: Keeper, C: Clock, W: Words> {
     tree: T,
@@ -293,15 +291,21 @@ impl<T: HostTree, K: Keeper, C: Clock, W: Words> Portal<T, K, C, W> {
     /// connection of the host to the bus was not told yet. Just the calls of the tree that the
     /// step reaches are made, the clock is read where it changes or makes a file, words are
     /// drawn just for new documents, and the keeper is asked once where the step changes the
-    /// records; EIO and Failed come only where such a call failed. A refusal leaves the portal
-    /// as it was, but for the count of refusals, and one of a request that may change the
-    /// records may have asked the keeper in vain; one of an Add may have asked the tree too,
-    /// and have drawn words; one of a SETATTR, OPEN, CREATE, READ, WRITE, FSYNC or OPENDIR may
-    /// have asked the tree; and of these SETATTR, OPEN, CREATE and WRITE may have read the
-    /// clock. `Full` comes exactly where the history with this request would cost more than its
-    /// limit; want of memory may come at any other request, but not at the Leave of an open
-    /// connection, which is never refused. What an application does by a handle of a strict
-    /// document is done only as far as it has the rights in the document then.
+    /// records; EIO and Failed come only where such a call failed. `Full` comes exactly where
+    /// the history with this request would cost more than its limit, and then nothing changes
+    /// but the count of refusals; want of memory may come at any other request, but not at the
+    /// Leave of an open connection, which is never refused. What an application does by a
+    /// handle of a strict document is done only as far as it has the rights in the document
+    /// then.
+    ///
+    /// Where memory is wanted the portal is as it was, but for the count of refusals and for
+    /// memory that was taken ahead: that stays, or is more, since what was taken for the
+    /// request stays too; at a request on a node what is for one request may go. Such a refusal
+    /// of a request that may change the records may have asked the keeper in vain; one of an
+    /// Add may have asked the tree too, once for each of its files or twice where they are
+    /// named, and have drawn one word for each; one of a READ, WRITE, FSYNC or OPENDIR may have
+    /// asked the tree once, and one of a SETATTR, OPEN or CREATE twice; and of these SETATTR,
+    /// OPEN, CREATE and WRITE may have read the clock.
     ///
     /// A LOOKUP, GETATTR, ACCESS, FLUSH, RELEASE, RELEASEDIR, FORGET or BATCH_FORGET finds
     /// memory where some was taken ahead ([`Portal::reserve`]), of which each takes what is
@@ -327,17 +331,20 @@ impl<T: HostTree, K: Keeper, C: Clock, W: Words> Portal<T, K, C, W> {
             → result
             ≡ Err (Refused.Full (cost self.old.story.history) (limit_of self.old.story)) }
         ensures nothing { limit_of self.old.story < cost_with self.old.story request
-            → IsAsBefore self.old self.new }
+            → OnlyCounts self.old self.new }
         ensures cause { IfErr result (HasCause self.old.story request) }
 
         // Enter took the room for it.
         ensures leave { request ≡ Request.Leave → is_open (state_now self.old.story) seat ≡ true
             → IsOk result }
 
-        // Memory that was taken ahead is enough, and each takes one part of it at most.
+        // Memory that was taken ahead is enough, and each takes one part of it at most. It stays
+        // where a request is refused, and what was taken for that stays too; but to a request on
+        // a node room for a look was lent, and may go with it.
         ensures reserved { is_reserved request ≡ true → 0 < self.old.spare
             → cost_with self.old.story request ≤ limit_of self.old.story → IsOk result }
         ensures spare { is_reserved request ≡ true → self.old.spare ≤ self.new.spare + 1 }
+        ensures remains { OnErr result (self.old.spare ≤ self.new.spare + room_lent request) }
         ensures freed { request ≡ Request.Leave → is_open (state_now self.old.story) seat ≡ true
             → self.old.spare ≤ self.new.spare }
 
@@ -381,6 +388,7 @@ impl<T: HostTree, K: Keeper, C: Clock, W: Words> Portal<T, K, C, W> {
         ensures reserved { is_reserved request ≡ true → 0 < self.old.spare
             → cost_with self.old.story request ≤ limit_of self.old.story → IsOk result }
         ensures spare { is_reserved request ≡ true → self.old.spare ≤ self.new.spare + 1 }
+        ensures remains { OnErr result (self.old.spare ≤ self.new.spare + room_lent request) }
         ensures freed { request ≡ Request.Leave → is_open (state_now self.old.story) seat ≡ true
             → self.old.spare ≤ self.new.spare }
     {
@@ -453,6 +461,8 @@ impl<T: HostTree, K: Keeper, C: Clock, W: Words> Portal<T, K, C, W> {
         ensures failure { IfOk result (TellsFailure (T.is self.old.tree) (T.is self.new.tree)
             (K.is self.old.keeper) (K.is self.new.keeper)) }
         ensures err { OnErr result (IsAsBefore self.old self.new) }
+        ensures remains { OnErr result
+            (self.old.spare ≤ self.new.spare + room_lent (Request.Enter who kind)) }
     {
         check_caller(&who);
         let is_here = connection_of(self.connections.as_slice(), seat).is_some();
@@ -561,6 +571,7 @@ impl<T: HostTree, K: Keeper, C: Clock, W: Words> Portal<T, K, C, W> {
         ensures err { OnErr result (Spends T.is K.is C.reads W.told self.old request self.new) }
         ensures unasked { may_change_records request ≡ false
             → OnErr result (IsAsBefore self.old self.new) }
+        ensures remains { OnErr result (self.old.spare ≤ self.new.spare + room_lent request) }
     {
         let taken = taken(
             &mut self.history,
@@ -612,6 +623,8 @@ impl<T: HostTree, K: Keeper, C: Clock, W: Words> Portal<T, K, C, W> {
             (K.is self.old.keeper) (K.is self.new.keeper)) }
         ensures err { OnErr result
             (Spends T.is K.is C.reads W.told self.old (Request.Add add) self.new) }
+        ensures remains { OnErr result
+            (self.old.spare ≤ self.new.spare + room_lent (Request.Add add)) }
     {
         let taken = taken(
             &mut self.history,
@@ -666,6 +679,8 @@ impl<T: HostTree, K: Keeper, C: Clock, W: Words> Portal<T, K, C, W> {
             (Spends T.is K.is C.reads W.told self.old (Request.Store call) self.new) }
         ensures unasked { may_change_entries call ≡ false
             → OnErr result (IsAsBefore self.old self.new) }
+        ensures remains { OnErr result
+            (self.old.spare ≤ self.new.spare + room_lent (Request.Store call)) }
     {
         // A request of a bus takes the box of its seat ahead of all it does, and its own changes
         // go into the boxes behind that.
@@ -715,6 +730,8 @@ impl<T: HostTree, K: Keeper, C: Clock, W: Words> Portal<T, K, C, W> {
         ensures failure { IfOk result (TellsFailure (T.is self.old.tree) (T.is self.new.tree)
             (K.is self.old.keeper) (K.is self.new.keeper)) }
         ensures err { OnErr result (IsAsBefore self.old self.new) }
+        ensures remains { OnErr result
+            (self.old.spare ≤ self.new.spare + room_lent Request.Leave) }
         ensures here { is_open (state_now self.old.story) seat ≡ true → IsOk result }
         ensures freed { is_open (state_now self.old.story) seat ≡ true
             → self.old.spare ≤ self.new.spare }
@@ -748,6 +765,8 @@ impl<T: HostTree, K: Keeper, C: Clock, W: Words> Portal<T, K, C, W> {
         ensures failure { IfOk result (TellsFailure (T.is self.old.tree) (T.is self.new.tree)
             (K.is self.old.keeper) (K.is self.new.keeper)) }
         ensures err { OnErr result (IsAsBefore self.old self.new) }
+        ensures remains { OnErr result
+            (self.old.spare ≤ self.new.spare + room_lent Request.Collect) }
     {
         let signals = taken(
             &mut self.history,
@@ -760,36 +779,5 @@ impl<T: HostTree, K: Keeper, C: Clock, W: Words> Portal<T, K, C, W> {
         let entry = entry_made(alloc, seat, Request::Collect);
         self.history.push(entry);
         Ok(Reply { signals, answer })
-    }
-}
-
-impl<T: HostTree, K: Keeper, C: Clock, W: Words> Portal<T, K, C, W> {
-    /// Begins a new history, in the state that the old one came to. Its cost is 0
-    /// again; what was made stays made, and the applications keep their numbers.
-    ///
-    /// It is refused exactly where a connection is open, and for want of memory;
-    /// then nothing changes.
-    pub fn renew(&mut self, alloc: Global) -> Result<(), RenewError>
-        ensures ok { OnOk result (Renews T.is self.old self.new) }
-        ensures err { OnErr result (self.new ≡ self.old) }
-        ensures cause { IfErr result (CannotRenew (state_now self.old.story).connections) }
-    {
-        if let Some(seat) = least_seat(self.connections.as_slice()) {
-            return Err(RenewError::Open { seat });
-        }
-        let opening = opening_of(
-            alloc,
-            &self.opening.limits,
-            &self.documents,
-            &self.rights,
-            &self.applications,
-            &self.tables,
-        )?;
-        self.tree.settle()?;
-        self.history = History::new(alloc, &opening.limits);
-        self.counts = InodeTable::new(alloc);
-        self.opening = opening;
-        self.tree.known();
-        Ok(())
     }
 }

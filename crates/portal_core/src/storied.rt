@@ -100,7 +100,7 @@ pub trait Storied {
 impl<T: HostTree, K: Keeper, C: Clock, W: Words> Storied for Portal<T, K, C, W> {
     ghost use Rattle.std.specs.Prelude.{◌≡◌};
     ghost use Rattle.portal_steps.specs.Answered.{Spends, Went};
-    ghost use Rattle.portal_steps.specs.Story.{IsAsBefore, state_first};
+    ghost use Rattle.portal_steps.specs.Story.{OnlyCounts, state_first};
 
     ghost opening = { λ p. state_first p.story };
 
@@ -114,7 +114,7 @@ impl<T: HostTree, K: Keeper, C: Clock, W: Words> Storied for Portal<T, K, C, W> 
 
     ghost refusals = { λ p. p.refusals };
 
-    ghost stays = { IsAsBefore };
+    ghost stays = { OnlyCounts };
 
     fn ask(&mut self, alloc: Global, seat: u32, request: Request) -> Result<Reply, Refused> {
         Portal::ask(self, alloc, seat, request)
@@ -142,8 +142,9 @@ pub trait Renews: Storied {
         ensures refused { OnErr result (self.new ≡ self.old) }
         ensures uncounted { Self.refusals self.new ≡ Self.refusals self.old };
 
-    /// Takes memory ahead for so many requests of the kinds that free what others hold,
-    /// as far as there is any. It is no answer, and the history is as it was.
+    /// Is there to take memory ahead for so many requests of the kinds that free what others
+    /// hold, as far as there is any. It is no answer, and the history is as it was; that any
+    /// memory was taken is no clause of it.
     fn keep_ahead(&mut self, alloc: Global, count: u32)
         ensures opening { Self.opening self.new ≡ Self.opening self.old }
         ensures entries { Self.entries self.new ≡ Self.entries self.old }

@@ -1,12 +1,12 @@
 -- What a tree is after it was asked some times: just the calls were made that an entry tells with its looks.
-use Rattle.std.proofs.Common.{◌≡◌, ℕ, zero, suc, List, replicate, Bool, true, false, ap, subst, arith}
+use Rattle.std.proofs.Common.{◌≡◌, ◌≤◌, ℕ, zero, suc, List, length, replicate, Bool, true, false, refl, sym, ap, subst, arith}
 use Rattle.portal_base.specs.Outside.{HasRisen}
 use Rattle.host_tree.specs.Trees.{TreeIs, after_call}
 use Rattle.host_tree.specs.declared.tree.TreeCall.TheVariants as TreeCall
 use Rattle.node_looks.specs.TreeCalls.{Call}
 use Rattle.add_calls.specs.Shown.{Asked}
 use Rattle.add_serving.specs.Adds.{WasAsked}
-use Rattle.portal_steps.specs.TreeCalls.{Calling, WasCalled}
+use Rattle.portal_steps.specs.TreeCalls.{Calling, WasCalledUpTo}
 use Rattle.portal_steps.proofs.BusCalls.{listed, listed-none}
 
 -- the calls are those that are listed so
@@ -17,8 +17,16 @@ asked-calling (suc n) failed old new k =
     let rest = asked-calling n failed (after_call old TreeCall.Look false old.told) new k.1 in
     record { goes = rest.goes; fails = (k.0, rest.fails) }
 
-pub was-asked-called : (old new : TreeIs) → WasAsked old new → WasCalled old new
-was-asked-called old new k = (replicate k.0 TreeCall.Look, subst (λ (calls : List Call). Calling old calls old.told new) (listed-none k.0) (asked-calling k.0 false old new k.1))
+so-many : (n : ℕ) → length (replicate n TreeCall.Look) ≡ n
+so-many zero = refl
+so-many (suc n) = ap suc (so-many n)
+
+pub was-asked-called : (most : ℕ) (old new : TreeIs) → WasAsked most old new → WasCalledUpTo most old new
+was-asked-called most old new k = (
+  replicate k.0 TreeCall.Look,
+  subst (λ (calls : List Call). Calling old calls old.told new) (listed-none k.0) (asked-calling k.0 false old new k.1),
+  subst (λ (n : ℕ). n ≤ most) (sym (so-many k.0)) k.2,
+)
 
 -- ---- what stays of the tree
 
@@ -36,11 +44,8 @@ asked-told (suc n) failed old new k = asked-told n failed (after_call old TreeCa
 pub asked-keeps : (calls : ℕ) (failed : Bool) (old new : TreeIs) → Asked old calls failed new → (new.began ≡ old.began) × (new.told ≡ old.told)
 asked-keeps calls failed old new k = (asked-began calls failed old new k, asked-told calls failed old new k)
 
-pub was-asked-keeps : (old new : TreeIs) → WasAsked old new → (new.began ≡ old.began) × (new.told ≡ old.told)
-was-asked-keeps old new k = asked-keeps k.0 false old new k.1
-
-pub was-asked-none : (old new : TreeIs) → new ≡ old → WasAsked old new
-was-asked-none old new e = (0, e)
+pub was-asked-keeps : (most : ℕ) (old new : TreeIs) → WasAsked most old new → (new.began ≡ old.began) × (new.told ≡ old.told)
+was-asked-keeps most old new k = asked-keeps k.0 false old new k.1
 
 -- ---- faults
 

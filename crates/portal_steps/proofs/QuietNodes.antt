@@ -241,6 +241,7 @@ serves-loudly s seat r old done cs' table' new v k =
           rights = (ap (λ (t : State). t.rights) stays) i;
           applications = (ap (λ (t : State). t.applications) stays) i;
           told = (ap (λ (t : State). t.told) stays) i;
+          taken = (ap (λ (t : State). t.taken) stays) i;
           entries = (ap (λ (t : State). t.entries) stays) i;
         };
         handles = open-loud table' step.0 (subst (λ (x : State × Reply). AreOpen x.0 table') same k.handles);

@@ -7,6 +7,7 @@ use Rattle.portal_base.specs.declared.files.File.{File}
 use Rattle.portal_model.specs.declared.entry.Entry.{Entry}
 use Rattle.portal_model.specs.declared.entry.Fault.{Fault}
 use Rattle.portal_model.specs.declared.entry.Given.{Given}
+use Rattle.portal_model.specs.declared.request.AddRequest.{AddRequest}
 use Rattle.portal_model.specs.declared.request.NodeRequest.{NodeRequest}
 use Rattle.portal_model.specs.declared.request.Request.{Request}
 use Rattle.portal_model.specs.declared.state.Connection.{Connection}
@@ -17,9 +18,9 @@ use Rattle.portal_model.specs.Step.{all_told, bus_of}
 use Rattle.record_keeper.specs.Keepers.{KeeperIs}
 use Rattle.document_calls.specs.KeeperCalls.{KeeperStays}
 use Rattle.portal_steps.specs.Answered.{Spends, Went}
-use Rattle.add_calls.specs.Placing.{Drew, HasDrawn}
+use Rattle.add_calls.specs.Placing.{Drew, HasDrawnUpTo}
 use Rattle.add_calls.specs.Shown.{Asked}
-use Rattle.add_serving.specs.Adds.{WasAsked}
+use Rattle.add_serving.specs.Adds.{WasAsked, most_looks, most_words}
 use Rattle.portal_steps.specs.Devices.{Drawn, Keeping, KeeperWentOn, may_ask_tree_in_vain, may_change_records, may_draw, may_read_clock}
 use Rattle.portal_steps.proofs.AskedCalls.{asked-calling, asked-keeps, was-asked-called}
 use Rattle.portal_steps.proofs.BusCalls.{listed}
@@ -125,20 +126,31 @@ same-portal old new t k c w b o h = λ i. record { tree = t i; keeper = k i; clo
 
 module _ {T K C W : Type 0} (tree_is : T → TreeIs) (keeper_is : K → KeeperIs) (clock_reads : C → ℕ → C → Type 0) (words_told : W → Option (List ℕ)) (old : PortalIs T K C W) (request : Request) (new : PortalIs T K C W) where
   -- that of an Add, which may have asked each device but the clock
-  pub spends-add : may_draw request ≡ true → may_ask_tree_in_vain request ≡ true → may_change_records request ≡ true → WasAsked (tree_is old.tree) (tree_is new.tree) → KeeperStays (keeper_is old.keeper) (keeper_is new.keeper) → new.clock ≡ old.clock →
-      HasDrawn (words_told old.words) (words_told new.words) → new.story.began ≡ old.story.began → new.story.opening ≡ old.story.opening → new.story.history ≡ old.story.history → Spends tree_is keeper_is clock_reads words_told old request new
-  spends-add draws asks changes t k c w b o h = record {
-    tree = was-asked-called (tree_is old.tree) (tree_is new.tree) t;
-    few = λ r e. let no : true ≡ false = sym draws ∙ ap may_draw e in absurd (cc);
-    keeper = k;
-    clock = inl c;
-    words = w;
-    story = λ i. record { began = b i; opening = o i; history = h i };
-    unkept = λ f. let no : true ≡ false = sym changes ∙ f in absurd (cc);
-    unasked = λ f. let no : true ≡ false = sym asks ∙ f in absurd (cc);
-    undrawn = λ f. let no : true ≡ false = sym draws ∙ f in absurd (cc);
-    unread = λ _. c;
-  }
+  pub spends-add : (a : AddRequest) → request ≡ Request.Add a → WasAsked (most_looks a) (tree_is old.tree) (tree_is new.tree) → KeeperStays (keeper_is old.keeper) (keeper_is new.keeper) → new.clock ≡ old.clock →
+      HasDrawnUpTo (most_words a) (words_told old.words) (words_told new.words) → new.story.began ≡ old.story.began → new.story.opening ≡ old.story.opening → new.story.history ≡ old.story.history → Spends tree_is keeper_is clock_reads words_told old request new
+  spends-add a is t k c w b o h =
+      let called = was-asked-called (most_looks a) (tree_is old.tree) (tree_is new.tree) t in
+      let draws : true ≡ may_draw request = sym (ap may_draw is) in
+      let asks : true ≡ may_ask_tree_in_vain request = sym (ap may_ask_tree_in_vain is) in
+      let changes : true ≡ may_change_records request = sym (ap may_change_records is) in
+      record {
+        tree = (called.0, called.1);
+        few = λ r e. let no : true ≡ false = draws ∙ ap may_draw e in absurd (cc);
+        looks = λ q e.
+            let same : a ≡ q = cc (sym is ∙ e) in
+            subst (λ (x : AddRequest). WasCalledUpTo (most_looks x) (tree_is old.tree) (tree_is new.tree)) same called;
+        keeper = k;
+        clock = inl c;
+        words = (w.0, w.1);
+        drawn = λ q e.
+            let same : a ≡ q = cc (sym is ∙ e) in
+            subst (λ (x : AddRequest). HasDrawnUpTo (most_words x) (words_told old.words) (words_told new.words)) same w;
+        story = λ i. record { began = b i; opening = o i; history = h i };
+        unkept = λ f. let no : true ≡ false = changes ∙ f in absurd (cc);
+        unasked = λ f. let no : true ≡ false = asks ∙ f in absurd (cc);
+        undrawn = λ f. let no : true ≡ false = draws ∙ f in absurd (cc);
+        unread = λ _. c;
+      }
 
   -- that of a request on a node, which may have asked the tree and the clock
   pub spends-node : (r : NodeRequest) → request ≡ Request.Node r → (may_ask_tree_in_vain request ≡ false → new.tree ≡ old.tree) → (may_read_clock request ≡ false → new.clock ≡ old.clock) → WasCalledUpTo (calls_in_vain r.op) (tree_is old.tree) (tree_is new.tree) → new.keeper ≡ old.keeper → MayRead clock_reads old.clock new.clock → new.words ≡ old.words → new.story.began ≡ old.story.began → new.story.opening ≡ old.story.opening → new.story.history ≡ old.story.history →
@@ -148,9 +160,11 @@ module _ {T K C W : Type 0} (tree_is : T → TreeIs) (keeper_is : K → KeeperIs
     few = λ q e.
         let same : r ≡ q = cc (sym is ∙ e) in
         subst (λ (x : NodeRequest). WasCalledUpTo (calls_in_vain x.op) (tree_is old.tree) (tree_is new.tree)) same t;
+    looks = λ q e. let no : Request.Node r ≡ Request.Add q = sym is ∙ e in absurd (cc);
     keeper = inl (ap keeper_is k);
     clock = c;
     words = ([], ap words_told w);
+    drawn = λ q e. let no : Request.Node r ≡ Request.Add q = sym is ∙ e in absurd (cc);
     story = λ i. record { began = b i; opening = o i; history = h i };
     unkept = λ _. k;
     unasked = asks;

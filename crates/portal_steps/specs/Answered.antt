@@ -8,6 +8,7 @@ use Rattle.portal_model.specs.declared.records.Records.{Records}
 use Rattle.portal_model.specs.declared.reply.Answer.{Answer}
 use Rattle.portal_model.specs.declared.reply.Code.TheVariants as Code
 use Rattle.portal_model.specs.declared.reply.Reply.{Reply}
+use Rattle.portal_model.specs.declared.request.AddRequest.{AddRequest}
 use Rattle.portal_model.specs.declared.request.NodeRequest.{NodeRequest}
 use Rattle.portal_model.specs.declared.request.Request.{Request}
 use Rattle.portal_model.specs.Alike.{Alike}
@@ -17,7 +18,8 @@ use Rattle.portal_model.specs.Lawful.{Lawful}
 use Rattle.portal_model.specs.State.{State}
 use Rattle.portal_model.specs.Step.{reply_at}
 use Rattle.record_keeper.specs.Keepers.{KeeperIs}
-use Rattle.add_calls.specs.Placing.{HasDrawn}
+use Rattle.add_serving.specs.Adds.{most_looks, most_words}
+use Rattle.add_calls.specs.Placing.{HasDrawn, HasDrawnUpTo}
 use Rattle.file_ops.specs.Wanting.{calls_in_vain}
 use Rattle.node_looks.specs.Done.{MayRead, Reads}
 use Rattle.document_calls.specs.KeeperCalls.{KeeperStays}
@@ -49,19 +51,24 @@ pub record Went {T K C W : Type 0} (tree_is : T → TreeIs) (keeper_is : K
 -- What a refusal does, which comes where memory is wanted: the keeper may have been asked once and
 -- have wanted memory too. Where the request may ask the tree in vain, that may have been asked, of
 -- which no call failed, and else it is the same; a request on a node asks it once in vain at most,
--- or twice where it may set a length or make a file. Where the request may draw words, some may have
--- been drawn, and else they are the same; and where it may read the clock, that may have been read
--- once, and else it is the same; and where it may not change the records the keeper is the same. All
--- else is as before.
+-- or twice where it may set a length or make a file; an Add looks once at most at each of its
+-- files, of which it may have 16, or twice where the file is named. Where the request may draw
+-- words, some may have been drawn, one for each file at most, and else they are the same; and where
+-- it may read the clock, that may have been read once, and else it is the same; and where it may
+-- not change the records the keeper is the same. All else is as before.
 pub record Spends {T K C W : Type 0} (tree_is : T → TreeIs) (keeper_is : K
     → KeeperIs) (clock_reads : C → ℕ → C → Type 0) (words_told : W → Option (List ℕ))
     (old : PortalIs T K C W) (request : Request) (new : PortalIs T K C W) : Type 0 where
   pub tree : WasCalled (tree_is old.tree) (tree_is new.tree)
   pub few : (r : NodeRequest) → request ≡ Request.Node r →
       WasCalledUpTo (calls_in_vain r.op) (tree_is old.tree) (tree_is new.tree)
+  pub looks : (a : AddRequest) → request ≡ Request.Add a →
+      WasCalledUpTo (most_looks a) (tree_is old.tree) (tree_is new.tree)
   pub keeper : KeeperStays (keeper_is old.keeper) (keeper_is new.keeper)
   pub clock : MayRead clock_reads old.clock new.clock
   pub words : HasDrawn (words_told old.words) (words_told new.words)
+  pub drawn : (a : AddRequest) → request ≡ Request.Add a →
+      HasDrawnUpTo (most_words a) (words_told old.words) (words_told new.words)
   pub story : new.story ≡ old.story
   pub unkept : may_change_records request ≡ false → new.keeper ≡ old.keeper
   pub unasked : may_ask_tree_in_vain request ≡ false → new.tree ≡ old.tree

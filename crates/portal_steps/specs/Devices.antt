@@ -124,6 +124,23 @@ is_reserved (Request.Info doc) = false
 is_reserved (Request.ListDocuments app) = false
 is_reserved (Request.Store call) = false
 
+-- How much of it a refusal may let go: that for one request, where room was lent to it, which is
+-- done for the requests on nodes alone.
+abbrev pub room_lent : Request → ℕ
+room_lent (Request.Node r) = 1
+room_lent (Request.Enter who kind) = 0
+room_lent Request.Leave = 0
+room_lent Request.Collect = 0
+room_lent (Request.Add a) = 0
+room_lent (Request.Present path) = 0
+room_lent (Request.Grant call) = 0
+room_lent (Request.Revoke call) = 0
+room_lent (Request.DeleteDocument doc) = 0
+room_lent (Request.LookupDocument path) = 0
+room_lent (Request.Info doc) = 0
+room_lent (Request.ListDocuments app) = 0
+room_lent (Request.Store call) = 0
+
 -- ---- faults
 
 -- a reply of Failed tells that a call of the tree or of the keeper failed: its count rose

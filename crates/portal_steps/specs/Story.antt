@@ -32,6 +32,10 @@ pub record PortalIs (T K C W : Type 0) : Type 0 where
 abbrev pub IsAsBefore : {T K C W : Type 0} → PortalIs T K C W → PortalIs T K C W → Type 0
 IsAsBefore old new = new ≡ record old { spare = new.spare; refusals = new.refusals }
 
+-- all is as before, but for the count of refusals
+abbrev pub OnlyCounts : {T K C W : Type 0} → PortalIs T K C W → PortalIs T K C W → Type 0
+OnlyCounts old new = new ≡ record old { refusals = new.refusals }
+
 -- the state that the history began in
 abbrev pub state_first : Story → State
 state_first p = opened_over p.began p.opening

@@ -2,9 +2,9 @@
 //! connection become documents.
 
 ghost use Rattle.std.specs.Prelude.{◌≡◌, length, IfOk, OnErr, Option, Some, option_map};
-ghost use Rattle.add_calls.specs.Placing.{Drew, HasDrawn};
+ghost use Rattle.add_calls.specs.Placing.{Drew, HasDrawnUpTo};
 ghost use Rattle.add_calls.specs.Shown.{Asked};
-ghost use Rattle.add_serving.specs.Adds.{WasAsked};
+ghost use Rattle.add_serving.specs.Adds.{WasAsked, most_looks, most_words};
 ghost use Rattle.document_calls.specs.Changes.{SameLimits};
 ghost use Rattle.document_calls.specs.KeeperCalls.{KeeperStays, ServesKept};
 ghost use Rattle.portal_model.specs.Bus.{is_tree};
@@ -35,7 +35,8 @@ use std::mem;
 /// Serves an Add of a seat.
 ///
 /// A seat without an open bus is answered `NotHere`. Want of memory leaves the
-/// lists as they were.
+/// lists as they were; before it the tree was asked and words were drawn no more often
+/// than the files of the call allow.
 pub fn serve_add<T: HostTree, K: Keeper, W: Words>(
     alloc: Global,
     documents: &mut Documents,
@@ -66,9 +67,11 @@ pub fn serve_add<T: HostTree, K: Keeper, W: Words>(
     ensures rights { OnErr result (rights.new ≡ rights.old) }
     ensures applications { OnErr result (applications.new ≡ applications.old) }
     ensures connections { OnErr result (connections.new ≡ connections.old) }
-    ensures tree { OnErr result (WasAsked (T.is tree.old) (T.is tree.new)) }
+    ensures tree { OnErr result
+        (WasAsked (most_looks request.now) (T.is tree.old) (T.is tree.new)) }
     ensures keeper { OnErr result (KeeperStays (K.is keeper.old) (K.is keeper.new)) }
-    ensures words { OnErr result (HasDrawn (W.told words.old) (W.told words.new)) }
+    ensures words { OnErr result
+        (HasDrawnUpTo (most_words request.now) (W.told words.old) (W.told words.new)) }
 {
     if bus_of(connections.as_slice(), seat).is_none() {
         return Ok(answered(alloc, Answer::Refused(Code::NotHere)));
@@ -118,9 +121,11 @@ fn add_on<T: HostTree, K: Keeper, W: Words>(
     ensures rights { OnErr result (rights.new ≡ rights.old) }
     ensures applications { OnErr result (applications.new ≡ applications.old) }
     ensures connections { OnErr result (connections.new ≡ connections.old) }
-    ensures tree { OnErr result (WasAsked (T.is tree.old) (T.is tree.new)) }
+    ensures tree { OnErr result
+        (WasAsked (most_looks request.now) (T.is tree.old) (T.is tree.new)) }
     ensures keeper { OnErr result (KeeperStays (K.is keeper.old) (K.is keeper.new)) }
-    ensures words { OnErr result (HasDrawn (W.told words.old) (W.told words.new)) }
+    ensures words { OnErr result
+        (HasDrawnUpTo (most_words request.now) (W.told words.old) (W.told words.new)) }
 {
     let Some(at) = place_of(connections.as_slice(), seat) else {
         return Ok(answered(alloc, Answer::Refused(Code::NotHere)));

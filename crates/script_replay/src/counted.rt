@@ -101,7 +101,7 @@ impl CountedPortal {
 impl Storied for CountedPortal {
     ghost use Rattle.host_tree.specs.Devices.{tree_of};
     ghost use Rattle.portal_steps.specs.Answered.{Spends, Went};
-    ghost use Rattle.portal_steps.specs.Story.{IsAsBefore, state_first};
+    ghost use Rattle.portal_steps.specs.Story.{OnlyCounts, state_first};
     ghost use Rattle.record_keeper.specs.Devices.{keeper_of};
     ghost use Rattle.script_replay.specs.Seats.{clock_of, words_of};
 
@@ -115,7 +115,7 @@ impl Storied for CountedPortal {
 
     ghost refusals = { λ p. p.refusals };
 
-    ghost stays = { IsAsBefore };
+    ghost stays = { OnlyCounts };
 
     fn ask(&mut self, alloc: Global, seat: u32, request: Request) -> Result<Reply, Refused> {
         let enters = is_enter(&request);

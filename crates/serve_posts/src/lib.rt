@@ -19,6 +19,7 @@
 //! |---|---|
 //! | `serve` | [`serve::serve`] |
 //! | `status` | [`status::ServeStatus`]: what serving came to |
+//! | `housed` | what keeps a history, in a box |
 //! | `shift` | the same over any value that keeps a history, turn by turn |
 //! | `worker` | workers, each in its seat at its post |
 //!
@@ -31,6 +32,7 @@
 //! ```
 #![tactic(auto)]
 
+mod housed;
 pub mod serve;
 mod shift;
 pub mod status;

@@ -8,6 +8,7 @@ ghost use Rattle.worker_gate.specs.Working.{sides};
 ghost use Rattle.serve_posts.specs.Posts.{halls, is_left, unserved};
 ghost use Rattle.serve_posts.specs.Rounds.{OneTurn, Renewal, ServesAll, stand};
 
+use crate::housed::Housed;
 use crate::worker::{Crew, is_left, seat_workers, stand_up, work_all};
 use portal_base::limits::Settings;
 use portal_base::list::List;
@@ -42,8 +43,42 @@ pub(crate) struct Shift<L, S> {
 ///
 /// No seat has an open connection in the history so far. Where there is no
 /// memory for a turn no worker of it begins. Ahead of each turn memory is taken for
-/// requests that free what others hold.
+/// requests that free what others hold. Meanwhile what keeps the history is in a box.
 pub(crate) fn serve_over<R, L, S, G>(
+    alloc: Global,
+    rt: &R,
+    posts: List<Post<L>>,
+    story: S,
+    settings: &Settings,
+    gate: &G,
+) -> Result<(Shift<L, S>, u64), WantOfMemory>
+where
+    R: Threads + Wait + Sync,
+    L: Listener + Send + Drop,
+    L::In: Send,
+    L::Out: Send,
+    S: Renews + Send + Drop,
+    G: Gate + Sync,
+    requires count { (1 ≤ length posts) × (length posts ≤ 65535) }
+    requires closed { (n : ℕ) → is_open (run (S.opening story) (S.entries story)) n ≡ false }
+    ensures { IfOk result (λ served. ServesAll
+        (sides L.In.left L.In.faults L.Out.told L.Out.faults) (halls L.links L.ends L.faults)
+        settings.now (S.opening story) (S.entries story) posts served.1
+        (stand (S.opening served.0.story) (S.entries served.0.story) served.0.posts
+        served.0.ends)) }
+{
+    let story = Housed::new(alloc, story)?;
+    match serve_all(alloc, rt, posts, story, settings, gate) {
+        Ok((Shift { posts, ends, story }, rounds)) => {
+            let story = story.into_inner();
+            Ok((Shift { posts, ends, story }, rounds))
+        }
+        Err(error) => Err(error),
+    }
+}
+
+/// The same, wherever what keeps the history is.
+fn serve_all<R, L, S, G>(
     alloc: Global,
     rt: &R,
     posts: List<Post<L>>,

@@ -1,7 +1,7 @@
 //! A tree in which a call is held.
 
 use crate::hold::Steps;
-use host_tree::{AttrAnswer, HostTree, LookAnswer, TreeDone, TreeRead};
+use host_tree::{AttrAnswer, HostTree, ListAnswer, LookAnswer, TreeDone, TreeRead};
 use portal_base::files::FileName;
 use portal_base::memory::WantOfMemory;
 use portal_base::names::HostPath;
@@ -56,6 +56,10 @@ impl<'a, R: Clock, T: HostTree> HostTree for HeldTree<'a, R, T> {
 
     fn attr(&mut self, file: &FileName) -> AttrAnswer {
         self.tree.attr(file)
+    }
+
+    fn list(&mut self, path: &HostPath) -> ListAnswer {
+        self.tree.list(path)
     }
 
     fn read(&mut self, file: &FileName, offset: u64, size: u32) -> TreeRead {

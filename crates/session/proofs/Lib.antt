@@ -4,6 +4,7 @@ pub mod DidItems
 pub mod Messages
 pub mod ServeItem
 pub mod ServeCall
+pub mod Dues
 pub mod NextCut
 pub mod ServeItems
 pub mod Feed

@@ -1,7 +1,7 @@
 -- A call that asks the portal, and what it is answered.
-use Rattle.std.proofs.Common.{◌≡◌, ℕ, List, [], ◌∷◌, ◌++◌, Bool, true, false, cond, Option, Some, None, Result, Ok, IfOk, refl, sym, ap, ◌∙◌, subst}
+use Rattle.std.proofs.Common.{◌≡◌, List, [], ◌∷◌, ◌++◌, Bool, true, false, cond, Option, Some, None, Result, Ok, IfOk, sym, ap, ◌∙◌, subst}
 use Rattle.std.specs.Prelude.{IfSome, option_to_list}
-use Rattle.std.proofs.lemmas.List.{append-nil, append_assoc}
+use Rattle.std.proofs.lemmas.List.{append_assoc}
 use Rattle.std.specs.List.{list_all}
 use Rattle.call_laws.specs.Answers.{IsOnRecords}
 use Rattle.call_laws.proofs.Calls.{answers_told, calls_on_records}
@@ -24,13 +24,8 @@ use Rattle.portal_model.specs.Step.{reply_at}
 use Rattle.portal_model.specs.Valid.{Valid, is_sound_change}
 use Rattle.portal_model.proofs.Histories.{Legal-front}
 use Rattle.portal_model.proofs.ValidLaws.{run-Valid}
-use Rattle.session.specs.declared.act.Act.TheVariants.{Portal}
 use Rattle.session.specs.declared.act.Client.{Client}
-use Rattle.session.specs.declared.served.Fed.{Fed}
-use Rattle.session.specs.Answers.{IsOf, Outcome, answer_for, last_spoken, reply_for, signals_for, spoken, told_for}
 use Rattle.session.specs.Asked.{reply_to}
-use Rattle.session.specs.Ledger.{ActEnds, Grew, Sends, world}
-use Rattle.session.proofs.DidItems.{act_ends}
 
 -- ---- the answer that is given
 
@@ -89,25 +84,6 @@ reply_can false m h = tt
 pub to_writable : (call : Message) (m : OutMessage) (found : Option OutMessage) → found ≡ reply_to call m → IsWritable m → IfSome found IsWritable
 to_writable call m found is h = subst (λ (o : Option OutMessage). IfSome o IsWritable) (sym is) (reply_can (expects_reply call) m h)
 
--- the answer that is written behind others, where a reply is expected
-pub answer_sends : {X : Type 0} (call : Message) (s : ℕ) (front : List OutMessage) (found : Option OutMessage) (a m : OutMessage) (r : Result X Fed) (o p : Option (List (List ℕ))) (f g : ℕ) → found ≡ reply_to call a → a ≡ m
-    → Sends (spoken s (front ++ option_to_list found)) r o f p g → Sends (spoken s (front ++ option_to_list (reply_to call m))) r o f p g
-answer_sends call s front found a m r o p f g is e h =
-    subst (λ (z : OutMessage). Sends (spoken s (front ++ option_to_list (reply_to call z))) r o f p g) e (subst (λ (z : Option OutMessage). Sends (spoken s (front ++ option_to_list z)) r o f p g) is h)
-
-pub answer_last : (call : Message) (s : ℕ) (front : List OutMessage) (found : Option OutMessage) (a m : OutMessage) (r : Result ℕ Fed) → found ≡ reply_to call a → a ≡ m → IfOk r (λ last. last ≡ last_spoken s (front ++ option_to_list found))
-    → IfOk r (λ last. last ≡ last_spoken s (front ++ option_to_list (reply_to call m)))
-answer_last call s front found a m r is e h =
-    subst (λ (z : OutMessage). IfOk r (λ last. last ≡ last_spoken s (front ++ option_to_list (reply_to call z)))) e (subst (λ (z : Option OutMessage). IfOk r (λ last. last ≡ last_spoken s (front ++ option_to_list z))) is h)
-
--- how the signals and the one answer of a call ended
-pub call_ends : (c : Client) (call : Message) (request : Request) (serial : ℕ) (x : Outcome) (v w : Seated) (o n : Option (List (List ℕ))) (a b : ℕ) (r : Result ℕ Fed) (front : List OutMessage) (message : OutMessage) → IsOf request x → Grew v (x ∷ []) w
-    → signals_for x ≡ front → answer_for c call x ≡ message
-    → Sends (spoken serial (front ++ option_to_list (reply_to call message))) r o a n b → IfOk r (λ last. last ≡ last_spoken serial (front ++ option_to_list (reply_to call message)))
-    → ActEnds c r (Portal call request) serial (world v o a) (world w n b)
-call_ends c call request serial x v w o n a b r front message is grew f e sends last =
-    let told : List OutMessage = front ++ option_to_list (reply_to call message) in
-    let same : told_for c call x ++ [] ≡ told =
-    append-nil (told_for c call x) ∙ (ap (λ (ms : List OutMessage). ms ++ reply_for c call x) f ∙ ap (λ (m : OutMessage). front ++ option_to_list (reply_to call m)) e) in
-    act_ends c (Portal call request) serial (x ∷ []) v w grew o n a b r (spoken serial told) (x, [], refl, is, refl) (ap (spoken serial) (sym same)) sends
-    (subst (λ (ms : List OutMessage). IfOk r (λ last. last ≡ last_spoken serial ms)) (sym same) last)
+-- the answer that stands behind others, where a reply is expected
+pub behind_reply : (call : Message) (front : List OutMessage) (found : Option OutMessage) (a m : OutMessage) → found ≡ reply_to call a → a ≡ m → front ++ option_to_list found ≡ front ++ option_to_list (reply_to call m)
+behind_reply call front found a m is e = ap (λ (z : Option OutMessage). front ++ option_to_list z) (is ∙ ap (reply_to call) e)

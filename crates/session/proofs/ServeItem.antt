@@ -1,5 +1,5 @@
 -- What one call of a desk or a sink comes to.
-use Rattle.std.proofs.Common.{◌≡◌, ℕ, ◌+◌, inl, inr, ◌≤◌, List, [], ◌∷◌, length, take, drop, Bool, true, false, cond, Option, Some, None, Ok, Err, refl, sym, ap, ◌∙◌, subst, arith}
+use Rattle.std.proofs.Common.{◌≡◌, ℕ, ◌+◌, inl, inr, ◌≤◌, List, [], ◌∷◌, length, take, drop, Bool, true, false, cond, Some, None, Ok, Err, refl, sym, ap, ◌∙◌, subst, arith}
 use Rattle.std.specs.Prelude.{◌≢◌, ◌==◌}
 use Rattle.std.proofs.lemmas.List.{append-nil, length-drop, length-take-le}
 use Rattle.portal_model.specs.declared.reply.Change.{Change}
@@ -18,9 +18,9 @@ use Rattle.session.specs.Asked.{Means}
 use Rattle.session.specs.Cuts.{Cuts, whole_item}
 use Rattle.session.specs.Items.{Remains}
 use Rattle.session.specs.Answers.{Made, Denied, serial_after}
-use Rattle.session.specs.Ledger.{ActEnds, Collected, Did, ItemEnds, Sends, Stops, World}
+use Rattle.session.specs.Ledger.{ActEnds, Collected, Did, ItemEnds, Stops, World}
 use Rattle.session.specs.Standings.{stage}
-use Rattle.session.proofs.Grew.{asked_ok, asked_err, grew_none, onto_none, risen_later}
+use Rattle.session.proofs.Grew.{asked_ok, asked_err, risen_later}
 use Rattle.session.proofs.NextCut.{whole_within}
 use Rattle.session.proofs.ServeItems.{began, broke, broke_unsaid, declined, stepped}
 
@@ -32,14 +32,6 @@ collected_ok v w request reply a =
 
 pub collected_err : (v w : Seated) (request : Request) (why : Refused) (changes : List Change) → Asks v request (Err why) w → changes ≡ [] → Collected (request ∷ []) changes v w
 collected_err v w request why changes a none = (Denied request why ∷ [], (Denied request why, [], refl, refl, refl), asked_err v w request why a, none)
-
--- nothing is asked
-pub collected_none : (v : Seated) (changes : List Change) → changes ≡ [] → Collected [] changes v v
-collected_none v changes none = ([], refl, grew_none v, none)
-
--- nothing is to be written
-pub sends_all : {X : Type 0} (x : X) (o : Option (List (List ℕ))) (f : ℕ) → Sends [] (Ok x) o f o f
-sends_all x o f = (onto_none o, refl)
 
 after_at : (b : Bool) (n : ℕ) → cond b 1 (n + 1) ≢ 0
 after_at true n = λ z. absurd (omega arith)

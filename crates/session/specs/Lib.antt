@@ -5,6 +5,7 @@ pub mod Frames
 pub mod FrameLengths
 pub mod Answers
 pub mod Ledger
+pub mod Dues
 pub mod Standings
 pub mod Sessions
 pub mod Pushes

@@ -1,12 +1,14 @@
 -- A session that is fed and pushed. Between the pieces of its stream it may be pushed; its items
--- are those of the stream all the same, and each push asks one Collect more.
+-- are those of the stream all the same, and each push asks one Collect more, where it stands.
 use Rattle.std.specs.Prelude.{◌≡◌, ℕ, ◌+◌, List, [], ◌∷◌, ◌++◌, length, map, true, Option, Some, None}
 use Rattle.session.specs.declared.act.Act.{Act}
 use Rattle.session.specs.declared.act.Act.TheVariants.{Call}
+use Rattle.session.specs.declared.act.Client.{Client}
+use Rattle.session.specs.declared.phase.Phase.{Phase}
 use Rattle.session.specs.declared.served.Fed.TheVariants as fed
 use Rattle.session.specs.declared.served.Stop.TheVariants as stop
 use Rattle.session.specs.Answers.{Answers, Outcome}
-use Rattle.session.specs.Items.{AreItems, Remains, joined, phase_after}
+use Rattle.session.specs.Items.{AreItems, Items, Remains, joined, phase_after}
 use Rattle.session.specs.Ledger.{Grows, World}
 use Rattle.session.specs.Pushes.{Pushes}
 use Rattle.session.specs.Sessions.{FeedsOpen}
@@ -27,12 +29,6 @@ stream_of [] = []
 stream_of (Some piece ∷ turns) = piece ++ stream_of turns
 stream_of (None ∷ turns) = stream_of turns
 
--- how many pushes there are among turns, or among what they asked
-abbrev pub pushes_in : {X : Type 0} → List (Option X) → ℕ
-pushes_in [] = 0
-pushes_in (Some x ∷ xs) = pushes_in xs
-pushes_in (None ∷ xs) = pushes_in xs + 1
-
 -- what items ask, without the pushes
 abbrev pub acts_in : List (Option Act) → List Act
 acts_in [] = []
@@ -45,8 +41,21 @@ abbrev pub act_at : Option Act → Act
 act_at (Some act) = act
 act_at None = Call None true
 
+-- Where the turns stand among the items. With a piece come the items that are whole with it behind
+-- what is held, and what they ask; a push stands between those of the pieces around it.
+abbrev pub Placed :
+    Client → Phase → List ℕ → List (Option (List ℕ)) → List (List ℕ) → List (Option Act) → Type 0
+Placed c p held [] items asked = (items ≡ []) × (asked ≡ [])
+Placed c p held (Some piece ∷ turns) items asked = (first : List (List ℕ))
+    × (others : List (List ℕ)) × (acts : List Act) × (later : List (Option Act)) × (mid : List ℕ)
+    × (items ≡ first ++ others) × (asked ≡ map Some acts ++ later)
+    × Items c p (held ++ piece) first acts mid stop.More
+    × Placed c (phase_after c p first) mid turns others later
+Placed c p held (None ∷ turns) items asked =
+    (later : List (Option Act)) × (asked ≡ None ∷ later) × Placed c p held turns items later
+
 -- The whole items of the rest and the stream, in order, are asked and answered, and between them,
--- once for each push, what the host wasn't told yet.
+-- once for each push, where it stands, what the host wasn't told yet.
 pub record TakesTurns (s : Standing) (v : World) (turns : List (Option (List ℕ))) (t : Standing)
     (w : World) : Type 0 where
   pub items : List (List ℕ)
@@ -56,7 +65,7 @@ pub record TakesTurns (s : Standing) (v : World) (turns : List (Option (List ℕ
   pub bytes : s.rest ++ stream_of turns ≡ joined items ++ t.rest
   pub each : AreItems s.client s.stage.phase items (acts_in asked)
   pub remains : Remains s.client t.stage.phase t.rest stop.More
-  pub pushes : pushes_in asked ≡ pushes_in turns
+  pub placed : Placed s.client s.stage.phase s.rest turns items asked
   pub phase : t.stage.phase ≡ phase_after s.client s.stage.phase items
   pub before : t.before ≡ s.before + length (joined items)
   pub client : t.client ≡ s.client

@@ -126,7 +126,7 @@ pub fn serve_connection<D: Desk, S: Source, K: Sink>(
 }
 
 /// How a connection ends whose Enter is refused.
-fn refused_ending(refused: Refused) -> Served
+pub fn refused_ending(refused: Refused) -> Served
     ensures { result ≡ served_by refused }
 {
     match refused {

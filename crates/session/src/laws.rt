@@ -21,7 +21,7 @@ pub fn items_are_one()
 {}
 
 /// Items that stand one after another from the front of a stream are the first
-/// of its items: so are those that were asked so far.
+/// of its items, and ask what those ask.
 pub fn items_come_first()
     ensures { ItemsComeFirst }
 {}
@@ -43,14 +43,14 @@ pub fn pieces_cut_alike()
 
 /// Where the input ended, an item breaks a rule or a line is too long, the
 /// connection ends as its whole stream says, also where not all its bytes were
-/// read.
+/// read. Its source tells the stream, which is no longer than a connection may be.
 pub fn endings_are_the_streams()
     ensures { EndingsAreTheStreams }
 {}
 
 /// A session that is pushed between the pieces of its stream asks and answers the
-/// items of the stream all the same, and one Collect more for each push, whose
-/// signals are written there.
+/// items of the stream all the same, and for each push one Collect more, between
+/// the items of the pieces around it. Each piece and each push came to `More`.
 pub fn turns_are_taken()
     ensures { TurnsAreTaken }
 {}
@@ -61,15 +61,15 @@ pub fn answers_are_of_what_is_asked()
     ensures { AnswerAsked }
 {}
 
-/// What is written is a function of the client, of what its items ask, of the
-/// replies, and of which requests were refused, and how. What else an entry
-/// holds doesn't show.
+/// What is written is a function of the client, of the serial ahead of it, of what
+/// its items ask, of the replies, and of which requests were refused, and how. What
+/// else an entry holds doesn't show.
 pub fn outcomes_say_alike()
     ensures { SayAlike }
 {}
 
 /// Over a tree that tells its files the replies that were given are those of
-/// the steps. Over any other they are alike, and the entries are the same.
+/// the steps.
 pub fn told_replies_are_the_steps()
     ensures { ToldAlike }
 {}
@@ -93,8 +93,9 @@ pub fn a_part_is_a_prefix()
 {}
 
 /// Where no read and no write of a connection fails and none of its requests
-/// is refused, an input of whole items, no more bytes than a connection may
-/// have, is served to its end, unless there is no memory.
+/// is refused, by counts below their last value, an input of whole items that its
+/// source tells, no more bytes than a connection may have, is served to its end,
+/// unless there is no memory.
 pub fn whole_inputs_are_served_to_their_end()
     ensures { WholeInputsEnd }
 {}

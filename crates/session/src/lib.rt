@@ -15,10 +15,11 @@
 //!
 //! **Rooms**, from the bytes inwards: [`parts`] has parts of bytes, [`phase`] says
 //! what is due and cuts the next item, [`item`] reads it, [`act`] is what it asks,
-//! [`frame`] has the frames and [`speech`] the messages that answer it, and [`serve`] asks
-//! and writes. [`session`] is one connection that is fed piece by piece, [`connection`]
-//! serves one over a source to its end, and [`served`] has the answers of both. [`laws`]
-//! are the laws of streams and of answers, for the crates above.
+//! [`frame`] has the frames and [`speech`] the messages that answer it, [`answer`] parts
+//! what is asked from how it is answered, and [`serve`] asks and writes. [`session`] is
+//! one connection that is fed piece by piece, [`connection`] serves one over a source to
+//! its end, and [`served`] has the answers of both. [`laws`] are the laws of streams and
+//! of answers, for the crates above.
 //!
 //! ```ignore
 //! let mut session = Session::begin(alloc, &mut desk, &who, Kind::Mount, &settings)?;
@@ -28,6 +29,7 @@
 #![tactic(auto)]
 
 pub mod act;
+pub mod answer;
 pub mod connection;
 pub mod frame;
 pub mod item;

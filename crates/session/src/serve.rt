@@ -3,37 +3,35 @@
 //! An error is what the client's piece comes to then: `Fed::WriteFault` or
 //! `Fed::Memory`, and no other.
 
-ghost use Rattle.std.specs.Prelude.{◌≡◌, ℕ, List, ◌≤◌, ◌∷◌, [], ◌++◌, length, map, take};
+ghost use Rattle.std.specs.Prelude.{◌≡◌, ◌≤◌, ◌∷◌, [], ◌++◌, length, map, take};
 ghost use Rattle.std.specs.Prelude.{IfOk, IfSome, option_to_list, true};
 ghost use Rattle.std.specs.List.{list_all};
 ghost use Rattle.dbus_dispatch.specs.Signals.{signal_of};
 ghost use Rattle.dbus_dispatch.specs.Writable.{IsWritable};
-ghost use Rattle.dbus_types.specs.declared.message.OutMessage.{OutMessage as AnOutMessage};
-ghost use Rattle.session.specs.declared.act.Client.{Client as AClient};
-ghost use Rattle.session.specs.Asked.{collect_requests, reply_to as message_to, MayAnswer};
 ghost use Rattle.portal_model.specs.Valid.{is_sound_change};
+ghost use Rattle.session.specs.declared.act.Act.{Act as AnAct};
+ghost use Rattle.session.specs.declared.act.Client.{Client as AClient};
 ghost use Rattle.session.specs.Answers.{last_spoken, spoken};
+ghost use Rattle.session.specs.Asked.{MayAnswer, asked_by};
 ghost use Rattle.session.specs.Cuts.{Cuts, no_item, whole_item};
+ghost use Rattle.session.specs.Dues.{Became, CanTell, due_of};
 ghost use Rattle.session.specs.declared.served.Stop.TheVariants as stop;
 ghost use Rattle.session.specs.Pushes.{Tells};
 ghost use Rattle.session.specs.Ledger.{world, Sends, ActEnds, Collected, ItemEnds, Stops};
 
 use crate::act::{Act, Client, ItemError};
-use crate::frame::{answer_frame, has_no_reply, refusal_frame, told_frame};
-use crate::item::{read_item, reply_to};
+use crate::answer::{Parted, Told, answer, part};
+use crate::item::read_item;
 use crate::parts::{behind, front};
 use crate::phase::{Phase, next_cut};
 use crate::served::{Fed, Stop};
 use crate::speech::spoken;
-use dbus_dispatch::refused::refused_message;
-use dbus_dispatch::reply::reply_message;
-use dbus_types::message::{Message, OutMessage};
+use dbus_types::message::OutMessage;
 use portal_base::list::{ByteList, List};
-use portal_base::memory::WantOfMemory;
 use portal_base::outside::{Sink, WriteAnswer};
 use portal_desk::Desk;
 use portal_model::reply::Change;
-use portal_model::request::{NodeRequest, Request};
+use portal_model::request::Request;
 use std::alloc::Global;
 
 /// How far a stream has come.
@@ -52,39 +50,6 @@ pub struct Run {
     pub len: usize,
     /// Why no item behind them is taken.
     pub stop: Stop,
-}
-
-/// Writes one piece, and answers this serial.
-fn send<K: Sink>(sink: &mut K, piece: &[u8], serial: u32) -> Result<u32, Fed>
-    ensures sends { Sends (piece.now ∷ []) result (K.told sink.old) (K.faults sink.old)
-        (K.told sink.new) (K.faults sink.new) }
-    ensures last { IfOk result (λ last. last ≡ serial) }
-{
-    match sink.write(piece) {
-        WriteAnswer::Done => Ok(serial),
-        WriteAnswer::Failed => Err(Fed::WriteFault),
-    }
-}
-
-/// Writes a frame as one piece, where there is one, and answers the last serial,
-/// which it leaves.
-fn send_frame<K: Sink>(
-    serial: u32,
-    frame: Result<Option<ByteList>, WantOfMemory>,
-    sink: &mut K,
-) -> Result<u32, Fed>
-    ensures sends { (pieces : List (List ℕ)) → IfOk frame (λ f. option_to_list f ≡ pieces)
-        → Sends pieces result (K.told sink.old) (K.faults sink.old) (K.told sink.new)
-        (K.faults sink.new) }
-    ensures last { IfOk result (λ last. last ≡ serial) }
-{
-    let Ok(frame) = frame else {
-        return Err(Fed::Memory);
-    };
-    let Some(frame) = frame else {
-        return Ok(serial);
-    };
-    send(sink, frame.as_slice(), serial)
 }
 
 /// Writes pieces, one after another, and answers this serial.
@@ -128,32 +93,6 @@ fn send_messages<K: Sink>(
     }
 }
 
-/// Writes the signals that tell of changes, and behind them the answer to a
-/// call, where the call expects one, and answers the last serial.
-fn send_answer<K: Sink>(
-    alloc: Global,
-    serial: u32,
-    changes: &[Change],
-    call: &Message,
-    answer: Result<OutMessage, WantOfMemory>,
-    sink: &mut K,
-) -> Result<u32, Fed>
-    requires sound { list_all is_sound_change changes.now ≡ true }
-    requires writable { IfOk answer IsWritable }
-    ensures sends { (message : AnOutMessage) → IfOk answer (λ a. a ≡ message)
-        → Sends (spoken serial (map signal_of changes.now
-        ++ option_to_list (message_to call.now message))) result (K.told sink.old)
-        (K.faults sink.old) (K.told sink.new) (K.faults sink.new) }
-    ensures last { (message : AnOutMessage) → IfOk answer (λ a. a ≡ message)
-        → IfOk result (λ last. last ≡ last_spoken serial (map signal_of changes.now
-        ++ option_to_list (message_to call.now message))) }
-{
-    match answer {
-        Ok(message) => { send_messages(alloc, serial, changes, &reply_to(call, message), sink) }
-        Err(_) => Err(Fed::Memory),
-    }
-}
-
 /// Asks for what the host was not told yet, which is answered. A refusal leaves
 /// it untold.
 fn ask_untold<D: Desk>(alloc: Global, desk: &mut D) -> List<Change>
@@ -169,19 +108,6 @@ fn ask_untold<D: Desk>(alloc: Global, desk: &mut D) -> List<Change>
         }
         Err(_) => List::new(alloc),
     }
-}
-
-/// The same, where it is to be asked.
-fn collect<D: Desk>(alloc: Global, collects: bool, desk: &mut D) -> List<Change>
-    ensures asked { Collected (collect_requests collects) result (D.seated desk.old)
-        (D.seated desk.new) }
-    ensures sound { list_all is_sound_change result ≡ true }
-    ensures goes { D.goes desk.old desk.new }
-{
-    if collects {
-        return ask_untold(alloc, desk);
-    }
-    List::new(alloc)
 }
 
 /// Tells a host what it was not told yet, where there is something to tell, and
@@ -205,56 +131,23 @@ pub fn serve_untold<D: Desk, K: Sink>(
     send_messages(alloc, serial, changes.as_slice(), &None, sink)
 }
 
-/// Asks what a call asks, tells what the host was not told yet, and answers the
-/// call where it expects a reply.
-fn serve_call<D: Desk, K: Sink>(
-    alloc: Global,
-    client: &Client,
-    call: &Message,
-    request: Request,
-    serial: u32,
-    desk: &mut D,
-    sink: &mut K,
-) -> Result<u32, Fed>
-    requires { MayAnswer client.now (Act.Portal call.now request) }
-    ensures ends { ActEnds client.now result (Act.Portal call.now request) serial
-        (world (D.seated desk.old) (K.told sink.old) (K.faults sink.old))
-        (world (D.seated desk.new) (K.told sink.new) (K.faults sink.new)) }
+/// Asks a request, where there is one, and says what became of it.
+fn ask<D: Desk>(alloc: Global, request: Option<Request>, desk: &mut D) -> Told
+    ensures became { Became (option_to_list request) result (D.seated desk.old)
+        (D.seated desk.new) }
+    ensures fits { (c : AClient) (act : AnAct) → MayAnswer c act
+        → asked_by act ≡ option_to_list request → CanTell (due_of act) result }
     ensures goes { D.goes desk.old desk.new }
 {
+    let Some(request) = request else {
+        return Told::Nothing;
+    };
     match desk.ask(alloc, request) {
         Ok(reply) => {
             desk.known();
-            let answer = reply_message(alloc, &reply.answer, call, &client.settings);
-            send_answer(alloc, serial, reply.signals.as_slice(), call, answer, sink)
+            Told::Reply(reply)
         }
-        Err(refused) => {
-            let answer = refused_message(alloc, &refused, call);
-            send_answer(alloc, serial, &[], call, answer, sink)
-        }
-    }
-}
-
-/// Asks a request on a node, and answers it.
-fn serve_node<D: Desk, K: Sink>(
-    alloc: Global,
-    unique: u64,
-    request: NodeRequest,
-    serial: u32,
-    desk: &mut D,
-    sink: &mut K,
-) -> Result<u32, Fed>
-    ensures ends { (c : AClient) → ActEnds c result (Act.Node unique request) serial
-        (world (D.seated desk.old) (K.told sink.old) (K.faults sink.old))
-        (world (D.seated desk.new) (K.told sink.new) (K.faults sink.new)) }
-    ensures goes { D.goes desk.old desk.new }
-{
-    let is_quiet = has_no_reply(&request.op);
-    match desk.ask(alloc, Request::Node(request)) {
-        // What rides in the reply is passed over: a mount waits for no change, so there is none.
-        Ok(reply) => send_frame(serial, answer_frame(alloc, unique, reply.answer), sink),
-        Err(_) if is_quiet => Ok(serial),
-        Err(refused) => send_frame(serial, refusal_frame(alloc, unique, refused), sink),
+        Err(refused) => Told::Refused(refused),
     }
 }
 
@@ -274,20 +167,13 @@ pub fn serve_act<D: Desk, K: Sink>(
         (world (D.seated desk.new) (K.told sink.new) (K.faults sink.new)) }
     ensures goes { D.goes desk.old desk.new }
 {
-    match act {
-        Act::Nothing => Ok(serial),
-        Act::Line { reply } => send(sink, reply.as_slice(), serial),
-        Act::Call { reply, collects } => {
-            let changes = collect(alloc, collects, desk);
-            send_messages(alloc, serial, changes.as_slice(), &reply, sink)
-        }
-        Act::Portal { call, request } => {
-            serve_call(alloc, client, &call, request, serial, desk, sink)
-        }
-        Act::Node { unique, request } => serve_node(alloc, unique, request, serial, desk, sink),
-        Act::Local { unique, answer } => {
-            send_frame(serial, told_frame(alloc, unique, &answer), sink)
-        }
+    let Parted { request, due } = part(act);
+    let told = ask(alloc, request, desk);
+    // All of the answer is spelled before the first piece is written: where there is no memory for
+    // one piece nothing of it is written.
+    match answer(alloc, client, due, told, serial) {
+        Ok(speech) => send_each(sink, speech.pieces.as_slice(), speech.serial),
+        Err(_) => Err(Fed::Memory),
     }
 }
 

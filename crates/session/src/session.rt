@@ -388,7 +388,7 @@ fn leave<D: Desk>(alloc: Global, desk: &mut D)
 
 /// What bytes came to behind whose whole items this stands, at this byte of
 /// the stream.
-fn fed_of(at: u64, stop: Stop) -> Fed
+pub fn fed_of(at: u64, stop: Stop) -> Fed
     ensures { result ≡ fed_of at stop }
 {
     match stop {
@@ -400,7 +400,7 @@ fn fed_of(at: u64, stop: Stop) -> Fed
 
 /// How a connection ends whose last piece came to this, and which has this
 /// rest.
-fn ending(fed: Fed, rest: &[u8]) -> Served
+pub fn ending(fed: Fed, rest: &[u8]) -> Served
     ensures { result ≡ ending fed rest.now }
 {
     match fed {

@@ -32,11 +32,11 @@ use Rattle.trace_items.specs.declared.lent.Lent.{Lent}
 use Rattle.app_trace.specs.declared.trace.TraceItem.{TraceItem}
 use Rattle.trace_items.specs.Awaited.{Awaits, Comes, IsTold, Shows, change_of, file_told, is_node, silent, told_items}
 use Rattle.trace_items.specs.FilesChanged.{changed_name, named_by, told_alone, told_of_file}
-use Rattle.trace_items.specs.Named.{any_has_open}
+use Rattle.named_paths.specs.Named.{any_has_open}
 use Rattle.trace_items.specs.OwnAdds.{shared_files}
 use Rattle.app_trace.specs.Told.{item_told}
 use Rattle.trace_items.specs.Touches.{shown_in}
-use Rattle.trace_items.proofs.OpenPaths.{among-joined, open-named}
+use Rattle.named_paths.proofs.OpenPaths.{among-joined, open-named}
 use Rattle.trace_items.proofs.SharedFiles.{touch-shared}
 
 -- ---- connections that wait for nothing
@@ -96,11 +96,11 @@ not-made app s e o lend m f = sym (made-silent app (connection_of s.connections 
 -- ---- the paths that a view names
 
 pub names-lent : (lent : Lent) (s : State) (app path : List ℕ) → Shows lent s → Valid s →
-    (is_among (map (λ (d : HeldDocument). d.document.path) (held_documents (held_of lent.book.grants.now app) lent.book.documents.now.live)) path || any_has_open lent.handles.now.seats app path lent.connections.now)
+    (is_among (map (λ (d : HeldDocument). d.document.path) (held_documents (held_of lent.book.grants.now app) lent.book.documents.now.live)) path || any_has_open lent.numbers.now lent.handles.now.seats app path lent.connections.now)
     ≡ names (view s app) path
 names-lent lent s app path shows v =
-    (λ i. is_among (map (λ (d : HeldDocument). d.document.path) (held_documents (held_of (sym shows.rights i) app) (sym shows.documents i))) path || any_has_open lent.handles.now.seats app path (sym shows.connections i))
-    ∙ (ap (λ (b : Bool). is_among (map (λ (d : HeldDocument). d.document.path) (held_documents (held_of s.rights app) s.documents)) path || b) (open-named s v lent.handles.now.seats shows.handles app path)
+    (λ i. is_among (map (λ (d : HeldDocument). d.document.path) (held_documents (held_of (sym shows.rights i) app) (sym shows.documents i))) path || any_has_open lent.numbers.now lent.handles.now.seats app path (sym shows.connections i))
+    ∙ (ap (λ (b : Bool). is_among (map (λ (d : HeldDocument). d.document.path) (held_documents (held_of s.rights app) s.documents)) path || b) (open-named s v lent.numbers.now shows.covered lent.handles.now.seats shows.handles app path)
     ∙ sym (among-joined path (map (λ (d : HeldDocument). d.document.path) (held_documents (held_of s.rights app) s.documents)) (flat_map paths_of_connection (own_connections app s.handles s.connections))))
 
 pub named-some : (v : AppView) (o : Option FileName) (name : FileName) → o ≡ Some name → names v name.path ≡ named_by v o

@@ -4,10 +4,7 @@ pub mod SharedFiles
 pub mod Asked
 pub mod FilesChanged
 pub mod BytesAfter
-pub mod PathsHeld
-pub mod OpenPaths
 pub mod Touched
 pub mod ComingLaws
 pub mod OwnEntries
 pub mod NodeParts
-pub mod FilesMade

@@ -22,7 +22,7 @@ use Rattle.trace_items.specs.declared.lent.Lent.{Lent}
 use Rattle.trace_items.specs.Awaited.{Comes, Shows, is_node, silent}
 use Rattle.trace_items.specs.FilesChanged.{attributes_set, file_change, file_open, file_shown_at, opened, path_of_file, resizes}
 use Rattle.trace_items.proofs.ComingLaws.{Heard, heard, mount-silent, nobody-heard}
-use Rattle.trace_items.proofs.OpenPaths.{handle-found}
+use Rattle.named_paths.proofs.OpenPaths.{handle-found}
 use Rattle.trace_items.proofs.Touched.{change_at, change_over, comes-node}
 
 -- what is said of a value may be said otherwise

@@ -3,15 +3,15 @@ use Rattle.std.specs.Prelude.{◌≡◌, ℕ, List, [], ◌∷◌, map, Bool, tr
 use Rattle.portal_base.specs.declared.files.File.{File}
 use Rattle.portal_base.specs.declared.files.FileName.{FileName}
 use Rattle.portal_model.specs.declared.entry.Entry.{Entry}
-use Rattle.portal_model.specs.declared.handle.Handle.{Handle}
-use Rattle.portal_model.specs.declared.handle.OpenHandle.{OpenHandle}
 use Rattle.portal_model.specs.declared.request.Request.{Request}
 use Rattle.portal_model.specs.declared.state.Connection.{Connection}
 use Rattle.portal_model.specs.Node.{files_after}
 use Rattle.portal_model.specs.NodeVerdict.{FileChange, FilesStay, Writes, Resizes, Creates}
-use Rattle.portal_model.specs.State.{State, connection_of, handles_of}
+use Rattle.portal_model.specs.State.{State, connection_of}
 use Rattle.portal_model.specs.Step.{after, reply_at}
-use Rattle.open_handles.specs.Opened.{Opened, opened_on}
+use Rattle.open_handles.specs.Opened.{opened_on}
+use Rattle.named_paths.specs.OpenNumbers.{Cover}
+pub use Rattle.named_paths.specs.Seated.{HasOpen, numbered, silent}
 use Rattle.app_world.specs.Effect.{Effect}
 use Rattle.app_world.specs.Touched.{is_done}
 use Rattle.app_world.specs.TraceItem as item
@@ -29,19 +29,6 @@ use Rattle.app_trace.specs.Told.{item_told}
 
 -- ---- the lists
 
--- a connection but for what it waits for
-abbrev pub silent : Connection → Connection
-silent c = record c { unsent = [] }
-
-abbrev pub numbered : OpenHandle → ℕ × Handle
-numbered h = (h.fh, h.handle)
-
--- the table has what the connection of a seat has open, and the number that it was given last
-abbrev pub HasOpen : State → ℕ → Connection → Option Opened → Type 0
-HasOpen s seat c None = ⊥
-HasOpen s seat c (Some o) =
-    (o.last ≡ c.opens) × (o.handles ≡ map numbered (handles_of s.handles seat))
-
 -- the lists are those of the state, whose tree tells its files
 pub record Shows (lent : Lent) (s : State) : Type 0 where
   pub documents : s.documents ≡ lent.book.documents.now.live
@@ -51,6 +38,8 @@ pub record Shows (lent : Lent) (s : State) : Type 0 where
   pub handles :
       (seat : ℕ) (c : Connection) → connection_of s.connections seat ≡ Some c →
       HasOpen s seat c (opened_on lent.handles.now.seats seat)
+  -- the number of each open handle is kept
+  pub covered : Cover lent.numbers.now s.handles
   pub told : s.told ≡ true
   pub files : s.files ≡ lent.files.now
 

@@ -1,7 +1,7 @@
 -- How a request on a node changes the files, where it is done; and what a view is told of the file
 -- that it changes.
-use Rattle.std.specs.Prelude.{ℕ, List, [], ◌∷◌, Bool, false, Option, Some, None, cond}
-use Rattle.portal_base.specs.Content.{file_named}
+use Rattle.std.specs.Prelude.{◌≡◌, ℕ, List, [], ◌∷◌, Bool, false, Option, Some, None, cond}
+use Rattle.portal_base.specs.Content.{file_at, file_named}
 use Rattle.portal_base.specs.declared.files.File.{File}
 use Rattle.portal_base.specs.declared.files.FileName.{FileName}
 use Rattle.portal_base.specs.declared.files.Look.{Look}
@@ -102,6 +102,13 @@ file_change sight handle looks now NodeOp.OpenDir = FilesStay
 file_change sight handle looks now (NodeOp.ReadDir fh offset size) = FilesStay
 file_change sight handle looks now (NodeOp.ReleaseDir fh) = FilesStay
 file_change sight handle looks now (NodeOp.Access mask) = FilesStay
+
+-- a file is made only where its path has none
+abbrev pub IsFresh : FileChange → List File → Type 0
+IsFresh FilesStay files = Unit {0}
+IsFresh (Writes name offset content now) files = Unit {0}
+IsFresh (Resizes name size now) files = Unit {0}
+IsFresh (Creates path now) files = file_at files path ≡ None
 
 -- ---- what a view is told of it
 

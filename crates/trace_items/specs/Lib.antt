@@ -2,5 +2,4 @@ pub mod Touches
 pub mod OwnAdds
 pub mod FilesChanged
 pub mod Awaited
-pub mod Named
 pub mod Sharings

@@ -17,7 +17,7 @@ ghost use Rattle.portal_model.specs.State.{State, connection_of as open_connecti
 ghost use Rattle.portal_model.specs.Step.{reply_at};
 ghost use Rattle.portal_model.specs.Valid.{Valid};
 ghost use Rattle.trace_items.specs.Awaited.{Awaits, Comes, IsTold, Shows, change_of, file_told, files_awaited, is_node, items_awaited, silent, told_items};
-ghost use Rattle.trace_items.specs.FilesChanged.{changed_name as name_changed, named_by, told_of_file};
+ghost use Rattle.trace_items.specs.FilesChanged.{IsFresh, changed_name as name_changed, named_by, told_of_file};
 ghost use Rattle.trace_items.specs.OwnAdds.{is_in_order};
 ghost use Rattle.app_trace.specs.Told.{item_told};
 ghost use Rattle.trace_items.specs.Touches.{told_if};
@@ -25,12 +25,12 @@ ghost use Rattle.trace_items.specs.Touches.{told_if};
 use crate::adds::{add_touches, planned};
 use crate::changes::{FileUpdate, change, changed_name};
 use crate::lent::{Lent, bus_of, connection_of, mount_of};
-use crate::named::names;
 use crate::nodes::{file_item, update_of};
 use crate::own::{made_by, own_item};
 use crate::touches::{delete_touch, grant_touch, revoke_touch};
 use app_trace::trace::TraceItem;
-use portal_base::files::{File, FileName};
+use named_paths::names;
+use portal_base::files::FileName;
 use portal_base::list::List;
 use portal_base::memory::WantOfMemory;
 use portal_base::names::{AppId, DocId, HostPath};
@@ -39,6 +39,7 @@ use portal_model::reply::Answer;
 use portal_model::request::{AddRequest, Request};
 use portal_model::state::Connection;
 use std::alloc::Global;
+use tree_files::TreeFiles;
 
 /// What an entry tells an application.
 #[derive(Drop)]
@@ -62,8 +63,8 @@ pub struct Awaited<'a> {
 }
 
 /// What comes of an entry to an application, over the lists that a portal lends
-/// ahead of it. Of n documents, and of the n handles that were opened on the
-/// application's connections, it takes about n steps.
+/// ahead of it. Of n documents, and of n handles that the application's connections
+/// have open, it takes about n steps, and of n files about log n.
 pub fn foresee<'a>(
     alloc: Global,
     lent: &Lent,
@@ -155,7 +156,15 @@ fn is_named(lent: &Lent, app: &AppId, name: &Option<FileName>) -> bool
         result ≡ named_by (view s app.now) name.now }
 {
     match name {
-        Some(name) => names(lent, app, &name.path),
+        Some(name) => names(
+            lent.book.documents,
+            lent.book.grants,
+            lent.handles,
+            lent.numbers,
+            lent.connections,
+            app,
+            &name.path,
+        ),
         None => false,
     }
 }
@@ -269,14 +278,15 @@ fn named_touch(
 pub fn come(
     alloc: Global,
     items: &mut List<TraceItem>,
-    files: &mut Vec<File>,
+    files: &mut TreeFiles,
     awaited: Awaited,
     done: bool,
 ) -> Result<(), WantOfMemory>
+    requires { done ≡ true → IsFresh (change_of awaited.change) files.old }
     ensures items { OnOk result (map item_told items.new
-        ≡ map item_told items.old ++ items_awaited awaited.entry done files.old.items) }
-    ensures files { OnOk result (files.new.items
-        ≡ files_awaited awaited.entry done files.old.items) }
+        ≡ map item_told items.old ++ items_awaited awaited.entry done files.old) }
+    ensures files { OnOk result (files.new
+        ≡ files_awaited awaited.entry done files.old) }
 {
     let Awaited {
         told,
@@ -291,28 +301,29 @@ pub fn come(
 fn come_with(
     alloc: Global,
     items: &mut List<TraceItem>,
-    files: &mut Vec<File>,
+    files: &mut TreeFiles,
     told: News,
     update: &FileUpdate,
     done: bool,
 ) -> Result<(), WantOfMemory>
+    requires { done ≡ true → IsFresh (change_of update.now) files.old }
     ensures items { OnOk result (map item_told items.new ≡ map item_told items.old
         ++ told_items (change_of update.now) told done
-        (cond done (files_after true (change_of update.now) files.old.items) files.old.items)) }
-    ensures files { OnOk result (files.new.items
-        ≡ cond done (files_after true (change_of update.now) files.old.items) files.old.items) }
+        (cond done (files_after true (change_of update.now) files.old) files.old)) }
+    ensures files { OnOk result (files.new
+        ≡ cond done (files_after true (change_of update.now) files.old) files.old) }
 {
     if done {
         change(alloc, files, update)?;
     }
-    push_told(alloc, items, files.as_slice(), told, update, done)
+    push_told(alloc, items, files, told, update, done)
 }
 
 /// Appends what an entry tells, where these are the files behind it.
 fn push_told(
     alloc: Global,
     items: &mut List<TraceItem>,
-    after: &[File],
+    after: &TreeFiles,
     told: News,
     update: &FileUpdate,
     done: bool,
@@ -332,7 +343,7 @@ fn push_told(
 fn push_changed(
     alloc: Global,
     items: &mut List<TraceItem>,
-    after: &[File],
+    after: &TreeFiles,
     update: &FileUpdate,
 ) -> Result<(), WantOfMemory>
     ensures { OnOk result (map item_told items.new ≡ map item_told items.old

@@ -5,10 +5,11 @@ ghost use Rattle.portal_model.specs.State.{connection_of as open_connection};
 ghost use Rattle.portal_model.specs.Step.{bus_of as open_bus, mount_of as open_mount};
 
 use app_view::ViewBook;
+use named_paths::OpenNumbers;
 use open_handles::Handles;
-use portal_base::files::File;
 use portal_base::who::Kind;
 use portal_model::state::Connection;
+use tree_files::TreeFiles;
 
 /// The lists that a portal lends, as they are ahead of an entry, and the files
 /// of its tree.
@@ -20,8 +21,10 @@ pub struct Lent<'a> {
     pub connections: &'a [Connection],
     /// What they have open.
     pub handles: &'a Handles,
+    /// The numbers of what they have open.
+    pub numbers: &'a OpenNumbers,
     /// The files.
-    pub files: &'a [File],
+    pub files: &'a TreeFiles,
 }
 
 /// The open connection of a seat.

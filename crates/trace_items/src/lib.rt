@@ -11,7 +11,7 @@
 //! | `coming` | [`foresee`] and [`come`], and [`Awaited`]: what comes of an entry |
 //! | `lent` | [`Lent`]: the lists that a portal lends ahead of an entry |
 //! | `own`, `touches`, `adds` | the items of own entries, of others' calls on rights, and of additions |
-//! | `nodes`, `changes`, `named` | how requests on nodes change the files, and which paths a view names |
+//! | `nodes`, `changes` | how requests on nodes change the files |
 //! | `specs/Awaited` | what is promised of an entry |
 //!
 //! ```text
@@ -24,7 +24,6 @@ mod adds;
 pub mod changes;
 pub mod coming;
 pub mod lent;
-mod named;
 mod nodes;
 mod own;
 mod touches;

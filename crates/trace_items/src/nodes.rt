@@ -2,11 +2,10 @@
 //! an application is told of that.
 
 ghost use Rattle.std.specs.Prelude.{◌≡◌, ◌∷◌, [], Option, cond, map, option_copied, IfOk};
-ghost use Rattle.std.specs.List.{find};
 ghost use Rattle.app_view.specs.Books.{Lends};
 ghost use Rattle.app_world.specs.TraceItem.{item_of};
 ghost use Rattle.open_handles.specs.Opened.{handle_of as handle_in, opened_on};
-ghost use Rattle.portal_base.specs.Content.{file_named as named_in_tree, is_named as is_file_named};
+ghost use Rattle.portal_base.specs.Content.{file_named as named_in_tree};
 ghost use Rattle.portal_model.specs.Bus.{moment_given};
 ghost use Rattle.portal_model.specs.Open.{truncates as does_truncate};
 ghost use Rattle.portal_model.specs.Place.{Sight, place_of as place_of_node};
@@ -16,13 +15,13 @@ ghost use Rattle.trace_items.specs.Awaited.{change_of};
 ghost use Rattle.trace_items.specs.FilesChanged.{attributes_set as file_set, content_named as content_of_name, creates, file_change, file_open as open_file, file_shown_at, opened as file_opened, path_of_file, path_of_folder, resizes, told_alone, written as file_written};
 ghost use Rattle.app_trace.specs.Told.{content_told, item_told};
 
-use crate::changes::{FileUpdate, is_named};
+use crate::changes::FileUpdate;
 use crate::lent::Lent;
 use app_trace::contents::file_content;
 use app_trace::trace::TraceItem;
 use app_trace::view::Content;
 use app_view::{ViewBook, place_of, seen_document};
-use portal_base::files::{File, FileName, Look};
+use portal_base::files::{FileName, Look};
 use portal_base::memory::{Replica, WantOfMemory};
 use portal_base::names::HostPath;
 use portal_base::who::Who;
@@ -32,6 +31,7 @@ use portal_model::place::Place;
 use portal_model::request::{NodeOp, NodeRequest};
 use portal_model::state::Connection;
 use std::alloc::Global;
+use tree_files::TreeFiles;
 
 /// The bit of a FUSE_SETATTR that says that the length is set.
 const FATTR_SIZE: u32 = 8;
@@ -281,7 +281,11 @@ fn file_open(handle: Option<&Handle>) -> Option<&FileName>
 }
 
 /// What is told of a file that was changed, as it is afterwards.
-pub fn file_item(alloc: Global, after: &[File], name: &FileName) -> Result<TraceItem, WantOfMemory>
+pub fn file_item(
+    alloc: Global,
+    after: &TreeFiles,
+    name: &FileName,
+) -> Result<TraceItem, WantOfMemory>
     ensures { IfOk result
         (λ item. item_told item ∷ [] ≡ map item_of (told_alone name.now after.now)) }
 {
@@ -294,19 +298,12 @@ pub fn file_item(alloc: Global, after: &[File], name: &FileName) -> Result<Trace
 }
 
 /// What the file of a name is.
-fn content_named(alloc: Global, files: &[File], name: &FileName) -> Result<Content, WantOfMemory>
+fn content_named(alloc: Global, files: &TreeFiles, name: &FileName) -> Result<Content, WantOfMemory>
     ensures { IfOk result (λ content. content_told content
         ≡ content_of_name (named_in_tree files.now name.now)) }
 {
-    match file_named(files, name) {
+    match files.named(name) {
         Some(file) => file_content(alloc, file),
         None => Ok(Content::Missing { room: false }),
     }
-}
-
-/// The file of a name.
-fn file_named<'a>(files: &'a [File], name: &FileName) -> Option<&'a File>
-    ensures { option_copied result ≡ find (is_file_named name.now) files.now }
-{
-    files.iter().find(|file| is_named(file, name))
 }

@@ -20,15 +20,15 @@ use add_files::AddPlan;
 use app_trace::contents::content_at;
 use app_trace::trace::TraceItem;
 use app_trace::view::Content;
-use portal_base::files::File;
+use named_paths::is_app;
 use portal_base::list::List;
 use portal_base::memory::{Replica, WantOfMemory};
 use portal_base::names::{AppId, DocId, HostPath};
-use portal_base::who::Who;
 use portal_model::entry::{Entry, Fault, Given};
 use portal_model::request::{AddRequest, Request};
 use portal_model::state::Connection;
 use std::alloc::Global;
+use tree_files::TreeFiles;
 
 /// Says whether an application makes a request that comes over this open
 /// connection of its seat, or over none.
@@ -41,16 +41,6 @@ pub fn made_by(connection: Option<&Connection>, request: &Request, app: &AppId) 
             Request::Enter { who, .. } => is_app(who, app),
             _ => false,
         },
-    }
-}
-
-/// Says whether a caller is the application.
-pub fn is_app(who: &Who, app: &AppId) -> bool
-    ensures { result ≡ is_app app.now who.now }
-{
-    match who {
-        Who::Host => false,
-        Who::App(name) => name == app,
     }
 }
 
@@ -134,7 +124,7 @@ fn asked(given: &Given) -> usize
 /// What is at the paths that the tree was asked for, so many.
 fn shown(
     alloc: Global,
-    files: &[File],
+    files: &TreeFiles,
     queue: &[HostPath],
     add: &AddRequest,
     plan: &AddPlan,
@@ -160,7 +150,7 @@ fn first(paths: &[HostPath], count: usize) -> &[HostPath]
 /// What is at paths.
 fn contents(
     alloc: Global,
-    files: &[File],
+    files: &TreeFiles,
     paths: &[HostPath],
 ) -> Result<List<Content>, WantOfMemory>
     ensures { IfOk result (λ contents. map content_told contents

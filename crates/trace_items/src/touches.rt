@@ -12,7 +12,6 @@ ghost use Rattle.trace_items.specs.Touches.{shown_in, told_if};
 use app_trace::contents::content_at;
 use app_trace::trace::TraceItem;
 use document_records::{Documents, Grants};
-use portal_base::files::File;
 use portal_base::list::List;
 use portal_base::memory::{Replica, WantOfMemory};
 use portal_base::names::{AppId, DocId};
@@ -21,13 +20,14 @@ use portal_model::request::RightsCall;
 use portal_model::state::Document;
 use rights_rule::Rights;
 use std::alloc::Global;
+use tree_files::TreeFiles;
 
 /// What a GrantPermissions tells the application: the rights that it gains.
 pub fn grant_touch(
     alloc: Global,
     documents: &Documents,
     rights: &Grants,
-    files: &[File],
+    files: &TreeFiles,
     app: &AppId,
     call: &RightsCall,
 ) -> Result<Option<TraceItem>, WantOfMemory>
@@ -47,7 +47,7 @@ pub fn grant_touch(
 pub fn gained(
     alloc: Global,
     rights: &Grants,
-    files: &[File],
+    files: &TreeFiles,
     app: &AppId,
     document: &Document,
     listed: Rights,

@@ -152,9 +152,7 @@ impl<'a> ClientReader<'a> {
                     }
                 }
                 answer => {
-                    if 0 < look && look <= looks {
-                        self.eagerness.pays_off();
-                    }
+                    self.eagerness.is_served(look, looks);
                     return answer;
                 }
             }
@@ -196,8 +194,8 @@ impl<'a> Read for ClientReader<'a> {
         }
         taken(&*self.answers)?.flush()?;
         match self.read_next(buffer) {
-            // An item that comes in parts has to be put together by a copy, which costs more than to
-            // look for them.
+            // An item that comes in parts has to be put together by a copy, which costs more than
+            // to look for them.
             Ok(came) if came >= PART => Ok(self.read_behind(buffer, came)),
             answer => answer,
         }

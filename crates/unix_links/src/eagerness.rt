@@ -41,8 +41,11 @@ impl Eagerness {
         }
     }
 
-    /// Something came while it was looked for.
-    pub(crate) fn pays_off(&mut self) {
-        self.pause = 0;
+    /// Something came at the look of this number, of so many: not at the first of all, and not
+    /// behind a wait, where looks paid off.
+    pub(crate) fn is_served(&mut self, look: u64, looks: u64) {
+        if 0 < look && look <= looks {
+            self.pause = 0;
+        }
     }
 }

@@ -14,14 +14,19 @@ use std::alloc::Global;
 
 impl<T: HostTree, K: Keeper, C: Clock, W: Words> Portal<T, K, C, W> {
     /// Takes memory ahead for `count` requests out of LOOKUP, GETATTR, ACCESS, FLUSH,
-    /// RELEASE, RELEASEDIR, FORGET and BATCH_FORGET with `bytes` bytes together: the next
-    /// `count` of them don't want memory, where no other request comes between. From then
-    /// on each request that is answered takes as much ahead again, as far as there is
-    /// memory.
+    /// RELEASE, RELEASEDIR, FORGET and BATCH_FORGET: the next `count` of them don't want
+    /// memory, where no other request comes between, as the clauses `reserved` and `spare`
+    /// of [`Portal::ask`] say of each. Nothing else changes; where memory is wanted some may
+    /// have been taken, and none is let go.
     ///
-    /// Each request brings its own bytes, and is kept as it came. So these take no memory
-    /// here, and as many as can be counted are always left. Nothing else changes, and
-    /// where memory is wanted some may have been taken.
+    /// **`bytes` is passed over.** It is how many bytes these requests may have together, and
+    /// would count where their bytes were copied. But a request brings its own bytes, and is
+    /// kept as it came, so these never want memory here, however many they are. The clause
+    /// `bytes` says no more than this, that as many are left as a `u64` counts; any body
+    /// keeps it.
+    ///
+    /// From then on each request that is answered takes as much ahead again, as far as there
+    /// is memory. No clause says that it does.
     pub fn reserve(&mut self, alloc: Global, count: u32, bytes: u64) -> Result<(), WantOfMemory>
         ensures ok { OnOk result (count ≤ self.new.spare) }
         ensures bytes { OnOk result (bytes ≤ bytes_left self.new) }

@@ -3,7 +3,7 @@ use Rattle.add_files.specs.declared.plan.PlanItem.{PlanItem}
 use Rattle.document_records.specs.Documents.{room}
 use Rattle.add_calls.specs.Limits.{HasRoomForAll, OwnsHold}
 use Rattle.add_calls.specs.Placing.{book_of}
-use Rattle.add_calls.proofs.PlacingLemmas.{drew-joined, dropped-at, dropped-end, new_left, numbers-rest, owns-rest, placed-joined, placed-nothing, room-rest, sized-set, used-more, used-none, uses-set}
+use Rattle.add_calls.proofs.PlacingLemmas.{drew-behind, drew-first, dropped-at, dropped-end, new_left, numbers-rest, owns-rest, placed-joined, placed-nothing, room-rest, sized-set, used-more, used-none, uses-set}
 use Rattle.add_calls.proofs.place.+place_from.Goals as goal
 
 pub place_from-requires : goal.place_from-requires
@@ -28,9 +28,16 @@ returns-then-at-items-clause-ok g t c =
 
 pub returns-in-Err-place_from-clause-words : goal.returns-in-Err-place_from-clause-words
 returns-in-Err-place_from-clause-words g t c =
-    let one = c.in-Ok.ensures.ok.placed in
-    let more = c.in-Err-place_from.ensures.words in
-    (one.words ++ more.0, drew-joined (g.W.Words.told c.args.words.now) (g.W.Words.told c.place_item.new.words) (g.W.Words.told c.place_from.new.words) one.words more.0 one.drew more.1)
+    let before = book_of c.args.documents.now c.args.grants.now c.args.applications.now in
+    let mid = book_of c.place_item.new.documents c.place_item.new.grants c.place_item.new.applications in
+    let here = dropped-at c.args.plan.now.items c.as_slice-items.result.now c.args.at c.index-items-at.result c.as_slice-items.ensures c.if-at-items.false c.index-items-at.is in
+    drew-behind c.args.who.now c.args.add.now c.args.plan.now c.index-items-at.result c.in-Ok.used before mid (g.W.Words.told c.args.words.now) (g.W.Words.told c.place_item.new.words) c.args.drawn.now c.place_item.new.drawn c.in-Ok.ensures.ok
+    (drop c.args.at c.args.plan.now.items) (drop (c.args.at + 1) c.args.plan.now.items) (g.W.Words.told c.place_from.new.words) here c.in-Err-place_from.ensures.words
+
+pub returns-in-Err-clause-words : goal.returns-in-Err-clause-words
+returns-in-Err-clause-words g t c =
+    let here = dropped-at c.args.plan.now.items c.as_slice-items.result.now c.args.at c.index-items-at.result c.as_slice-items.ensures c.if-at-items.false c.index-items-at.is in
+    drew-first (drop c.args.at c.args.plan.now.items) c.index-items-at.result (drop (c.args.at + 1) c.args.plan.now.items) (g.W.Words.told c.args.words.now) (g.W.Words.told c.place_item.new.words) here c.in-Err.ensures.words
 
 pub returns-clause-ok : goal.returns-clause-ok
 returns-clause-ok g t c =

@@ -28,6 +28,9 @@ returns-then-not-may_list-clause-err c = λ s d asked numbers.
 pub used-used-requires : goal.used-used-requires
 used-used-requires c = subst (λ (l : List PlanItem). length l ≤ 16) (sym c.as_slice-2.ensures) c.in_default.ensures.count
 
+pub returns-clause-few : goal.returns-clause-few
+returns-clause-few c = c.in_ok-few.ensures.ok
+
 pub returns-clause-call : goal.returns-clause-call
 returns-clause-call c =
     call-is c.args.documents.now.live c.args.who.now c.args.add.now (paths_of c.args.add.now c.args.paths.now c.args.add.now.handles) _

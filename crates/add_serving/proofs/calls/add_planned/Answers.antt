@@ -1,6 +1,9 @@
-use Rattle.std.proofs.Common.{sym}
+use Rattle.std.proofs.Common.{length, refl, sym}
+use Rattle.add_calls.proofs.PlacingLemmas.{drew-none}
 use Rattle.add_calls.specs.Placing.{book_of}
 use Rattle.add_serving.proofs.AddSteps.{full-follow, kinds-follow, placed-follow, unseen-follows}
+use Rattle.add_serving.proofs.Bounded.{looks-few, was-asked, was-asked-none, words-few}
+use Rattle.add_serving.specs.Adds.{most_looks, most_words}
 use Rattle.add_serving.proofs.calls.add_planned.Goals as goal
 
 pub returns-then-shown-clause-ok : goal.returns-then-shown-clause-ok
@@ -24,3 +27,20 @@ returns-in-Ok-place_kept-clause-ok g c =
     c.in-Ok.shown.looks c.in-Ok.shown.failed c.in-Ok.ensures.shows (g.W.Words.told c.args.words.now) (g.W.Words.told c.place_kept.new.words) (book_of c.place_kept.new.documents c.place_kept.new.grants c.place_kept.new.applications)
     (g.K.Keeper.is c.args.keeper.now) (g.K.Keeper.is c.place_kept.new.keeper) c.in-Ok-place_kept.added c.placed.result c.as_slice.result.now c.if-shown.false c.as_slice.ensures (sym c.if-not-are_of_kind.ensures) c.requires.call
     (sym c.if-exceeds.ensures) c.in-Ok-place_kept.ensures.ok c.placed.ensures
+
+-- ---- want of memory
+
+pub returns-in-Err-clause-tree : goal.returns-in-Err-clause-tree
+returns-in-Err-clause-tree g c = was-asked-none (most_looks c.args.add.now) (g.T.HostTree.is c.args.tree.now) (g.T.HostTree.is c.look.new.tree) c.in-Err.ensures.err
+
+pub returns-in-Err-clause-words : goal.returns-in-Err-clause-words
+returns-in-Err-clause-words g c = drew-none (most_words c.args.add.now) (g.W.Words.told c.args.words.now) (g.W.Words.told c.args.words.now) refl
+
+pub returns-in-Err-place_kept-clause-tree : goal.returns-in-Err-place_kept-clause-tree
+returns-in-Err-place_kept-clause-tree g c =
+    was-asked (most_looks c.args.add.now) (g.T.HostTree.is c.args.tree.now) (g.T.HostTree.is c.look.new.tree) (length c.in-Ok.shown.looks) c.in-Ok.shown.failed c.if-shown.false
+    (looks-few c.args.add.now c.args.paths.now (g.T.HostTree.is c.args.tree.now).told c.in-Ok.shown.looks c.in-Ok.shown.failed c.requires.few c.in-Ok.ensures.shows) c.in-Ok.ensures.asked
+
+pub returns-in-Err-place_kept-clause-words : goal.returns-in-Err-place_kept-clause-words
+returns-in-Err-place_kept-clause-words g c =
+    words-few c.args.add.now c.args.plan.now c.args.paths.now (g.W.Words.told c.args.words.now) (g.W.Words.told c.place_kept.new.words) c.requires.few c.requires.planned c.in-Err-place_kept.ensures.words

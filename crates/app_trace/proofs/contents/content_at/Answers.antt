@@ -1,13 +1,15 @@
-use Rattle.std.proofs.Common.{ℕ, List, None, Some, ap, find, ◌∙◌}
-use Rattle.app_trace.proofs.ContentsInOrder.{has_path, with-file}
+use Rattle.std.proofs.Common.{None, Some}
+use Rattle.tree_files.specs.Kept.{file_kept}
+use Rattle.app_trace.proofs.ContentsInOrder.{with-file}
 use Rattle.app_trace.proofs.contents.content_at.Goals as goal
 
 pub returns-in-Some : goal.returns-in-Some
 returns-in-Some c =
-    let found = c.in-Some.ensures ∙ ap (λ (p : List ℕ). find (has_path p) c.args.files.now) c.as_bytes.ensures.bytes in
-    rw (with-file c.args.files.now c.args.path.now (Some c.in-Some.file.now) found) c.file_content.ensures
+    let path = c.args.path.now in
+    rw (with-file c.args.files.now path (Some (file_kept path c.in-Some.file.now)) c.in-Some.ensures)
+    c.file_content.ensures
 
 pub returns-in-None : goal.returns-in-None
 returns-in-None c =
-    let found = c.in-None.ensures ∙ ap (λ (p : List ℕ). find (has_path p) c.args.files.now) c.as_bytes.ensures.bytes in
-    rw (with-file c.args.files.now c.args.path.now None found) c.content_without_file.ensures
+    rw (with-file c.args.files.now c.args.path.now None c.in-None.ensures)
+    c.content_without_file.ensures

@@ -1,6 +1,7 @@
-use Rattle.std.proofs.Common.{◌≡◌, map, take}
-use Rattle.portal_model.specs.Opening.{file_of}
+use Rattle.std.proofs.Common.{take}
+use Rattle.app_trace.proofs.FilesPlaced.{ArePut}
 use Rattle.app_trace.proofs.files.files_of.Given as goal
 
+-- each file so far has its place
 abbrev pub invariant-loop-item : goal.invariant-loop-item
-invariant-loop-item l = l.files.items ≡ map file_of (take l.item-index l.item-items)
+invariant-loop-item l = ArePut (take l.item-index l.item-items) l.files

@@ -1,14 +1,15 @@
 use Rattle.std.proofs.Common.{ℕ, List, ap, map, nat_eq, subst, ◌∙◌}
 use Rattle.std.specs.List.{IsDistinct}
-use Rattle.app_world.specs.View.{contents_at, held_documents}
-use Rattle.portal_base.specs.declared.files.File.{File}
+use Rattle.app_world.specs.View.{ahead, contents_at, held_documents}
 use Rattle.portal_model.specs.declared.opening.OpeningDocument.{OpeningDocument}
 use Rattle.portal_model.specs.declared.state.Triple.{Triple}
 use Rattle.portal_model.specs.Opening.{document_kept, file_of, opened, rights_kept}
+use Rattle.portal_model.specs.Ordered.{put_all}
 use Rattle.portal_model.specs.State.{held_of}
 use Rattle.app_trace.specs.declared.view.HeldDocument.{HeldDocument}
 use Rattle.app_trace.specs.Contents.{path_held}
 use Rattle.document_records.proofs.ValidNames.{rights_named}
+use Rattle.app_trace.proofs.FilesPlaced.{contents-alike}
 use Rattle.app_trace.proofs.ViewedParts.{numbers_kept, viewed}
 use Rattle.app_trace.proofs.viewed.view_of.Goals as goal
 
@@ -27,8 +28,9 @@ returns c =
     c.in_ok-documents.ensures
     ∙ (ap (λ (rights : List Triple). held_documents (held_of rights app) (map document_kept c.as_slice-items.result.now)) c.in_ok-rights.ensures
     ∙ ap (λ (items : List OpeningDocument). held_documents (held_of (rights_kept items) app) (map document_kept items)) c.as_slice-items.ensures) in
+    let shown = contents-alike c.in_ok-files.files (map file_of o.files) c.in_ok-files.ensures.shown in
     let contents =
     c.in_ok-contents.ensures
-    ∙ (ap (λ (files : List File). contents_at files (map path_held c.as_slice-2.result.now)) (c.as_slice.ensures.value ∙ c.in_ok-files.ensures)
-    ∙ ap (λ (held : List HeldDocument). contents_at (map file_of o.files) (map path_held held)) c.as_slice-2.ensures) in
+    ∙ (ap (put_all ahead) (shown (map path_held c.as_slice.result.now))
+    ∙ ap (λ (held : List HeldDocument). contents_at (map file_of o.files) (map path_held held)) c.as_slice.ensures) in
     viewed o app c.in_ok-documents.documents c.new.result c.in_ok-contents.contents documents c.new.ensures contents

@@ -1,7 +1,8 @@
-use Rattle.std.proofs.Common.{◌<◌, List, ◌++◌, length, map, take, ap, sym, ◌∙◌, arith}
+use Rattle.std.proofs.Common.{◌<◌, List, ◌++◌, length, map, take, ap, refl, subst, sym, ◌∙◌, arith}
 use Rattle.app_trace.specs.Told.{item_told}
 use Rattle.app_world.specs.TraceItem.{TraceItem}
 use Rattle.app_world.specs.World.{items_of}
+use Rattle.named_paths.specs.OpenNumbers.{Cover}
 use Rattle.portal_model.specs.History.{run}
 use Rattle.portal_model.specs.Opening.{opened}
 use Rattle.portal_model.specs.State.{State}
@@ -12,7 +13,8 @@ use Rattle.history_trace.proofs.traced.replay_all.Goals as goal
 pub loop-place-init : goal.loop-place-init
 loop-place-init c = record {
   at = at-first c.args.opening.now c.args.portal.now.story c.requires.begins;
-  files_are = c.in_ok-files.ensures;
+  covered = λ seat n h. cc;
+  files_are = c.in_ok-files.ensures.placed (c.requires.started.files refl).placed;
   items_are = ap (map item_told) c.new-told.ensures;
 }
 
@@ -32,6 +34,11 @@ replay-requires-clause-room c =
 pub replay-requires-clause-files : goal.replay-requires-clause-files
 replay-requires-clause-files c = ap (λ (s : State). s.files) c.loop-place.invariant.at.state ∙ sym c.loop-place.invariant.files_are
 
+pub replay-requires-clause-covered : goal.replay-requires-clause-covered
+replay-requires-clause-covered c =
+    subst (λ (s : State). Cover c.loop-place.numbers s.handles) (sym c.loop-place.invariant.at.state)
+    c.loop-place.invariant.covered
+
 pub loop-place-preserved : goal.loop-place-preserved
 loop-place-preserved c =
     let h = c.args.history.now.entries in
@@ -42,6 +49,10 @@ loop-place-preserved c =
     let at = c.loop-place.invariant.at in
     record {
       at = at-next h i e there o c.loop-place.portal.story at c.replay.new.portal.story c.in_ok-replay-in-Some.ensures.goes;
+      covered =
+          subst (λ (s : State). Cover c.replay.new.numbers s.handles)
+          (ap (λ (s : State). after s e) at.state ∙ sym (run-next h i e there (opened o)))
+          c.in_ok-replay-in-Some.ensures.covered;
       files_are =
           c.in_ok-replay-in-Some.ensures.files
           ∙ (ap (λ (s : State). (after s e).files) at.state ∙ ap (λ (s : State). s.files) (sym (run-next h i e there (opened o))));

@@ -1,6 +1,6 @@
 use Rattle.std.proofs.Common.{◌≡◌, sym, ap, ◌∙◌, ℕ, drop, true, false}
 use Rattle.portal_base.specs.Names.{is_same, root}
-use Rattle.host_tree.proofs.NamesFound.{above-other, above-root, below-other, below-root}
+use Rattle.host_tree.proofs.NamesFound.{above-root, below-other, below-root}
 use Rattle.host_tree.proofs.files.behind_folder.Goals as goal
 
 pub returns-then-is_root : goal.returns-then-is_root

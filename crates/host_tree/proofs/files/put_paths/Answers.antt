@@ -1,4 +1,4 @@
-use Rattle.std.proofs.Common.{◌≡◌, ◌∙◌}
+use Rattle.std.proofs.Common.{◌∙◌}
 use Rattle.portal_base.specs.FolderNames.{put_path}
 use Rattle.host_tree.proofs.NamesFound.{put-next}
 use Rattle.host_tree.proofs.files.put_paths.Goals as goal

@@ -1,4 +1,4 @@
-use Rattle.std.proofs.Common.{sym, ap, ◌∙◌, List, ℕ, [], fold}
+use Rattle.std.proofs.Common.{sym, ap, ◌∙◌, List, [], fold}
 use Rattle.std.specs.Map.{keys_of}
 use Rattle.portal_base.specs.declared.files.File.{File}
 use Rattle.portal_base.specs.FolderNames.{names_in, put_path}

@@ -58,7 +58,7 @@ invariant_of-self-in-Err g c =
     let served = c.serve_add-served.new in
     let after = g.T.HostTree.is served.tree in
     let room = rw (c.as_slice.ensures) at c.in-Ok.ensures.room in
-    let kept = was-asked-keeps tree after c.in-Err.ensures.tree in
+    let kept = was-asked-keeps _ tree after c.in-Err.ensures.tree in
     let told = stays_told (g.K.Keeper.is k.keeper) (g.K.Keeper.is served.keeper) c.in-Err.ensures.keeper in
     let both = stands_over tree.began after.began k.opening k.history.entries k.history.limit k.documents k.rights k.applications k.connections k.handles tree.told after.told (g.K.Keeper.is k.keeper).told kept.0 kept.1 c.self.invariant.0 c.self.invariant.2 in
     rw (c.in-Err.ensures.documents, c.in-Err.ensures.rights, c.in-Err.ensures.applications, c.in-Err.ensures.connections, c.taken-taken.ensures.entries, c.taken-taken.ensures.limit, told) (
@@ -79,7 +79,7 @@ returns-in-Ok-served-clause-began g c =
 
 pub returns-in-Err-clause-began : goal.returns-in-Err-clause-began
 returns-in-Err-clause-began g c =
-    let kept = was-asked-keeps (g.T.HostTree.is c.self.inside.tree) (g.T.HostTree.is c.serve_add-served.new.tree) c.in-Err.ensures.tree in
+    let kept = was-asked-keeps _ (g.T.HostTree.is c.self.inside.tree) (g.T.HostTree.is c.serve_add-served.new.tree) c.in-Err.ensures.tree in
     rw (← c.self.view_is) kept.0
 
 pub returns-in-Ok-served-clause-ok : goal.returns-in-Ok-served-clause-ok
@@ -141,5 +141,5 @@ returns-in-Ok-served-clause-failure g c =
 
 pub returns-in-Err-clause-err : goal.returns-in-Err-clause-err
 returns-in-Err-clause-err g c =
-    let kept = was-asked-keeps (g.T.HostTree.is c.self.inside.tree) (g.T.HostTree.is c.serve_add-served.new.tree) c.in-Err.ensures.tree in
-    spends-add _ _ _ _ _ _ _ refl refl refl (rw (← c.self.view_is) c.in-Err.ensures.tree) (rw (← c.self.view_is) c.in-Err.ensures.keeper) (search rules) (rw (← c.self.view_is) c.in-Err.ensures.words) (rw (← c.self.view_is) kept.0) (search rules) (search rules)
+    let kept = was-asked-keeps _ (g.T.HostTree.is c.self.inside.tree) (g.T.HostTree.is c.serve_add-served.new.tree) c.in-Err.ensures.tree in
+    spends-add _ _ _ _ _ _ _ c.args.add refl (rw (← c.self.view_is) c.in-Err.ensures.tree) (rw (← c.self.view_is) c.in-Err.ensures.keeper) (search rules) (rw (← c.self.view_is) c.in-Err.ensures.words) (rw (← c.self.view_is) kept.0) (search rules) (search rules)

@@ -1,7 +1,7 @@
 use Rattle.std.proofs.Common.{ℕ, refl}
 use Rattle.std.proofs.lemmas.Result.{IfOk-weaker}
 use Rattle.portal_model.specs.Seated.{rises_by}
-use Rattle.portal_core.proofs.Counting.{as_before, as_before_err, err_counted, ok_counted, on_err, on_ok, the_same}
+use Rattle.portal_core.proofs.Counting.{as_before_err, err_counted, ok_counted, on_err, on_ok, only_counts}
 use Rattle.portal_core.proofs.StrictAnswers.{strict-follows}
 use Rattle.portal_core.proofs.portal.Portal.ask.Goals as goal
 
@@ -23,7 +23,7 @@ pub returns-clause-unasked : goal.returns-clause-unasked
 returns-clause-unasked g c h = as_before_err c.answer-answered.result c.args.self.now c.answer-answered.new.self c.count_refusals.new.self c.refusals_after.result c.count_refusals.ensures (c.answer-answered.ensures.unasked h)
 
 pub returns-clause-nothing : goal.returns-clause-nothing
-returns-clause-nothing g c h = as_before c.args.self.now c.answer-answered.new.self c.count_refusals.new.self c.refusals_after.result c.count_refusals.ensures (the_same c.args.self.now c.answer-answered.new.self (c.answer-answered.ensures.nothing h))
+returns-clause-nothing g c h = only_counts c.args.self.now c.answer-answered.new.self c.count_refusals.new.self c.refusals_after.result c.count_refusals.ensures (c.answer-answered.ensures.nothing h)
 
 pub returns-clause-uncounted : goal.returns-clause-uncounted
 returns-clause-uncounted g c = rw c.count_refusals.ensures (on_ok c.answer-answered.result c.refusals_after.result c.refusals_after.result c.refusals-before.result c.args.self.now.refusals refl c.refusals-before.ensures c.refusals_after.ensures.ok)
@@ -45,6 +45,9 @@ returns-clause-opening g c = rw c.count_refusals.ensures c.answer-answered.ensur
 
 pub returns-clause-spare : goal.returns-clause-spare
 returns-clause-spare g c = rw c.count_refusals.ensures c.answer-answered.ensures.spare
+
+pub returns-clause-remains : goal.returns-clause-remains
+returns-clause-remains g c = rw c.count_refusals.ensures c.answer-answered.ensures.remains
 
 pub returns-clause-freed : goal.returns-clause-freed
 returns-clause-freed g c = rw c.count_refusals.ensures c.answer-answered.ensures.freed

@@ -1,0 +1,220 @@
+-- The files of an opening state, each put at its place.
+use Rattle.std.proofs.Common.{◌≡◌, ℕ, ◌+◌, ◌<◌, List, [], ◌∷◌, ◌++◌, length, map, take, drop, get_or, Bool, true, false, ◌||◌, cond, Option, Some, None, refl, sym, ap, subst, ◌∙◌}
+use Rattle.std.proofs.lemmas.List.{append_assoc, map-append, take-append-drop}
+use Rattle.std.proofs.lemmas.List.Folds.{list_any-append}
+use Rattle.std.specs.List.{AllByRecursion, IsDistinct, list_any}
+use Rattle.std.specs.List.Sorted.{IsStrictlySortedBy}
+use Rattle.std.specs.Ordering.{is_lt, ordering_reverse}
+use Rattle.std.specs.declared.cmp.Ordering.TheVariants.{Less}
+use Rattle.host_tree.proofs.Entries.{same-is, same-itself}
+use Rattle.portal_base.specs.Content.{file_at, is_above, is_folder, has_room, content_of, paths_of}
+use Rattle.portal_base.specs.FileChanges.{put_file}
+use Rattle.portal_base.specs.Names.{is_same, parent_of, root}
+use Rattle.portal_base.specs.PathOrder.{path_order}
+use Rattle.portal_base.specs.PathOrders.{path_order_total}
+use Rattle.portal_base.specs.declared.files.File.{File}
+use Rattle.portal_base.proofs.PathsAbove.{any-paths, any-put}
+use Rattle.portal_model.specs.declared.opening.FileItem.{FileItem}
+use Rattle.portal_model.specs.Opening.{file_of}
+use Rattle.app_world.specs.View.{PathContent, contents_at, path_content}
+use Rattle.document_records.proofs.Loops.{one_more}
+use Rattle.app_trace.specs.Contents.{ShowAlike}
+
+-- ---- one file more, at its place or behind the others
+
+found-put : (f : File) (fs : List File) (p : List ℕ) → file_at fs f.path ≡ None →
+    file_at (put_file f fs) p ≡ cond (is_same f.path p) (Some f) (file_at fs p)
+found-put f [] p e = refl
+found-put f (g ∷ gs) p e =
+    step (is_lt (path_order f.path g.path)) (is_same g.path f.path) refl e (found-put f gs p)
+  where
+    apart : (a b : Bool) → is_same g.path p ≡ a → is_same f.path p ≡ b →
+        is_same g.path f.path ≡ false →
+        cond a (Some g) (cond b (Some f) (file_at gs p))
+        ≡ cond b (Some f) (cond a (Some g) (file_at gs p))
+    apart true true k l d =
+        let both : is_same g.path f.path ≡ true =
+        (λ i. is_same g.path (same-is f.path p l i)) ∙ k in
+        let no : true ≡ false = sym both ∙ d in
+        absurd (cc)
+    apart true false k l d = refl
+    apart false b k l d = refl
+
+    step : (b c : Bool) → is_same g.path f.path ≡ c → cond c (Some g) (file_at gs f.path) ≡ None →
+        (file_at gs f.path ≡ None →
+        file_at (put_file f gs) p ≡ cond (is_same f.path p) (Some f) (file_at gs p)) →
+        file_at (cond b (f ∷ g ∷ gs) (g ∷ put_file f gs)) p
+        ≡ cond (is_same f.path p) (Some f) (cond (is_same g.path p) (Some g) (file_at gs p))
+    step b true d h more = absurd (cc)
+    step true false d h more = refl
+    step false false d h more =
+        ap (λ (o : Option File). cond (is_same g.path p) (Some g) o) (more h)
+        ∙ apart (is_same g.path p) (is_same f.path p) refl refl d
+
+found-behind : (f : File) (fs : List File) (p : List ℕ) → file_at fs f.path ≡ None →
+    file_at (fs ++ f ∷ []) p ≡ cond (is_same f.path p) (Some f) (file_at fs p)
+found-behind f [] p e = refl
+found-behind f (g ∷ gs) p e = step (is_same g.path f.path) refl e (found-behind f gs p)
+  where
+    apart : (a b : Bool) → is_same g.path p ≡ a → is_same f.path p ≡ b →
+        is_same g.path f.path ≡ false →
+        cond a (Some g) (cond b (Some f) (file_at gs p))
+        ≡ cond b (Some f) (cond a (Some g) (file_at gs p))
+    apart true true k l d =
+        let both : is_same g.path f.path ≡ true =
+        (λ i. is_same g.path (same-is f.path p l i)) ∙ k in
+        let no : true ≡ false = sym both ∙ d in
+        absurd (cc)
+    apart true false k l d = refl
+    apart false b k l d = refl
+
+    step : (c : Bool) → is_same g.path f.path ≡ c → cond c (Some g) (file_at gs f.path) ≡ None →
+        (file_at gs f.path ≡ None →
+        file_at (gs ++ f ∷ []) p ≡ cond (is_same f.path p) (Some f) (file_at gs p)) →
+        cond (is_same g.path p) (Some g) (file_at (gs ++ f ∷ []) p)
+        ≡ cond (is_same f.path p) (Some f) (cond (is_same g.path p) (Some g) (file_at gs p))
+    step true d h more = absurd (cc)
+    step false d h more =
+        ap (λ (o : Option File). cond (is_same g.path p) (Some g) o) (more h)
+        ∙ apart (is_same g.path p) (is_same f.path p) refl refl d
+
+-- ---- files in order
+
+all-front : (P : List ℕ → Type 0) (ps qs : List (List ℕ)) → AllByRecursion P (ps ++ qs) →
+    AllByRecursion P ps
+all-front P [] qs h = tt
+all-front P (p ∷ ps) qs h = (h.0, all-front P ps qs h.1)
+
+sorted-front : (ps qs : List (List ℕ)) → IsStrictlySortedBy path_order (ps ++ qs) →
+    IsStrictlySortedBy path_order ps
+unfolding IsStrictlySortedBy
+sorted-front [] qs h = tt
+sorted-front (p ∷ ps) qs h =
+    (all-front (λ k. path_order p k ≡ Less) ps qs h.0, sorted-front ps qs h.1)
+
+of-last : (P : List ℕ → Type 0) (ps : List (List ℕ)) (q : List ℕ) →
+    AllByRecursion P (ps ++ q ∷ []) → P q
+of-last P [] q h = h.0
+of-last P (p ∷ ps) q h = of-last P ps q h.1
+
+ahead-of-last : (ps : List (List ℕ)) (q : List ℕ) →
+    IsStrictlySortedBy path_order (ps ++ q ∷ []) → AllByRecursion (λ p. path_order p q ≡ Less) ps
+unfolding IsStrictlySortedBy
+ahead-of-last [] q h = tt
+ahead-of-last (p ∷ ps) q h = (of-last (λ k. path_order p k ≡ Less) ps q h.0, ahead-of-last ps q h.1)
+
+put-last : (f : File) (fs : List File) →
+    AllByRecursion (λ p. path_order p f.path ≡ Less) (paths_of fs) → put_file f fs ≡ fs ++ f ∷ []
+put-last f [] h = refl
+put-last f (g ∷ gs) h =
+    let later : is_lt (path_order f.path g.path) ≡ false =
+    ap is_lt (path_order_total.antisymm f.path g.path ∙ ap ordering_reverse h.0) in
+    ap (λ (b : Bool). cond b (f ∷ g ∷ gs) (g ∷ put_file f gs)) later
+    ∙ ap (λ (xs : List File). g ∷ xs) (put-last f gs h.1)
+
+-- ---- the files so far
+
+abbrev listed : List FileItem → List File
+listed items = map file_of items
+
+pub record ArePut (items : List FileItem) (files : List File) : Type 0 where
+  pub found : (p : List ℕ) → file_at files p ≡ file_at (listed items) p
+  pub any : (q : List ℕ → Bool) → list_any q (paths_of files) ≡ list_any q (paths_of (listed items))
+  pub placed : IsStrictlySortedBy path_order (paths_of (listed items)) → files ≡ listed items
+
+pub none-put : ArePut [] []
+none-put = record { found = λ p. refl; any = λ q. refl; placed = λ h. refl }
+
+turned : (a b : Bool) → (a || b) ≡ (b || (a || false))
+turned true true = refl
+turned true false = refl
+turned false true = refl
+turned false false = refl
+
+one-more : (items : List FileItem) (x : FileItem) (files : List File) → ArePut items files →
+    file_at files x.path ≡ None → ArePut (items ++ x ∷ []) (put_file (file_of x) files)
+one-more items x files put fresh = record {
+  found = λ p.
+      found-put f files p fresh
+      ∙ (ap (λ (o : Option File). cond (is_same f.path p) (Some f) o) (put.found p)
+      ∙ (sym (found-behind f (listed items) p (sym (put.found f.path) ∙ fresh))
+      ∙ ap (λ (fs : List File). file_at fs p) (sym joined)));
+  any = λ q.
+      any-put q f files
+      ∙ (ap (λ (b : Bool). q f.path || b) (put.any q)
+      ∙ (turned (q f.path) (list_any q (paths_of (listed items)))
+      ∙ (sym (list_any-append q (paths_of (listed items)) (f.path ∷ []))
+      ∙ ap (list_any q) (sym paths-joined))));
+  placed = λ h.
+      let sorted : IsStrictlySortedBy path_order (paths_of (listed items) ++ f.path ∷ []) =
+      subst (IsStrictlySortedBy path_order) paths-joined h in
+      ap (put_file f) (put.placed (sorted-front (paths_of (listed items)) (f.path ∷ []) sorted))
+      ∙ (put-last f (listed items) (ahead-of-last (paths_of (listed items)) f.path sorted)
+      ∙ sym joined);
+}
+  where
+    f : File
+    f = file_of x
+
+    joined : listed (items ++ x ∷ []) ≡ listed items ++ f ∷ []
+    joined = map-append file_of items (x ∷ [])
+
+    paths-joined : paths_of (listed (items ++ x ∷ [])) ≡ paths_of (listed items) ++ f.path ∷ []
+    paths-joined = ap paths_of joined ∙ map-append (λ (g : File). g.path) (listed items) (f ∷ [])
+
+-- ---- the file at a place
+
+among : (xs : List FileItem) (x : FileItem) (ys : List FileItem) → (p : List ℕ) →
+    AllByRecursion (λ n. is_same p n ≡ false) (map (λ (f : File). f.path) (listed (xs ++ x ∷ ys))) →
+    is_same p x.path ≡ false
+among [] x ys p h = h.0
+among (g ∷ gs) x ys p h = among gs x ys p h.1
+
+distinct-front : (xs : List FileItem) (x : FileItem) (ys : List FileItem) →
+    IsDistinct is_same (map (λ (f : File). f.path) (listed (xs ++ x ∷ ys))) →
+    file_at (listed xs) x.path ≡ None
+unfolding IsDistinct
+distinct-front [] x ys h = refl
+distinct-front (g ∷ gs) x ys h =
+    ap (λ (b : Bool). cond b (Some (file_of g)) (file_at (listed gs) x.path)) (among gs x ys g.path h.0)
+    ∙ distinct-front gs x ys h.1
+
+module _ (items : List FileItem)
+    (differ : IsDistinct is_same (map (λ (f : File). f.path) (listed items))) (i : ℕ) (x : FileItem)
+    (inside : i < length items) (is : x ≡ get_or items i x) (files : List File)
+    (put : ArePut (take i items) files) where
+  whole : items ≡ take i items ++ x ∷ drop (i + 1) items
+  whole =
+      sym (take-append-drop (i + 1) items)
+      ∙ (ap (λ (xs : List FileItem). xs ++ drop (i + 1) items) (one_more items i x inside is)
+      ∙ append_assoc (take i items) (x ∷ []) (drop (i + 1) items))
+
+  pub fresh-next : file_at files x.path ≡ None
+  fresh-next = put.found x.path ∙ distinct-front (take i items) x (drop (i + 1) items)
+      (subst (λ (xs : List FileItem). IsDistinct is_same (map (λ (f : File). f.path) (listed xs)))
+      whole differ)
+
+  pub put-next : ArePut (take (i + 1) items) (put_file (file_of x) files)
+  put-next = subst (λ (xs : List FileItem). ArePut xs (put_file (file_of x) files))
+      (sym (one_more items i x inside is)) (one-more (take i items) x files put fresh-next)
+
+-- ---- what they show
+
+folder-alike : (fs gs : List File) →
+    ((q : List ℕ → Bool) → list_any q (paths_of fs) ≡ list_any q (paths_of gs)) → (p : List ℕ) →
+    is_folder fs p ≡ is_folder gs p
+folder-alike fs gs any p = ap (λ (b : Bool). is_same p root || b)
+    (any-paths (is_above p) fs ∙ (any (is_above p) ∙ sym (any-paths (is_above p) gs)))
+
+pub alike : (items : List FileItem) (files : List File) → ArePut items files →
+    ShowAlike files (listed items)
+alike items files put p = λ i. content_of (put.found p i)
+    (folder-alike files (listed items) put.any p i)
+    (folder-alike files (listed items) put.any (parent_of p) i)
+
+-- views over files that show the same have the same contents
+pub contents-alike : (fs gs : List File) → ShowAlike fs gs → (ps : List (List ℕ)) →
+    map (path_content fs) ps ≡ map (path_content gs) ps
+contents-alike fs gs h [] = refl
+contents-alike fs gs h (p ∷ ps) =
+    λ i. record { path = p; content = h p i } ∷ contents-alike fs gs h ps i

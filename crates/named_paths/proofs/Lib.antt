@@ -1,0 +1,4 @@
+pub mod OpenPaths
+pub mod PathsHeld
+pub mod KeptNumbers
+pub mod StillOpen

@@ -1,0 +1,3 @@
+pub mod OpenNumbers
+pub mod Named
+pub mod Seated

@@ -1,0 +1,26 @@
+-- The paths that the open files of connections name, by the numbers of their handles.
+use Rattle.std.specs.Prelude.{ℕ, List, Bool, false, ◌&&◌, Option, Some, None}
+use Rattle.std.specs.List.{list_any}
+use Rattle.portal_base.specs.Names.{is_same}
+use Rattle.portal_model.specs.declared.handle.Handle.{Handle}
+use Rattle.portal_model.specs.declared.state.Connection.{Connection}
+use Rattle.portal_model.specs.State.{is_app}
+use Rattle.open_handles.specs.Opened.{Opened, handle_of, opened_on}
+use Rattle.named_paths.specs.OpenNumbers.{OpenNumbers, numbers_of}
+
+-- a file of this path is open
+abbrev pub is_open_at : List ℕ → Option Handle → Bool
+is_open_at path None = false
+is_open_at path (Some (Handle.File name node document strict read write)) = is_same name.path path
+is_open_at path (Some (Handle.Folder node names)) = false
+
+-- on a seat, by one of the numbers that are kept of it
+abbrev pub has_open : OpenNumbers → List (ℕ × Opened) → List ℕ → ℕ → Bool
+has_open numbers seats path seat =
+    list_any (λ n. is_open_at path (handle_of (opened_on seats seat) n)) (numbers_of numbers seat)
+
+-- on a connection of the application
+abbrev pub any_has_open :
+    OpenNumbers → List (ℕ × Opened) → List ℕ → List ℕ → List Connection → Bool
+any_has_open numbers seats app path connections =
+    list_any (λ c. is_app app c.who && has_open numbers seats path c.seat) connections

@@ -1,0 +1,127 @@
+//! Which paths a view names.
+
+ghost use Rattle.std.specs.Prelude.{◌≡◌, ◌&&◌, ◌||◌, map, option_copied};
+ghost use Rattle.std.specs.List.{list_any};
+ghost use Rattle.app_world.specs.View.{held_documents, is_among};
+ghost use Rattle.open_handles.specs.Opened.{handle_of, opened_on};
+ghost use Rattle.portal_base.specs.Names.{is_same};
+ghost use Rattle.portal_model.specs.State.{held_of, is_app};
+ghost use Rattle.rights_rule.specs.Rights.{holds_any};
+ghost use Rattle.named_paths.specs.Named.{any_has_open, has_open as does_have_open, is_open_at as is_file_at};
+
+use crate::numbers::OpenNumbers;
+use document_records::{Documents, Grants};
+use open_handles::Handles;
+use portal_base::names::{AppId, HostPath};
+use portal_base::who::Who;
+use portal_model::handle::Handle;
+use portal_model::state::{Connection, Document};
+
+/// Says whether a document in which the application has a right, or an open file
+/// of its connections, has this path. The connections wait for nothing, and these
+/// are the numbers of what they have open.
+pub fn names(
+    documents: &Documents,
+    rights: &Grants,
+    handles: &Handles,
+    numbers: &OpenNumbers,
+    connections: &[Connection],
+    app: &AppId,
+    path: &HostPath,
+) -> bool
+    ensures { result ≡ (is_among (map (λ d. d.document.path)
+        (held_documents (held_of rights.now app.now) documents.now.live)) path.now
+        || any_has_open numbers.now handles.now.seats app.now path.now connections.now) }
+{
+    holds_path(documents, rights, app, path) || opens_path(handles, numbers, connections, app, path)
+}
+
+/// Says whether a document in which the application has a right has this path.
+fn holds_path(documents: &Documents, rights: &Grants, app: &AppId, path: &HostPath) -> bool
+    ensures { result ≡ is_among (map (λ d. d.document.path)
+        (held_documents (held_of rights.now app.now) documents.now.live)) path.now }
+{
+    any_holds(documents.live(), rights, app, path)
+}
+
+/// The same of a list of documents.
+fn any_holds(documents: &[Document], rights: &Grants, app: &AppId, path: &HostPath) -> bool
+    ensures { result ≡ list_any
+        (λ d. holds_any (held_of rights.now app.now d.id.number) && is_same d.path path.now)
+        documents.now }
+{
+    documents
+        .iter()
+        .any(|document| holds(document, rights, app, path))
+}
+
+/// The same of one document.
+fn holds(document: &Document, rights: &Grants, app: &AppId, path: &HostPath) -> bool
+    ensures { result ≡ (holds_any (held_of rights.now app.now document.now.id.number)
+        && is_same document.now.path path.now) }
+{
+    !rights.rights(app, document.id).is_empty() && document.path == *path
+}
+
+/// Says whether a connection of the application has a file of this path open.
+fn opens_path(
+    handles: &Handles,
+    numbers: &OpenNumbers,
+    connections: &[Connection],
+    app: &AppId,
+    path: &HostPath,
+) -> bool
+    ensures { result
+        ≡ any_has_open numbers.now handles.now.seats app.now path.now connections.now }
+{
+    connections.iter().any(|connection| is_app(&connection.who, app)
+        && has_open(handles, numbers, connection.seat, path))
+}
+
+/// Says whether a caller is the application.
+pub fn is_app(who: &Who, app: &AppId) -> bool
+    ensures { result ≡ is_app app.now who.now }
+{
+    match who {
+        Who::Host => false,
+        Who::App(name) => name == app,
+    }
+}
+
+/// Says whether a seat has a file of this path open, by one of its numbers.
+fn has_open(handles: &Handles, numbers: &OpenNumbers, seat: u32, path: &HostPath) -> bool
+    ensures { result ≡ does_have_open numbers.now handles.now.seats path.now seat }
+{
+    match numbers.get(&seat) {
+        Some(known) => any_is_open(handles, seat, known.as_slice(), path),
+        None => false,
+    }
+}
+
+/// Says whether a file of this path is open on a seat by one of these numbers.
+fn any_is_open(handles: &Handles, seat: u32, known: &[u64], path: &HostPath) -> bool
+    ensures { result ≡ list_any
+        (λ fh. is_file_at path.now (handle_of (opened_on handles.now.seats seat) fh)) known.now }
+{
+    known
+        .iter()
+        .any(|number| is_open_by(handles, seat, *number, path))
+}
+
+/// Says whether a file of this path is open on a seat by a number.
+fn is_open_by(handles: &Handles, seat: u32, number: u64, path: &HostPath) -> bool
+    ensures { result
+        ≡ is_file_at path.now (handle_of (opened_on handles.now.seats seat) number) }
+{
+    is_open_at(handles.get(seat, number), path)
+}
+
+/// Says whether an open handle is that of a file of this path.
+fn is_open_at(handle: Option<&Handle>, path: &HostPath) -> bool
+    ensures { result ≡ is_file_at path.now (option_copied handle.entry) }
+{
+    match handle {
+        Some(Handle::File { name, .. }) => name.path == *path,
+        _ => false,
+    }
+}

@@ -1,0 +1,24 @@
+use Rattle.std.proofs.Common.{◌≡◌, [], sym, ap, ◌∙◌, subst}
+use Rattle.session.proofs.Dues.{became_err, became_none, became_ok, can_tell_none, can_tell_refused, can_tell_reply}
+use Rattle.session.proofs.serve.ask.Goals as goal
+
+pub returns-in-None-clause-became : goal.returns-in-None-clause-became
+returns-in-None-clause-became g c = rw c.in-None.is (became_none (g.D.Desk.seated c.args.desk.now))
+
+pub returns-in-None-clause-fits : goal.returns-in-None-clause-fits
+returns-in-None-clause-fits g c client act may asked = can_tell_none client act may
+
+pub returns-in-Ok-clause-became : goal.returns-in-Ok-clause-became
+returns-in-Ok-clause-became g c =
+    rw c.in-Some.is (became_ok (g.D.Desk.seated c.args.desk.now) (g.D.Desk.seated c.ask.new.self) c.in-Some.request c.in-Ok.reply c.in-Ok.ensures.asks)
+
+pub returns-in-Ok-clause-fits : goal.returns-in-Ok-clause-fits
+returns-in-Ok-clause-fits g c client act may asked =
+    can_tell_reply client act c.in-Some.request (g.D.Desk.seated c.args.desk.now) (g.D.Desk.seated c.ask.new.self) c.in-Ok.reply may (rw c.in-Some.is at asked) c.in-Ok.ensures.asks c.known.ensures
+
+pub returns-in-Err-clause-became : goal.returns-in-Err-clause-became
+returns-in-Err-clause-became g c =
+    rw c.in-Some.is (became_err (g.D.Desk.seated c.args.desk.now) (g.D.Desk.seated c.ask.new.self) c.in-Some.request c.in-Err.refused c.in-Err.ensures.asks)
+
+pub returns-in-Err-clause-fits : goal.returns-in-Err-clause-fits
+returns-in-Err-clause-fits g c client act may asked = can_tell_refused client act c.in-Err.refused may

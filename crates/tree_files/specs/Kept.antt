@@ -1,0 +1,24 @@
+-- The files of a map by path.
+use Rattle.std.specs.Prelude.{ℕ, List, [], ◌∷◌, map}
+use Rattle.portal_base.specs.declared.files.File.{File}
+use Rattle.portal_base.specs.FileChanges.{cut_to, overlaid}
+use Rattle.tree_files.specs.declared.kept.KeptFile.{KeptFile}
+
+-- the file of this path of which this is kept
+abbrev pub file_kept : List ℕ → KeptFile → File
+file_kept path k = record { path = path; generation = 0; bytes = k.bytes; moment = k.moment }
+
+abbrev pub file_of : List ℕ × KeptFile → File
+file_of e = file_kept e.0 e.1
+
+abbrev pub files_of : List (List ℕ × KeptFile) → List File
+files_of entries = map file_of entries
+
+-- a write of no bytes changes nothing, the moment neither
+abbrev pub kept_written : ℕ → List ℕ → ℕ → KeptFile → KeptFile
+kept_written offset [] moment k = k
+kept_written offset (b ∷ bs) moment k =
+    record { bytes = overlaid k.bytes offset (b ∷ bs); moment = moment }
+
+abbrev pub kept_resized : ℕ → ℕ → KeptFile → KeptFile
+kept_resized size moment k = record { bytes = cut_to size k.bytes; moment = moment }

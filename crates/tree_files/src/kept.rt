@@ -1,0 +1,65 @@
+//! What is kept of a file, beside its path.
+
+ghost use Rattle.std.specs.Prelude.{◌≡◌, OnErr, OnOk};
+ghost use Rattle.portal_base.specs.FileChanges.{overlaid};
+ghost use Rattle.tree_files.specs.Kept.{kept_resized, kept_written};
+
+use portal_base::list::ByteList;
+use portal_base::memory::WantOfMemory;
+
+/// What is kept of a file, whose generation is 0: no file of a tree that tells its
+/// files ever goes, so each is the first of its path.
+#[derive(Drop)]
+pub struct KeptFile {
+    /// Its bytes.
+    pub bytes: ByteList,
+    /// When it changed last, in seconds.
+    pub moment: u64,
+}
+
+impl KeptFile {
+    /// Writes over the bytes from an offset on, or changes nothing.
+    pub(crate) fn write(
+        &mut self,
+        offset: u64,
+        content: &[u8],
+        now: u64,
+    ) -> Result<(), WantOfMemory>
+        ensures ok { OnOk result (self.new ≡ kept_written offset content.now now self.old) }
+        ensures err { OnErr result (self.new ≡ self.old) }
+    {
+        // As POSIX says of `write`: without bytes the moment stays too.
+        if content.is_empty() {
+            return Ok(());
+        }
+        overlay(&mut self.bytes, offset, content)?;
+        self.moment = now;
+        Ok(())
+    }
+
+    /// Cuts or fills the bytes to a length, or changes nothing.
+    pub(crate) fn set_len(&mut self, size: u64, now: u64) -> Result<(), WantOfMemory>
+        ensures ok { OnOk result (self.new ≡ kept_resized size now self.old) }
+        ensures err { OnErr result (self.new ≡ self.old) }
+    {
+        self.bytes.resize(size as usize, 0)?;
+        self.moment = now;
+        Ok(())
+    }
+}
+
+/// Writes over bytes from an offset on; what is missing ahead of it is zero.
+fn overlay(bytes: &mut ByteList, offset: u64, content: &[u8]) -> Result<(), WantOfMemory>
+    ensures ok { OnOk result (bytes.new ≡ overlaid bytes.old offset content.now) }
+    ensures err { OnErr result (bytes.new ≡ bytes.old) }
+{
+    let start = offset as usize;
+    let Some(end) = start.checked_add(content.len()) else {
+        return Err(WantOfMemory);
+    };
+    if end > bytes.len() {
+        bytes.resize(end, 0)?;
+    }
+    bytes.overwrite(start, content);
+    Ok(())
+}
