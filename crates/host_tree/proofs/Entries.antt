@@ -331,23 +331,24 @@ stored-does name stored change es fs v w done.Memory keeps l s e d = same-files 
 pub set-replaced : (p : List ℕ) (v w : Stored) (es : List (List ℕ × Stored)) → lookup (is_at (path_order p)) es ≡ Some v → IsStrictlySortedBy path_order (keys_of es) → files_of (set_value (is_at (path_order p)) es w) ≡ replaced p (file_of (p, w)) (files_of es)
 unfolding IsStrictlySortedBy
 set-replaced p v w [] l s = refl
-set-replaced p v w (e ∷ es) l s = step (is_at (path_order p) e.0) refl l
+set-replaced p v w (e ∷ es) l s = step (is_at (path_order p) e.0) refl l (λ k. set-replaced p v w es k s.1)
   where
     others : (gs : List (List ℕ × Stored)) → AllByRecursion (λ k. path_order p k ≡ Less) (keys_of gs) → files_of gs ≡ replaced p (file_of (p, w)) (files_of gs)
     others [] h = refl
     others (g ∷ gs) h = λ i. cond (sym (apart-key p g.0 h.0) i) (file_of (p, w)) (file_of g) ∷ others gs h.1 i
 
     step : (b : Bool) → is_at (path_order p) e.0 ≡ b → cond b (Some e.1) (lookup (is_at (path_order p)) es) ≡ Some v
+        → (lookup (is_at (path_order p)) es ≡ Some v → files_of (set_value (is_at (path_order p)) es w) ≡ replaced p (file_of (p, w)) (files_of es))
         → files_of (cond b ((e.0, w) ∷ es) (e ∷ set_value (is_at (path_order p)) es w)) ≡ cond (is_same e.0 p) (file_of (p, w)) (file_of e) ∷ replaced p (file_of (p, w)) (files_of es)
-    step true h k =
+    step true h k more =
         let same : is_same e.0 p ≡ true = same-key p e.0 ∙ h in
         let rest : files_of es ≡ replaced p (file_of (p, w)) (files_of es) = others es (subst (λ (q : List ℕ). AllByRecursion (λ k. path_order q k ≡ Less) (keys_of es)) (same-is e.0 p same) s.0) in
         let one : file_of (e.0, w) ≡ cond (is_same e.0 p) (file_of (p, w)) (file_of e) =
         ap (λ (q : List ℕ). file_of (q, w)) (same-is e.0 p same) ∙ ap (λ (b : Bool). cond b (file_of (p, w)) (file_of e)) (sym same) in
         λ i. one i ∷ rest i
-    step false h k =
+    step false h k more =
         let one : file_of e ≡ cond (is_same e.0 p) (file_of (p, w)) (file_of e) = ap (λ (b : Bool). cond b (file_of (p, w)) (file_of e)) (sym (same-key p e.0 ∙ h)) in
-        let rest = set-replaced p v w es k s.1 in
+        let rest = more k in
         λ i. one i ∷ rest i
 
 pub keeps-written : (offset : ℕ) (content : List ℕ) (moment : ℕ) (k : List ℕ) (s : Stored) → file_of (k, stored_written offset content moment s) ≡ written offset content moment (file_of (k, s))

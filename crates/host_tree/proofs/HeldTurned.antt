@@ -17,11 +17,11 @@ use Rattle.host_tree.proofs.Entries.{same-is, same-itself}
 -- where no file has the path, all stay
 replaced-none : (p : List ℕ) (f : File) (fs : List File) → file_at fs p ≡ None → replaced p f fs ≡ fs
 replaced-none p f [] e = refl
-replaced-none p f (g ∷ gs) e = step (is_same g.path p) e
+replaced-none p f (g ∷ gs) e = step (is_same g.path p) e (λ k. replaced-none p f gs k)
   where
-    step : (b : Bool) → cond b (Some g) (file_at gs p) ≡ None → cond b f g ∷ replaced p f gs ≡ g ∷ gs
-    step true k = absurd (cc)
-    step false k = ap (λ (hs : List File). g ∷ hs) (replaced-none p f gs k)
+    step : (b : Bool) → cond b (Some g) (file_at gs p) ≡ None → (file_at gs p ≡ None → replaced p f gs ≡ gs) → cond b f g ∷ replaced p f gs ≡ g ∷ gs
+    step true k more = absurd (cc)
+    step false k more = ap (λ (hs : List File). g ∷ hs) (more k)
 
 -- another in its place is there in its stead
 replaced-again : (p : List ℕ) (f g : File) (fs : List File) → is_same g.path p ≡ true → replaced p f (replaced p g fs) ≡ replaced p f fs
@@ -45,7 +45,7 @@ has-replaced p g (h ∷ hs) e = step (is_same h.path p) refl (has-replaced p g h
 -- a new file that another takes the place of
 replaced-put : (p : List ℕ) (f g : File) (fs : List File) → f.path ≡ p → g.path ≡ p → file_at fs p ≡ None → replaced p f (put_file g fs) ≡ put_file f fs
 replaced-put p f g [] a b e = ap (λ (c : Bool). cond c f g ∷ []) (ap (λ (q : List ℕ). is_same q p) b ∙ same-itself p)
-replaced-put p f g (h ∷ hs) a b e = step (is_lt (path_order g.path h.path)) refl (is_same h.path p) e
+replaced-put p f g (h ∷ hs) a b e = step (is_lt (path_order g.path h.path)) refl (is_same h.path p) e (λ m. replaced-put p f g hs a b m)
   where
     same : is_same g.path p ≡ true
     same = ap (λ (q : List ℕ). is_same q p) b ∙ same-itself p
@@ -54,13 +54,14 @@ replaced-put p f g (h ∷ hs) a b e = step (is_lt (path_order g.path h.path)) re
     place = ap (λ (q : List ℕ). is_lt (path_order q h.path)) (b ∙ sym a)
 
     step : (c : Bool) → is_lt (path_order g.path h.path) ≡ c → (d : Bool) → cond d (Some h) (file_at hs p) ≡ None
+        → (file_at hs p ≡ None → replaced p f (put_file g hs) ≡ put_file f hs)
         → replaced p f (cond c (g ∷ h ∷ hs) (h ∷ put_file g hs)) ≡ cond (is_lt (path_order f.path h.path)) (f ∷ h ∷ hs) (h ∷ put_file f hs)
-    step c k true m = absurd (cc)
-    step true k false m =
+    step c k true m more = absurd (cc)
+    step true k false m more =
         (λ i. cond (same i) f g ∷ replaced-none p f (h ∷ hs) e i)
         ∙ ap (λ (x : Bool). cond x (f ∷ h ∷ hs) (h ∷ put_file f hs)) (sym (sym place ∙ k))
-    step false k false m =
-        (λ i. first i ∷ replaced-put p f g hs a b m i)
+    step false k false m more =
+        (λ i. first i ∷ more m i)
         ∙ ap (λ (x : Bool). cond x (f ∷ h ∷ hs) (h ∷ put_file f hs)) (sym (sym place ∙ k))
       where
         other : (d : Bool) → is_same h.path p ≡ d → cond d (Some h) (file_at hs p) ≡ None → d ≡ false
@@ -87,21 +88,21 @@ has-put-file f (g ∷ gs) = step (is_lt (path_order f.path g.path)) (has-put-fil
 
 found-path : (p : List ℕ) (fs : List File) (f : File) → file_at fs p ≡ Some f → f.path ≡ p
 found-path p [] f e = absurd (cc)
-found-path p (g ∷ gs) f e = step (is_same g.path p) refl e
+found-path p (g ∷ gs) f e = step (is_same g.path p) refl e (λ m. found-path p gs f m)
   where
-    step : (b : Bool) → is_same g.path p ≡ b → cond b (Some g) (file_at gs p) ≡ Some f → f.path ≡ p
-    step true k m = let same : g ≡ f = cc in ap (λ (x : File). x.path) (sym same) ∙ same-is g.path p k
-    step false k m = found-path p gs f m
+    step : (b : Bool) → is_same g.path p ≡ b → cond b (Some g) (file_at gs p) ≡ Some f → (file_at gs p ≡ Some f → f.path ≡ p) → f.path ≡ p
+    step true k m more = let same : g ≡ f = cc in ap (λ (x : File). x.path) (sym same) ∙ same-is g.path p k
+    step false k m more = more m
 
 named-path : (name : FileName) (fs : List File) (f : File) → file_named fs name ≡ Some f → f.path ≡ name.path
 named-path name [] f e = absurd (cc)
-named-path name (g ∷ gs) f e = step (is_named name g) refl e
+named-path name (g ∷ gs) f e = step (is_named name g) refl e (λ m. named-path name gs f m)
   where
-    step : (b : Bool) → is_named name g ≡ b → cond b (Some g) (file_named gs name) ≡ Some f → f.path ≡ name.path
-    step true k m =
+    step : (b : Bool) → is_named name g ≡ b → cond b (Some g) (file_named gs name) ≡ Some f → (file_named gs name ≡ Some f → f.path ≡ name.path) → f.path ≡ name.path
+    step true k m more =
         let same : g ≡ f = cc in
         ap (λ (x : File). x.path) (sym same) ∙ same-is g.path name.path (both (is_same g.path name.path) (g.generation == name.generation) k).0
-    step false k m = named-path name gs f m
+    step false k m more = more m
 
 -- it is known by its path and by what is stored of it
 known-as : (p : List ℕ) (s : Stored) (o : Option File) → ((f : File) → o ≡ Some f → f.path ≡ p) → Some s ≡ option_map stored_of o → o ≡ Some (file_of (p, s))

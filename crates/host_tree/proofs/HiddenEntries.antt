@@ -48,19 +48,20 @@ has-listed name es = some-mapped (λ (e : Entry). e.1) (find (is_stored name) es
 module _ (name : FileName) where
   found-here : (es : List Entry) (i : ℕ) (e : Entry) → position_or_len (is_stored name) es ≡ i → slice_get es i ≡ Some e → is_stored name e ≡ true
   found-here [] i e p g = absurd (cc)
-  found-here (d ∷ ds) i e p g = step (is_stored name d) refl p
+  found-here (d ∷ ds) i e p g = step (is_stored name d) refl p (λ j q k. found-here ds j e q k)
     where
-      step : (b : Bool) → is_stored name d ≡ b → cond (not b) (1 + position_or_len (is_stored name) ds) 0 ≡ i → is_stored name e ≡ true
-      step true h q = first i (sym q) g
+      step : (b : Bool) → is_stored name d ≡ b → cond (not b) (1 + position_or_len (is_stored name) ds) 0 ≡ i
+          → ((j : ℕ) → position_or_len (is_stored name) ds ≡ j → slice_get ds j ≡ Some e → is_stored name e ≡ true) → is_stored name e ≡ true
+      step true h q more = first i (sym q) g
         where
           first : (j : ℕ) → j ≡ 0 → slice_get (d ∷ ds) j ≡ Some e → is_stored name e ≡ true
           first zero z k = let same : d ≡ e = cc in ap (is_stored name) (sym same) ∙ h
           first (suc j) z k = absurd (omega arith)
-      step false h q = later i (sym q) g
+      step false h q more = later i (sym q) g
         where
           later : (j : ℕ) → j ≡ 1 + position_or_len (is_stored name) ds → slice_get (d ∷ ds) j ≡ Some e → is_stored name e ≡ true
           later zero z k = absurd (omega arith)
-          later (suc j) z k = found-here ds j e (omega arith) k
+          later (suc j) z k = more j (omega arith) k
 
   pub is-found : (es : List Entry) (i : ℕ) (e : Entry) → position_or_len (is_stored name) es ≡ i → slice_get es i ≡ Some e → is_stored name e ≡ true
   is-found es i e p g = found-here es i e p g
@@ -68,38 +69,42 @@ module _ (name : FileName) where
   -- a file in the place of that of the name
   pub set-listed : (change : File → File) (es : List Entry) (i : ℕ) (e : Entry) (w : Entry) → position_or_len (is_stored name) es ≡ i → slice_get es i ≡ Some e → file_of w ≡ change (file_of e) → files_of (slice_set es i w) ≡ change_first name change (files_of es)
   set-listed change [] i e w p g k = absurd (cc)
-  set-listed change (f ∷ fs) i e w p g k = step (is_stored name f) p
+  set-listed change (f ∷ fs) i e w p g k = step (is_stored name f) p (λ j q m. set-listed change fs j e w q m k)
     where
-      step : (b : Bool) → cond (not b) (1 + position_or_len (is_stored name) fs) 0 ≡ i → files_of (slice_set (f ∷ fs) i w) ≡ cond b (change (file_of f) ∷ files_of fs) (file_of f ∷ change_first name change (files_of fs))
-      step true q = first i (sym q) g
+      step : (b : Bool) → cond (not b) (1 + position_or_len (is_stored name) fs) 0 ≡ i
+          → ((j : ℕ) → position_or_len (is_stored name) fs ≡ j → slice_get fs j ≡ Some e → files_of (slice_set fs j w) ≡ change_first name change (files_of fs))
+          → files_of (slice_set (f ∷ fs) i w) ≡ cond b (change (file_of f) ∷ files_of fs) (file_of f ∷ change_first name change (files_of fs))
+      step true q more = first i (sym q) g
         where
           first : (j : ℕ) → j ≡ 0 → slice_get (f ∷ fs) j ≡ Some e → files_of (slice_set (f ∷ fs) j w) ≡ change (file_of f) ∷ files_of fs
           first zero z m =
               let same : e ≡ f = cc in
               ap (λ (x : File). x ∷ files_of fs) (k ∙ ap (λ (x : Entry). change (file_of x)) same)
           first (suc j) z m = absurd (omega arith)
-      step false q = later i (sym q) g
+      step false q more = later i (sym q) g
         where
           later : (j : ℕ) → j ≡ 1 + position_or_len (is_stored name) fs → slice_get (f ∷ fs) j ≡ Some e → files_of (slice_set (f ∷ fs) j w) ≡ file_of f ∷ change_first name change (files_of fs)
           later zero z m = absurd (omega arith)
-          later (suc j) z m = ap (λ (hs : List File). file_of f ∷ hs) (set-listed change fs j e w (omega arith) m k)
+          later (suc j) z m = ap (λ (hs : List File). file_of f ∷ hs) (more j (omega arith) m)
 
   -- the file of the name taken out
   pub taken-out : (es : List Entry) (i : ℕ) (e : Entry) → position_or_len (is_stored name) es ≡ i → slice_get es i ≡ Some e → files_of (remove es i) ≡ without_first name (files_of es)
   taken-out [] i e p g = absurd (cc)
-  taken-out (f ∷ fs) i e p g = step (is_stored name f) p
+  taken-out (f ∷ fs) i e p g = step (is_stored name f) p (λ j q m. taken-out fs j e q m)
     where
-      step : (b : Bool) → cond (not b) (1 + position_or_len (is_stored name) fs) 0 ≡ i → files_of (remove (f ∷ fs) i) ≡ cond b (files_of fs) (file_of f ∷ without_first name (files_of fs))
-      step true q = first i (sym q)
+      step : (b : Bool) → cond (not b) (1 + position_or_len (is_stored name) fs) 0 ≡ i
+          → ((j : ℕ) → position_or_len (is_stored name) fs ≡ j → slice_get fs j ≡ Some e → files_of (remove fs j) ≡ without_first name (files_of fs))
+          → files_of (remove (f ∷ fs) i) ≡ cond b (files_of fs) (file_of f ∷ without_first name (files_of fs))
+      step true q more = first i (sym q)
         where
           first : (j : ℕ) → j ≡ 0 → files_of (remove (f ∷ fs) j) ≡ files_of fs
           first zero z = refl
           first (suc j) z = absurd (omega arith)
-      step false q = later i (sym q) g
+      step false q more = later i (sym q) g
         where
           later : (j : ℕ) → j ≡ 1 + position_or_len (is_stored name) fs → slice_get (f ∷ fs) j ≡ Some e → files_of (remove (f ∷ fs) j) ≡ file_of f ∷ without_first name (files_of fs)
           later zero z m = absurd (omega arith)
-          later (suc j) z m = ap (λ (hs : List File). file_of f ∷ hs) (taken-out fs j e (omega arith) m)
+          later (suc j) z m = ap (λ (hs : List File). file_of f ∷ hs) (more j (omega arith) m)
 
 still-listed : (es : List Entry) (i : ℕ) (e : Entry) (w : Stored) (fs : List Entry) → fs ≡ slice_set es i (e.0, w) → slice_set es i e ≡ es → Some w ≡ Some e.1 → Some (files_of fs) ≡ Some (files_of es)
 still-listed es i e w fs s b k =
