@@ -1,8 +1,11 @@
 -- The files that aren't present, in a list of paths and what is stored.
-use Rattle.std.proofs.Common.{◌≡◌, ℕ, ◌+◌, ◌<◌, ◌≤◌, ◌==◌, suc, zero, List, [], ◌∷◌, ◌++◌, length, take, drop, Bool, true, false, not, ◌&&◌, ◌||◌, cond, filter, Option, Some, None, option_map, is_some, refl, sym, ap, subst, ◌∙◌, arith}
+use Rattle.std.proofs.Common.{◌≡◌, ℕ, ◌+◌, ◌<◌, ◌≤◌, ◌==◌, suc, zero, List, [], ◌∷◌, ◌++◌, length, take, drop, Bool, true, false, not, ◌&&◌, ◌||◌, cond, ltb, get_or, filter, Option, Some, None, option_map, is_some, refl, sym, ap, subst, ◌∙◌, arith}
 use Rattle.std.proofs.lemmas.Bool.Decides.{nat_tests}
 use mathlib.Core.Bool.{true≢false}
-use Rattle.std.specs.List.{find, position_or_len, remove, slice_get, slice_set}
+use Rattle.std.specs.List.{find, position, position_or_len, remove, slice_get, slice_set}
+use Rattle.std.proofs.lemmas.List.{set-get_or}
+use Rattle.std.proofs.lemmas.List.Folds.{find_at}
+use Rattle.std.proofs.lemmas.Option.{slice_get_read}
 use Rattle.portal_base.specs.Names.{is_same}
 use Rattle.portal_base.specs.Content.{file_named, is_named}
 use Rattle.portal_base.specs.declared.files.File.{File}
@@ -42,6 +45,73 @@ some-mapped g (Some x) None e = absurd (cc)
 
 pub has-listed : (name : FileName) (es : List Entry) → has_file name (files_of es) ≡ is_some (find (is_stored name) es)
 has-listed name es = some-mapped (λ (e : Entry). e.1) (find (is_stored name) es) (file_named (files_of es) name) (listed-found name es)
+
+-- ---- where it stands
+
+some-place : (n l i : ℕ) (b : Bool) → ltb n l ≡ b → Some i ≡ cond b (Some n) None → i ≡ n
+some-place n l i true h e = cc
+some-place n l i false h e = absurd (cc)
+
+no-place : (n l : ℕ) (b : Bool) → ltb n l ≡ b → None ≡ cond b (Some n) None → l ≤ n
+no-place n l true h e = absurd (cc)
+no-place n l false h e = grind (arith, nat_tests)
+
+at-most : (name : FileName) (es : List Entry) → position_or_len (is_stored name) es ≤ length es
+at-most name [] = omega arith
+at-most name (e ∷ es) = step (is_stored name e) (at-most name es)
+  where
+    step : (b : Bool) → position_or_len (is_stored name) es ≤ length es → cond (not b) (1 + position_or_len (is_stored name) es) 0 ≤ suc (length es)
+    step true m = omega arith
+    step false m = omega arith
+
+pub place-found : (name : FileName) (es : List Entry) (i : ℕ) → Some i ≡ position (is_stored name) es → i ≡ position_or_len (is_stored name) es
+place-found name es i e =
+    let n = position_or_len (is_stored name) es in
+    some-place n (length es) i (ltb n (length es)) refl e
+
+pub place-missing : (name : FileName) (es : List Entry) → None ≡ position (is_stored name) es → length es ≡ position_or_len (is_stored name) es
+place-missing name es e =
+    let n = position_or_len (is_stored name) es in
+    let past : length es ≤ n = no-place n (length es) (ltb n (length es)) refl e in
+    let most : n ≤ length es = at-most name es in
+    omega arith
+
+-- a file of the name has a place
+pub has-place : (name : FileName) (es : List Entry) → has_file name (files_of es) ≡ true → position_or_len (is_stored name) es < length es
+has-place name [] h = absurd (cc)
+has-place name (e ∷ es) h = step (is_stored name e) h (λ k. has-place name es k)
+  where
+    step : (b : Bool) → is_some (cond b (Some (file_of e)) (file_named (files_of es) name)) ≡ true
+        → (has_file name (files_of es) ≡ true → position_or_len (is_stored name) es < length es)
+        → cond (not b) (1 + position_or_len (is_stored name) es) 0 < suc (length es)
+    step true k more = omega arith
+    step false k more = let l : position_or_len (is_stored name) es < length es = more k in omega arith
+
+pub past-all : (name : FileName) (es : List Entry) → length es ≤ position_or_len (is_stored name) es → has_file name (files_of es) ≡ false
+past-all name [] l = refl
+past-all name (e ∷ es) l = step (is_stored name e) l (λ k. past-all name es k)
+  where
+    step : (b : Bool) → suc (length es) ≤ cond (not b) (1 + position_or_len (is_stored name) es) 0
+        → (length es ≤ position_or_len (is_stored name) es → has_file name (files_of es) ≡ false)
+        → is_some (cond b (Some (file_of e)) (file_named (files_of es) name)) ≡ false
+    step true k more = absurd (omega arith)
+    step false k more = more (omega arith)
+
+pub got-there : (es : List Entry) (i : ℕ) (v : Entry) → i < length es → v ≡ get_or es i v → slice_get es i ≡ Some v
+got-there es i v l h = slice_get_read es (length es) i v refl l h
+
+pub here-found : (name : FileName) (es : List Entry) (i : ℕ) (v : Entry) → i ≡ position_or_len (is_stored name) es → i < length es → v ≡ get_or es i v → find (is_stored name) es ≡ Some v
+here-found name es i v e l h = find_at (is_stored name) es ∙ (ap (slice_get es) (sym e) ∙ got-there es i v l h)
+
+pub stored-found : (name : FileName) (es : List Entry) (i : ℕ) (v : Entry) → i ≡ position_or_len (is_stored name) es → i < length es → v ≡ get_or es i v → Some v.1 ≡ option_map stored_of (file_named (files_of es) name)
+stored-found name es i v e l h = ap (option_map (λ (x : Entry). x.1)) (sym (here-found name es i v e l h)) ∙ listed-found name es
+
+-- what stands there, put there
+pub put-back : (es : List Entry) (i : ℕ) (v : Entry) → v ≡ get_or es i v → slice_set es i v ≡ es
+put-back es i v h = ap (slice_set es i) h ∙ set-get_or es i v
+
+pub path-named : (name : FileName) (e : Entry) → is_stored name e ≡ true → e.0 ≡ name.path
+path-named name e h = same-is e.0 name.path (both (is_same e.0 name.path) (e.1.generation == name.generation) h).0
 
 -- ---- one place
 

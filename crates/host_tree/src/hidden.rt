@@ -1,7 +1,7 @@
 //! The files of a tree in memory that aren't present.
 
 ghost use Rattle.std.specs.Prelude.{◌≡◌, [], ◌∷◌, ◌++◌, Some, false, true, OnOk, OnErr, option_map, option_copied};
-ghost use Rattle.std.specs.List.{find, position_or_len};
+ghost use Rattle.std.specs.List.{find, position, position_or_len};
 ghost use Rattle.portal_base.specs.Content.{file_named};
 ghost use Rattle.host_tree.specs.Stored.{file_of, files_of, is_stored, stored_of};
 ghost use Rattle.host_tree.specs.Trees.{Does, has_file, file_as, change_first, without_first, written, resized, is_done_fault};
@@ -166,10 +166,17 @@ fn find_named<'a>(
 fn place_of(files: &[(HostPath, Stored)], name: &FileName) -> usize
     ensures { result ≡ position_or_len (is_stored name.now) files.now }
 {
-    files
-        .iter()
-        .position(|entry| has_name(entry, name))
-        .unwrap_or(files.len())
+    match found_at(files, name) {
+        Some(place) => place,
+        None => files.len(),
+    }
+}
+
+/// Where the file of a name stands.
+fn found_at(files: &[(HostPath, Stored)], name: &FileName) -> Option<usize>
+    ensures { result ≡ position (is_stored name.now) files.now }
+{
+    files.iter().position(|entry| has_name(entry, name))
 }
 
 /// Writes over the bytes of a file from an offset on.
