@@ -53,6 +53,16 @@ found-at p (e ∷ es) =
     ap (λ (b : Bool). option_map stored_of (cond b (Some (file_of e)) (file_at (files_of es) p))) (and-true (is_same e.0 p))
     ∙ found-one (is_same e.0 p) (is_at (path_order p) e.0) true e (file_at (files_of es) p) (lookup (is_at (path_order p)) es) refl (same-key p e.0) (found-at p es)
 
+-- ---- whether there is one
+
+pub some-known : (o : Option File) (s : Stored) → Some s ≡ option_map stored_of o → true ≡ is_some o
+some-known None s e = absurd (cc)
+some-known (Some f) s e = refl
+
+pub none-known : (o : Option File) → None ≡ option_map stored_of o → false ≡ is_some o
+none-known None e = refl
+none-known (Some f) e = absurd (cc)
+
 -- ---- the file of a name, where each path has one
 
 apart-key : (p k : List ℕ) → path_order p k ≡ Less → is_same k p ≡ false

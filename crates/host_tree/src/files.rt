@@ -219,6 +219,16 @@ impl Files {
         }
     }
 
+    /// Says whether a file has the name.
+    pub(crate) fn has_named(&self, name: &FileName) -> bool
+        ensures { result ≡ has_file name.now self.now }
+    {
+        match self.named(name) {
+            Some(_) => true,
+            None => false,
+        }
+    }
+
     /// Says whether a path is a folder.
     pub(crate) fn is_folder(&self, path: &HostPath) -> bool
         ensures { result ≡ is_folder self.now path.now }

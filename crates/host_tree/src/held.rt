@@ -87,6 +87,13 @@ impl HeldFiles {
         }
     }
 
+    /// Says whether a file has the name.
+    pub(crate) fn has_named(&self, name: &FileName) -> bool
+        ensures { result ≡ has_named name.now self.now }
+    {
+        self.present.has_named(name) || self.hidden.has_named(name)
+    }
+
     /// Adds a present file where the paths then are those of a tree.
     pub(crate) fn add(
         &mut self,
@@ -155,7 +162,7 @@ impl HeldFiles {
         ensures does { DoesHeld (may_add name.now) (added name.now now) self.old result self.new }
         ensures no_fault { is_done_fault result ≡ false }
     {
-        if self.named(name).is_some() {
+        if self.has_named(name) {
             return TreeDone::NotFile;
         }
         match self.present.has_room(alloc, &name.path) {
@@ -170,10 +177,10 @@ impl HeldFiles {
         ensures does { DoesHeld (may_turn name.now) (turned name.now) self.old result self.new }
         ensures no_fault { is_done_fault result ≡ false }
     {
-        if self.present.named(name).is_some() {
+        if self.present.has_named(name) {
             return TreeDone::Done;
         }
-        if self.hidden.named(name).is_none() {
+        if !self.hidden.has_named(name) {
             return TreeDone::NotFile;
         }
         match self.present.may_have(alloc, &name.path) {

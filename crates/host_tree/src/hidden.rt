@@ -1,6 +1,6 @@
 //! The files of a tree in memory that aren't present.
 
-ghost use Rattle.std.specs.Prelude.{◌≡◌, [], ◌∷◌, ◌++◌, Some, false, true, OnOk, OnErr, option_map, option_copied};
+ghost use Rattle.std.specs.Prelude.{◌≡◌, [], ◌∷◌, ◌++◌, Some, false, true, IfOk, OnOk, OnErr, option_map, option_copied};
 ghost use Rattle.std.specs.List.{find, position, position_or_len};
 ghost use Rattle.portal_base.specs.Content.{file_named};
 ghost use Rattle.host_tree.specs.Stored.{file_of, files_of, is_stored, stored_of};
@@ -51,6 +51,16 @@ impl HiddenFiles {
         match find_named(self.files.as_slice(), name) {
             Some(entry) => Some(&entry.1),
             None => None,
+        }
+    }
+
+    /// Says whether a file has the name.
+    pub(crate) fn has_named(&self, name: &FileName) -> bool
+        ensures { result ≡ has_file name.now self.now }
+    {
+        match self.named(name) {
+            Some(_) => true,
+            None => false,
         }
     }
 
@@ -137,12 +147,24 @@ impl HiddenFiles {
 
 impl Replica for HiddenFiles {
     fn replica(&self, alloc: Global) -> Result<HiddenFiles, WantOfMemory> {
-        let mut files = Vec::new(alloc);
-        for (path, stored) in self.files.as_slice() {
-            files.push((path.replica(alloc)?, stored.replica(alloc)?))?;
-        }
-        Ok(HiddenFiles { files })
+        Ok(HiddenFiles {
+            files: replica_of(alloc, self.files.as_slice())?,
+        })
     }
+}
+
+/// The same paths and files.
+fn replica_of(
+    alloc: Global,
+    files: &[(HostPath, Stored)],
+) -> Result<Vec<(HostPath, Stored)>, WantOfMemory>
+    ensures { IfOk result (λ copy. copy.items ≡ files.now) }
+{
+    let mut copy = Vec::new(alloc);
+    for entry in files {
+        copy.push((entry.0.replica(alloc)?, entry.1.replica(alloc)?))?;
+    }
+    Ok(copy)
 }
 
 /// Says whether it is the file of a name.

@@ -510,7 +510,7 @@ fn rest(files: &HeldFiles, name: &FileName) -> TreeDone
         as_before (Some files.now.present) result (Some files.now.present) }
     ensures no_fault { is_done_fault result ≡ false }
 {
-    if files.named(name).is_some() {
+    if files.has_named(name) {
         TreeDone::Done
     } else {
         TreeDone::NotFile
