@@ -1,5 +1,5 @@
 -- The rules of names: of applications, of paths on the host, and of document identifiers.
-use Rattle.std.specs.Prelude.{◌≡◌, ◌⊎◌, ℕ, ◌+◌, ◌*◌, ◌/◌, ◌%◌, ◌^◌, ◌≤◌, ◌<◌, List, [], ◌∷◌, ◌++◌, length, take, map, fold, Bool, true, false, not, ◌||◌, ◌&&◌, ◌==◌, nat_eq, nat_le, if◌then◌else◌, codes}
+use Rattle.std.specs.Prelude.{◌≡◌, ◌⊎◌, ℕ, ◌+◌, ◌*◌, ◌/◌, ◌%◌, ◌^◌, ◌≤◌, ◌<◌, List, [], ◌∷◌, ◌++◌, length, take, map, fold, Bool, true, false, not, ◌||◌, ◌&&◌, ◌==◌, nat_eq, nat_le, cond, if◌then◌else◌, codes, Option, Some, None}
 use Rattle.std.specs.Char.{is_ascii_alphanumeric, digit_char, digit_value}
 use Rattle.std.specs.Cmp.Lexicographic.{pointwise}
 use Rattle.std.specs.Int.{is_in_range}
@@ -70,6 +70,12 @@ is_host_path t = has_path_form t && nat_le (length t) path_limit
 -- a path and a name with one slash between them
 unfoldable pub child_of : List ℕ → List ℕ → List ℕ
 child_of path name = if is_same path root then path ++ name else path ++ (47 ∷ name)
+
+-- the path of a name in a folder, where that is one: so the name isn't "." or "..", which are no
+-- parts of a path
+abbrev pub named_child : List ℕ → List ℕ → Option (List ℕ)
+named_child path name =
+    cond (is_host_path (child_of path name)) (Some (child_of path name)) None
 
 -- what stands ahead of the last slash, or the root
 unfoldable pub parent_of : List ℕ → List ℕ
