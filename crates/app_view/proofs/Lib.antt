@@ -1,4 +1,5 @@
 pub mod SortedNumbers
 pub mod SortedNames
 pub mod SeenFolders
+pub mod SeenPlaces
 pub mod ReachedRights

@@ -5,7 +5,6 @@ use Rattle.portal_base.specs.declared.who.Who.{Who}
 use Rattle.portal_model.specs.declared.rights.Right.{Right}
 use Rattle.portal_model.specs.declared.rights.Right.TheVariants.{Read, Write}
 use Rattle.portal_model.specs.Place.{reach_at, reach_of_subject, subject_of, view_of_node}
-use Rattle.portal_model.specs.Reach.{Reach}
 use Rattle.portal_model.specs.State.{State, document_of, has, who_has}
 use Rattle.app_view.specs.Books.{Lends, who_is}
 use Rattle.app_view.specs.Reached.{reach_told}

@@ -11,11 +11,11 @@ use Rattle.portal_model.specs.declared.reply.NodeAnswer.TheVariants as NodeAnswe
 use Rattle.portal_model.specs.declared.request.NodeRequest.{NodeRequest}
 use Rattle.portal_model.specs.declared.state.Document.{Document}
 use Rattle.portal_model.specs.declared.state.Triple.{Triple}
-use Rattle.portal_model.specs.NodeVerdict.{NodeVerdict, FilesStay, Opens, Room, Yields, next_handle}
+use Rattle.portal_model.specs.NodeVerdict.{NodeVerdict, FilesStay, NamesStay, Opens, Room, Yields, next_handle}
 use Rattle.portal_model.specs.OpenDir.{folder_entry, open_dir}
 use Rattle.portal_model.specs.Place.{Sight, root_node}
 use Rattle.portal_model.specs.State.{document_of}
-use Rattle.portal_model.specs.Walk.{Walk, Answers, Looks, Ends}
+use Rattle.portal_model.specs.Walk.{Walk, Answers, Looks, Ends, Lists}
 use Rattle.app_view.specs.Books.{readable}
 
 -- ---- what is opened
@@ -25,6 +25,7 @@ abbrev pub behind_look : {X : Type 0} → Look → Walk X → Walk X
 behind_look look (Answers x) = Answers x
 behind_look look (Looks target next) = next look
 behind_look look (Ends call done missing) = Ends call done missing
+behind_look look (Lists path done missing) = Lists path done missing
 
 -- the next handle, on a folder with these entries
 abbrev pub opened_with : NodeRequest → Room → List DirName → NodeVerdict
@@ -32,6 +33,7 @@ opened_with r room entries = Yields (record {
   answer = NodeAnswer.Opened (next_handle room);
   file = FilesStay;
   handle = Opens (Handle.Folder r.node entries);
+  names = NamesStay;
 })
 
 -- These are the entries with which a FUSE_OPENDIR of this node opens what is seen there, on any

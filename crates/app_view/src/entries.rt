@@ -1,8 +1,9 @@
 //! The entries of a folder.
 
-ghost use Rattle.std.specs.Prelude.{◌≡◌, ◌<◌, ◌^◌, IfOk, OnOk, true, false};
+ghost use Rattle.std.specs.Prelude.{◌≡◌, ◌<◌, ◌^◌, IfOk, None, OnOk, true, false};
 ghost use Rattle.portal_model.specs.Place.{by_app_node, file_node, folder_node, has_views, node_of, numbers_seen, root_node, sight_of_place};
-ghost use Rattle.portal_model.specs.OpenDir.{with_dots, parent_of_root, names_in_root, names_of_look, names_of_views, file_entry};
+ghost use Rattle.portal_model.specs.OpenDir.{with_dots, parent_of_root, parent_of_exported, names_in_root, names_of_children, names_of_look, names_of_views, file_entry, entry_of_child};
+ghost use Rattle.portal_base.specs.Names.{name_of};
 ghost use Rattle.portal_model.specs.State.{State};
 ghost use Rattle.app_view.specs.Books.{Lends, who_is};
 ghost use Rattle.app_view.specs.Entries.{AreOpened};
@@ -13,10 +14,10 @@ use crate::nodes::{by_app_node, file_node, folder_node, root_node};
 use crate::order::{folder_entry, names_of_views, numbers_seen};
 use crate::sight::seen_document;
 use document_records::{Applications, Document};
-use portal_base::files::Look;
+use portal_base::files::{ChildName, Look};
 use portal_base::list::List;
-use portal_base::memory::WantOfMemory;
-use portal_base::names::DocId;
+use portal_base::memory::{Replica, WantOfMemory};
+use portal_base::names::{DocId, HostPath};
 use portal_base::who::Who;
 use portal_model::place::Place;
 use portal_model::reply::DirName;
@@ -41,9 +42,10 @@ pub fn listing(
     place: Place,
     look: Look,
 ) -> Result<List<DirName>, WantOfMemory>
-    requires { (s : State) → Lends book.now s → IsFolder (sight_of_place s who.now place) }
+    requires { (s : State) → Lends book.now s →
+        IsFolder (sight_of_place s who.now None place) }
     ensures { IfOk result (λ names. (s : State) → Lends book.now s →
-        AreOpened (sight_of_place s who.now place) (node_of place) look names) }
+        AreOpened (sight_of_place s who.now None place) (node_of place) look names) }
 {
     match place {
         Place::Root { view } => match subject_of(book, who, view) {
@@ -56,7 +58,60 @@ pub fn listing(
             None => unreachable!(),
         },
         Place::File { .. } => unreachable!(),
+        Place::Named { .. } => unreachable!(),
     }
+}
+
+/// The number of the node of what has none of its own yet.
+const UNNAMED_NODE: u64 = 0xffff_ffff;
+
+/// The entries of a folder at a path at or below a document that is a folder: itself,
+/// by its node, and its parent first: of the exported folder that is its document's,
+/// of one below it a folder that is told without a number; then the names that the tree listed in it,
+/// which have no nodes before they are named. Of n names it takes about n steps, and
+/// memory for them.
+pub fn listing_below(
+    alloc: Global,
+    view: u32,
+    document: &Document,
+    path: &HostPath,
+    node: u64,
+    children: &[ChildName],
+) -> Result<List<DirName>, WantOfMemory>
+    requires { view < 2 ^ 28 }
+    ensures { IfOk result (λ names. names
+        ≡ with_dots node (parent_of_exported view document.now path.now)
+        (names_of_children children.now)) }
+{
+    let parent = if *path == document.path {
+        folder_node(view, document.id)
+    } else {
+        UNNAMED_NODE
+    };
+    let names = names_of_children(alloc, children)?;
+    with_dots(alloc, node, parent, names)
+}
+
+/// The entries of the names in such a folder.
+fn names_of_children(alloc: Global, children: &[ChildName]) -> Result<List<DirName>, WantOfMemory>
+    ensures { IfOk result (λ names. names ≡ names_of_children children.now) }
+{
+    let mut names = List::new(alloc);
+    for child in children {
+        names.push(entry_of_child(alloc, child)?)?;
+    }
+    Ok(names)
+}
+
+/// The entry of a name in such a folder.
+fn entry_of_child(alloc: Global, child: &ChildName) -> Result<DirName, WantOfMemory>
+    ensures { IfOk result (λ entry. entry ≡ entry_of_child child.now) }
+{
+    Ok(DirName {
+        node: UNNAMED_NODE,
+        name: child.name.replica(alloc)?,
+        folder: child.folder,
+    })
 }
 
 /// Says whether the folder of all views stands in a caller's root of a view.
@@ -140,7 +195,7 @@ fn document_folder(
     requires { view < 2 ^ 28 }
     ensures { IfOk result (λ names. names
         ≡ with_dots (folder_node view document.now.id.number) (root_node view)
-        (names_of_look (file_node view document.now.id.number) document.now.path look)) }
+        (names_of_look (file_node view document.now.id.number) document.now look)) }
 {
     let names = names_of_look(alloc, file_node(view, document.id), document, look)?;
     with_dots(
@@ -151,24 +206,39 @@ fn document_folder(
     )
 }
 
-/// The file of a document, where a look shows one.
+/// The file of a document, where a look shows one, or the folder that it is.
 fn names_of_look(
     alloc: Global,
     node: u64,
     document: &Document,
     look: Look,
 ) -> Result<List<DirName>, WantOfMemory>
-    ensures { IfOk result (λ names. names ≡ names_of_look node document.now.path look) }
+    ensures { IfOk result (λ names. names ≡ names_of_look node document.now look) }
 {
     let mut names = List::new(alloc);
-    if let Look::File { .. } = look {
-        names.push(DirName {
-            node,
-            name: List::copied(alloc, document.path.name())?,
-            folder: false,
-        })?;
+    match look {
+        Look::File { .. } => names.push(own_entry(alloc, node, document, false)?)?,
+        Look::Folder if document.folder => names.push(own_entry(alloc, node, document, true)?)?,
+        Look::Folder | Look::Missing => {}
     }
     Ok(names)
+}
+
+/// The entry of a document's own name.
+fn own_entry(
+    alloc: Global,
+    node: u64,
+    document: &Document,
+    folder: bool,
+) -> Result<DirName, WantOfMemory>
+    ensures { IfOk result (λ entry. entry
+        ≡ record { node = node; name = name_of document.now.path; folder = folder }) }
+{
+    Ok(DirName {
+        node,
+        name: List::copied(alloc, document.path.name())?,
+        folder,
+    })
 }
 
 /// Entries behind those of the folder itself and of the one that it stands in.

@@ -6,20 +6,21 @@
 //! exactly where the caller sees it, and takes no memory; that [`reach_at`] answers
 //! exactly the rights that the subject of a view has in a document; and that [`listing`]
 //! gives the entries with which FUSE_OPENDIR opens a folder, for which one look at
-//! the tree is enough. None of them changes anything.
+//! the tree is enough, and [`listing_below`] those of a folder that is a document, or
+//! lies below one. None of them changes anything.
 //!
 //! | Room | Holds |
 //! |---|---|
 //! | `nodes` | [`place_of`] and [`node_of`]: numbers to places, and back |
 //! | `book` | [`ViewBook`]: the lists that all is answered from; [`Subject`]: whose rights count in a view |
-//! | `sight` | [`resolve`] and [`seen_document`]: what a caller sees |
+//! | `sight` | [`resolve`], [`seen_document`] and [`seen_naming`]: what a caller sees |
 //! | `rights_now` | [`reach_at`]: the rights by which handles of strict documents go |
-//! | `entries` | [`listing`]: the entries of a folder |
+//! | `entries` | [`listing`] and [`listing_below`]: the entries of a folder |
 //! | `order` | what is listed, in its order |
 //!
 //! ```text
 //! let book = ViewBook { documents: &documents, grants: &grants, applications: &applications };
-//! let place = resolve(&book, &who, request.node)?;
+//! let place = resolve(&book, &who, request.node, None)?;
 //! let names = listing(alloc, &book, &who, place, look)?;
 //! ```
 //!
@@ -35,7 +36,7 @@ mod rights_now;
 mod sight;
 
 pub use book::{Subject, ViewBook, may_read, may_write, subject_of};
-pub use entries::listing;
-pub use nodes::{node_of, place_of};
+pub use entries::{listing, listing_below};
+pub use nodes::{id_of, node_of, place_of};
 pub use rights_now::{Reach, reach_at};
-pub use sight::{SeenDocument, is_folder, resolve, seen_document};
+pub use sight::{SeenBelow, SeenDocument, is_folder, resolve, seen_document, seen_naming};

@@ -1,9 +1,10 @@
 //! The numbers of nodes, `view * 2^36 + kind * 2^32 + id`, and the places that
 //! they name.
 
-ghost use Rattle.std.specs.Prelude.{◌≡◌, ◌<◌, ◌^◌, IfSome, Some};
-ghost use Rattle.portal_model.specs.Place.{place_named, place_of_kind_0, node_of, node_number, root_node, by_app_node, folder_node, file_node, view_of_node};
-ghost use Rattle.app_view.specs.Places.{view_in};
+ghost use Rattle.std.specs.Prelude.{◌≡◌, ◌<◌, ◌^◌, IfSome, Some, true};
+ghost use Rattle.portal_model.specs.Place.{place_named, place_of_kind_0, place_from_one, node_of, node_number, root_node, by_app_node, folder_node, file_node, named_node, id_of_node, view_of_node};
+ghost use Rattle.portal_model.specs.declared.place.Place.TheVariants as Place;
+ghost use Rattle.app_view.specs.Places.{is_counted, view_in};
 
 use crate::book::OWN_VIEW;
 use portal_base::names::DocId;
@@ -22,8 +23,10 @@ const ID_MASK: u64 = 0xffff_ffff;
 const TOP: u64 = 0;
 /// The kind of a document's folder.
 const DOCUMENT_FOLDER: u64 = 1;
-/// The kind of a document's file.
+/// The kind of a document's file, or of the folder that it is.
 const DOCUMENT_FILE: u64 = 2;
+/// The kind of a name below a folder that is a document.
+const NAMED: u64 = 4;
 
 /// The identifier of the root of a view.
 const ROOT: u32 = 1;
@@ -37,7 +40,7 @@ pub fn place_of(node: u64) -> Option<Place>
     ensures back { IfSome result (λ place. node_of place ≡ node) }
 {
     let view = view_of(node);
-    let id = (node & ID_MASK) as u32;
+    let id = id_of(node);
     match (node >> KIND_SHIFT) & KIND_MASK {
         TOP => top_place(view, id),
         DOCUMENT_FOLDER => Some(Place::Folder {
@@ -48,8 +51,27 @@ pub fn place_of(node: u64) -> Option<Place>
             view,
             id: DocId { number: id },
         }),
+        NAMED => named_place(view, id),
         _ => None,
     }
+}
+
+/// The place of a naming, which count from 1.
+fn named_place(view: u32, k: u32) -> Option<Place>
+    ensures { result ≡ place_from_one (Place.Named view) k }
+{
+    if k == 0 {
+        None
+    } else {
+        Some(Place::Named { view, k })
+    }
+}
+
+/// The identifier in a number: of a document, of a root, or of what was named.
+pub fn id_of(node: u64) -> u32
+    ensures { result ≡ id_of_node node }
+{
+    (node & ID_MASK) as u32
 }
 
 /// The view in a number.
@@ -70,17 +92,19 @@ fn top_place(view: u32, id: u32) -> Option<Place>
     }
 }
 
-/// The number of a place, whose view is below 2^28.
+/// The number of a place, whose view is below 2^28. It names the place, where that is
+/// no naming of the number 0.
 pub fn node_of(place: Place) -> u64
-    requires { view_in place < 2 ^ 28 }
+    requires view { view_in place < 2 ^ 28 }
     ensures node { result ≡ node_of place }
-    ensures back { place_named result ≡ Some place }
+    ensures back { is_counted place ≡ true → place_named result ≡ Some place }
 {
     match place {
         Place::Root { view } => root_node(view),
         Place::ByApp => by_app_node(),
         Place::Folder { view, id } => folder_node(view, id),
         Place::File { view, id } => file_node(view, id),
+        Place::Named { view, k } => named_node(view, k),
     }
 }
 
@@ -113,6 +137,14 @@ pub(crate) fn file_node(view: u32, id: DocId) -> u64
     ensures { result ≡ file_node view id.number }
 {
     number(view, DOCUMENT_FILE, id.number)
+}
+
+/// The number of a name below a folder that is a document.
+pub(crate) fn named_node(view: u32, k: u32) -> u64
+    requires { view < 2 ^ 28 }
+    ensures { result ≡ named_node view k }
+{
+    number(view, NAMED, k)
 }
 
 /// The number of a node.

@@ -1,54 +1,62 @@
 //! What a caller sees.
 
-ghost use Rattle.std.specs.Prelude.{◌≡◌, ℕ, ◌<◌, ◌^◌, IfSome, OnSome, is_some, option_map, true};
+ghost use Rattle.std.specs.Prelude.{◌≡◌, ℕ, ◌<◌, ◌^◌, IfSome, List, OnSome, Option, is_some, option_copied, option_map, true};
+ghost use Rattle.portal_model.specs.declared.naming.Naming.{Naming as NamingNow};
 ghost use Rattle.portal_model.specs.declared.place.Place.TheVariants as Place;
-ghost use Rattle.portal_model.specs.Place.{sight_of_document, sight_of_folder, sight_of_place};
+ghost use Rattle.portal_model.specs.Place.{sight_below, sight_of_document, sight_of_folder, sight_of_place};
 ghost use Rattle.portal_model.specs.State.{State, document_of};
 ghost use Rattle.app_view.specs.Books.{Lends, who_is};
 ghost use Rattle.app_view.specs.Places.{IsFolder, is_folder_place, place_seen};
-ghost use Rattle.app_view.specs.Sights.{file_sight, folder_sight};
+ghost use Rattle.app_view.specs.Sights.{below_sight, file_sight, folder_sight, path_sight};
 
 use crate::book::{Subject, ViewBook, may_write, readable, subject_of};
 use crate::nodes::place_of;
 use document_records::Document;
-use portal_base::names::DocId;
+use portal_base::names::{DocId, HostPath};
 use portal_base::who::Who;
+use portal_model::naming::Naming;
 use portal_model::place::Place;
 
 /// The place that a node's number names; `None` exactly where the caller
 /// doesn't see it. Of n documents it takes about log n steps.
 ///
-/// The caller sees the root of its own view, and the folder and the file of each
-/// document in which the view's subject has the right to read; the host sees the
-/// folder of all views, and that of each numbered application, too. Whether the
-/// tree has a file there is not looked at.
-pub fn resolve(book: &ViewBook, who: &Who, node: u64) -> Option<Place>
-    ensures seen { (s : State) → Lends book.now s → result ≡ place_seen s who.now node }
+/// The caller sees the root of its own view, and of each document in which the view's
+/// subject has the right to read the folder, and in it the file or the folder that the
+/// document is; the host sees the folder of all views, and that of each numbered
+/// application, too. `naming` is what
+/// the connection that asks named by the number in the node below a folder that is a
+/// document, and is passed over at other nodes: it is seen in its own view, by whoever
+/// may read its document. Whether the tree has something there is not looked at.
+pub fn resolve(book: &ViewBook, who: &Who, node: u64, naming: Option<&Naming>) -> Option<Place>
+    ensures seen { (s : State) → Lends book.now s →
+        result ≡ place_seen s who.now (option_copied naming.entry) node }
     ensures folder { IfSome result (λ place. is_folder_place place ≡ true →
-        (s : State) → Lends book.now s → IsFolder (sight_of_place s who.now place)) }
+        (s : State) → Lends book.now s →
+        IsFolder (sight_of_place s who.now (option_copied naming.entry) place)) }
 {
     let place = place_of(node)?;
-    if is_seen(book, who, place) {
+    if is_seen(book, who, place, naming) {
         Some(place)
     } else {
         None
     }
 }
 
-/// Says whether a place is a folder, whoever sees it.
+/// Says whether a place is a folder, whoever sees it and whatever the tree has.
 pub fn is_folder(place: Place) -> bool
     ensures { result ≡ is_folder_place place }
 {
     match place {
         Place::Root { .. } | Place::ByApp | Place::Folder { .. } => true,
-        Place::File { .. } => false,
+        // Of a document that is a folder, and below it, a look tells.
+        Place::File { .. } | Place::Named { .. } => false,
     }
 }
 
 /// Says whether a caller sees a place.
-fn is_seen(book: &ViewBook, who: &Who, place: Place) -> bool
+fn is_seen(book: &ViewBook, who: &Who, place: Place, naming: Option<&Naming>) -> bool
     ensures { (s : State) → Lends book.now s
-        → result ≡ is_some (sight_of_place s who.now place) }
+        → result ≡ is_some (sight_of_place s who.now (option_copied naming.entry) place) }
 {
     match place {
         Place::Root { view } => subject_of(book, who, view).is_some(),
@@ -57,6 +65,7 @@ fn is_seen(book: &ViewBook, who: &Who, place: Place) -> bool
         // there.
         Place::Folder { view, id } => seen_document(book, who, view, id).is_some(),
         Place::File { view, id } => seen_document(book, who, view, id).is_some(),
+        Place::Named { view, .. } => seen_naming(book, who, view, naming).is_some(),
     }
 }
 
@@ -77,14 +86,49 @@ pub fn seen_document<'a>(
     view: u32,
     id: DocId,
 ) -> Option<SeenDocument<'a>>
-    ensures folder { (s : State) → Lends book.now s →
-        sight_of_place s who.now (Place.Folder view id) ≡ option_map (folder_sight view) result }
-    ensures file { (s : State) → Lends book.now s →
-        sight_of_place s who.now (Place.File view id) ≡ option_map file_sight result }
+    ensures folder { (s : State) (naming : Option NamingNow) → Lends book.now s →
+        sight_of_place s who.now naming (Place.Folder view id)
+        ≡ option_map (folder_sight view) result }
+    ensures file { (s : State) (naming : Option NamingNow) → Lends book.now s →
+        sight_of_place s who.now naming (Place.File view id)
+        ≡ option_map (file_sight view) result }
     ensures number { IfSome result (λ seen. seen.document.now.id.number ≡ id.number) }
     ensures small { OnSome result (view < 2 ^ 28) }
 {
     seen_by(book, subject_of(book, who, view)?, id)
+}
+
+/// What lies at or below a folder that is a document, as a caller sees it.
+#[derive(Clone, Copy)]
+pub struct SeenBelow<'a> {
+    /// The document, as it is seen.
+    pub seen: SeenDocument<'a>,
+    /// The path on the host.
+    pub path: &'a HostPath,
+}
+
+/// What a caller sees at what its connection named below a folder that is a document,
+/// in a view; `None` exactly where it sees nothing there.
+pub fn seen_naming<'a>(
+    book: &ViewBook<'a>,
+    who: &Who,
+    view: u32,
+    naming: Option<&'a Naming>,
+) -> Option<SeenBelow<'a>>
+    ensures below { (k : ℕ) (s : State) → Lends book.now s →
+        sight_of_place s who.now (option_copied naming.entry) (Place.Named view k)
+        ≡ option_map (below_sight view) result }
+    ensures small { OnSome result (view < 2 ^ 28) }
+{
+    let naming = naming?;
+    if naming.view != view {
+        return None;
+    }
+    let seen = seen_by(book, subject_of(book, who, view)?, naming.document)?;
+    Some(SeenBelow {
+        seen,
+        path: &naming.path,
+    })
 }
 
 /// What the subject of a view sees of a document.
@@ -92,8 +136,11 @@ fn seen_by<'a>(book: &ViewBook<'a>, subject: Subject, id: DocId) -> Option<SeenD
     ensures folder { (view : ℕ) → option_map (folder_sight view) result
         ≡ sight_of_folder view book.now.grants.now (who_is subject.entry)
         (document_of book.now.documents.now.live id.number) }
-    ensures file { option_map file_sight result
-        ≡ sight_of_document book.now.grants.now (who_is subject.entry)
+    ensures file { (view : ℕ) → option_map (file_sight view) result
+        ≡ sight_of_document view book.now.grants.now (who_is subject.entry)
+        (document_of book.now.documents.now.live id.number) }
+    ensures below { (view : ℕ) (path : List ℕ) → option_map (path_sight view path) result
+        ≡ sight_below view book.now.grants.now (who_is subject.entry) path
         (document_of book.now.documents.now.live id.number) }
     ensures number { IfSome result (λ seen. seen.document.now.id.number ≡ id.number) }
 {

@@ -11,13 +11,15 @@ use Rattle.portal_base.specs.declared.limits.Limits.{Limits}
 use Rattle.rights_rule.specs.Rights.{RightSet}
 use Rattle.portal_model.specs.declared.handle.Handle.{Handle}
 use Rattle.portal_model.specs.declared.handle.OpenHandle.{OpenHandle}
+use Rattle.portal_model.specs.declared.naming.Naming.{Naming}
 use Rattle.portal_model.specs.declared.state.Connection.{Connection}
+use Rattle.portal_model.specs.SeatNames.{with_naming}
 use Rattle.portal_model.specs.declared.state.Document.{Document}
-use Rattle.portal_model.specs.Node.{connections_after, counted, handles_after, new_handle}
-use Rattle.portal_model.specs.NodeVerdict.{HandleChange, HandlesStay, Opens, Closes}
+use Rattle.portal_model.specs.Node.{connections_after, counted, handles_after, new_handle, connections_named, named_on}
+use Rattle.portal_model.specs.NodeVerdict.{HandleChange, HandlesStay, Opens, Closes, NameChange, Names, NamesStay, NodeDoing}
 use Rattle.portal_model.specs.State.{handle_of, handles_of, is_app, is_handle}
 use Rattle.portal_model.proofs.ListLookups.{is_same-eq}
-use Rattle.app_world.specs.Node.{next_own_handle, own_closed, own_connections_after, own_handle_of, own_opened}
+use Rattle.app_world.specs.Node.{next_own_handle, own_closed, own_connections_after, own_handle_of, own_opened, own_connections_named, own_connections_then, own_named}
 use Rattle.app_world.specs.View.{HeldDocument, OwnConnection, OwnHandle, found_connection, held_documents, is_among, named_paths, own_connection, own_connections, own_handle, own_handles, paths_of_connection, paths_of_handle, prune, pruned, view_over}
 use Rattle.app_world.proofs.ContentLaws.{contents-fewer}
 use Rattle.app_world.proofs.WalksAlong.{OpensOn}
@@ -110,6 +112,23 @@ module _ (app : List ℕ) (c : Connection) (hs : List OpenHandle) where
   connections-changed (Closes fh) cs =
       ap (own_connections app (filter (λ h. not (is_handle c.seat fh h)) hs)) (sym (mapped-same cs))
       ∙ own-mapped app hs (filter (λ h. not (is_handle c.seat fh h)) hs) (λ x. x) (own_closed c.seat fh) (λ x. refl) (λ x. closed_one fh x (x.seat == c.seat) refl) cs
+
+  -- and as the application names paths below folders that are documents
+  named_who : (naming : Naming) (x : Connection) → (named_on c.seat naming x).who ≡ x.who
+  named_who naming x = elim (x.seat == c.seat) as (λ b. (cond b (record x { namings = with_naming x.namings naming }) x).who ≡ x.who) [ true ↦ refl | false ↦ refl ]
+
+  named_one : (later : List OpenHandle) (naming : Naming) (x : Connection) → own_connection app later (named_on c.seat naming x) ≡ own_named c.seat naming (own_connection app later x)
+  named_one later naming x = elim (x.seat == c.seat) as (λ b. own_connection app later (cond b (record x { namings = with_naming x.namings naming }) x)
+      ≡ cond b (record (own_connection app later x) { namings = with_naming (own_connection app later x).namings naming }) (own_connection app later x)) [ true ↦ refl | false ↦ refl ]
+
+  connections-named : (later : List OpenHandle) (change : NameChange) (cs : List Connection) → own_connections app later (connections_named c change cs) ≡ own_connections_named mine change (own_connections app later cs)
+  connections-named later NamesStay cs = refl
+  connections-named later (Names naming) cs = own-mapped app later later (named_on c.seat naming) (own_named c.seat naming) (named_who naming) (named_one later naming) cs
+
+  pub connections-then : (d : NodeDoing) (cs : List Connection) → own_connections app (handles_after c d.handle hs) (connections_named c d.names (connections_after c d.handle cs)) ≡ own_connections_then mine d (own_connections app hs cs)
+  connections-then d cs =
+      connections-named (handles_after c d.handle hs) d.names (connections_after c d.handle cs)
+      ∙ ap (own_connections_named mine d.names) (connections-changed d.handle cs)
 
 -- ---- of another: no connection of the view has the seat
 

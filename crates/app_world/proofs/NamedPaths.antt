@@ -4,10 +4,14 @@ use Rattle.std.specs.List.{flat_map}
 use Rattle.std.specs.Option.{option_map}
 use Rattle.portal_base.specs.Names.{is_same}
 use Rattle.portal_model.specs.declared.handle.Handle.{Handle}
+use Rattle.portal_model.specs.declared.naming.Naming.{Naming}
 use Rattle.portal_model.specs.declared.place.Place.{Place}
-use Rattle.portal_model.specs.Place.{Folder, FolderOf, RootOf, Views, Sight, SightOfFile, SightOfFolder, place_named}
+use Rattle.portal_model.specs.declared.state.Document.{Document}
+use Rattle.portal_model.specs.Place.{Exported, Folder, FolderOf, RootOf, Views, Sight, SightBelow, SightOfFile, SightOfFolder, id_of_node, place_named, sight_at_path}
+use Rattle.portal_model.specs.SeatNames.{naming_of}
 use Rattle.portal_model.proofs.ListLookups.{is_same-refl}
-use Rattle.app_world.specs.Node.{in_own_view, own_handle_of, own_numbers, own_place, own_sight, own_sight_at, own_sight_of_folder, own_sight_of_place}
+use Rattle.portal_model.proofs.NodeValid.{Asking, IsSoundSight}
+use Rattle.app_world.specs.Node.{in_own_view, own_handle_of, own_numbers, own_place, own_sight, own_sight_at, own_sight_below, own_sight_of_folder, own_sight_of_naming, own_sight_of_place}
 use Rattle.app_world.specs.View.{AppView, HeldDocument, OwnConnection, OwnHandle, found_connection, found_document, is_among, names, paths_of_connection, paths_of_handle}
 use Rattle.app_world.proofs.ViewLaws.{among-joined}
 
@@ -19,15 +23,39 @@ or-second : (a : Bool) {b : Bool} → b ≡ true → (a || b) ≡ true
 or-second true g = refl
 or-second false g = g
 
+-- not yet: nothing is seen at or below a document that is a folder
+abbrev pub PlainFolder : Folder → Type 0
+PlainFolder (RootOf view numbers has_views) = Unit {0}
+PlainFolder (Views applications) = Unit {0}
+PlainFolder (FolderOf view d may_write) = Unit {0}
+PlainFolder (Exported view d path may_write) = ⊥
+
+abbrev pub Plain : Option Sight → Type 0
+Plain None = Unit {0}
+Plain (Some (SightOfFile d may_write)) = Unit {0}
+Plain (Some (SightBelow view d path may_write)) = ⊥
+Plain (Some (SightOfFolder f)) = PlainFolder f
+
+pub sound-plain : (a : Asking) (node : ℕ) (sight : Option Sight) → IsSoundSight a node sight → Plain sight
+sound-plain a node None h = tt
+sound-plain a node (Some (SightOfFile d may_write)) h = tt
+sound-plain a node (Some (SightBelow view d path may_write)) h = h
+sound-plain a node (Some (SightOfFolder (RootOf view numbers has_views))) h = tt
+sound-plain a node (Some (SightOfFolder (Views applications))) h = tt
+sound-plain a node (Some (SightOfFolder (FolderOf view d may_write))) h = tt
+sound-plain a node (Some (SightOfFolder (Exported view d path may_write))) h = h
+
 module _ (On : List ℕ → Type 0) where
   abbrev pub FolderOn : Folder → Type 0
   FolderOn (RootOf view numbers has_views) = Unit {0}
   FolderOn (Views applications) = Unit {0}
   FolderOn (FolderOf view d may_write) = On d.path
+  FolderOn (Exported view d path may_write) = On d.path
 
   abbrev pub SightOn : Option Sight → Type 0
   SightOn None = Unit {0}
   SightOn (Some (SightOfFile d may_write)) = On d.path
+  SightOn (Some (SightBelow view d path may_write)) = On d.path
   SightOn (Some (SightOfFolder f)) = FolderOn f
 
   abbrev pub HandleOn : Option Handle → Type 0
@@ -52,9 +80,20 @@ module _ (v : AppView) where
   abbrev pub Documents : List ℕ → Type 0
   Documents path = is_among (map (λ (d : HeldDocument). d.document.path) v.documents) path ≡ true
 
-  file_on : (number : ℕ) (o : Option HeldDocument) → found_document v.documents number ≡ o → SightOn Documents (own_sight o)
-  file_on number None e = tt
-  file_on number (Some d) e = elim d.rights.read as (λ b. SightOn Documents (cond b (Some (SightOfFile d.document d.rights.write)) None)) [
+  at_path_on : (view : ℕ) (d : Document) (b w : Bool) → Documents d.path → SightOn Documents (Some (sight_at_path view d b w))
+  at_path_on view d true w h = h
+  at_path_on view d false w h = h
+
+  file_on : (view number : ℕ) (o : Option HeldDocument) → found_document v.documents number ≡ o → SightOn Documents (own_sight view o)
+  file_on view number None e = tt
+  file_on view number (Some d) e = elim d.rights.read as (λ b. SightOn Documents (cond b (Some (sight_at_path view d.document d.document.folder d.rights.write)) None)) [
+    | true ↦ at_path_on view d.document d.document.folder d.rights.write (path_named v.documents number d e)
+    | false ↦ tt
+  ]
+
+  below_on : (view : ℕ) (path : List ℕ) (number : ℕ) (o : Option HeldDocument) → found_document v.documents number ≡ o → SightOn Documents (own_sight_below view path o)
+  below_on view path number None e = tt
+  below_on view path number (Some d) e = elim d.rights.read as (λ b. SightOn Documents (cond b (Some (SightBelow view d.document path d.rights.write)) None)) [
     | true ↦ path_named v.documents number d e
     | false ↦ tt
   ]
@@ -70,19 +109,27 @@ module _ (v : AppView) where
   in_on zero sight h = h
   in_on (suc k) sight h = tt
 
-  there_on : (p : Place) → SightOn Documents (own_sight_of_place v p)
-  there_on (Place.Root k) = in_on k (Some (SightOfFolder (RootOf k (own_numbers v.documents) false))) tt
-  there_on Place.ByApp = tt
-  there_on (Place.Folder k id) = in_on k (own_sight_of_folder k (found_document v.documents id.number)) (folder_on k id.number (found_document v.documents id.number) refl)
-  there_on (Place.File k id) = in_on k (own_sight (found_document v.documents id.number)) (file_on id.number (found_document v.documents id.number) refl)
+  naming_on : (view : ℕ) (naming : Option Naming) → SightOn Documents (own_sight_of_naming v view naming)
+  naming_on view None = tt
+  naming_on view (Some n) = elim (n.view == view) as (λ b. SightOn Documents (cond b (own_sight_below view n.path (found_document v.documents n.document.number)) None)) [
+    | true ↦ below_on view n.path n.document.number (found_document v.documents n.document.number) refl
+    | false ↦ tt
+  ]
 
-  at_on : (p : Option Place) → SightOn Documents (own_sight_at v p)
-  at_on None = tt
-  at_on (Some p) = there_on p
+  there_on : (naming : Option Naming) (p : Place) → SightOn Documents (own_sight_of_place v naming p)
+  there_on naming (Place.Root k) = in_on k (Some (SightOfFolder (RootOf k (own_numbers v.documents) false))) tt
+  there_on naming Place.ByApp = tt
+  there_on naming (Place.Folder k id) = in_on k (own_sight_of_folder k (found_document v.documents id.number)) (folder_on k id.number (found_document v.documents id.number) refl)
+  there_on naming (Place.File k id) = in_on k (own_sight k (found_document v.documents id.number)) (file_on k id.number (found_document v.documents id.number) refl)
+  there_on naming (Place.Named k n) = in_on k (own_sight_of_naming v k naming) (naming_on k naming)
 
-  -- what is seen at a node has a document's path
-  pub place_on : (node : ℕ) → SightOn Documents (own_place v node)
-  place_on node = at_on (place_named node)
+  at_on : (naming : Option Naming) (p : Option Place) → SightOn Documents (own_sight_at v naming p)
+  at_on naming None = tt
+  at_on naming (Some p) = there_on naming p
+
+  -- what is seen at a node has a document's path, or lies below one
+  pub place_on : (c : OwnConnection) (node : ℕ) → SightOn Documents (own_place v c node)
+  place_on c node = at_on (naming_of c.namings (id_of_node node)) (place_named node)
 
   pub document_named : (path : List ℕ) → Documents path → names v path ≡ true
   document_named path h =
@@ -100,9 +147,11 @@ module _ (On More : List ℕ → Type 0) (f : (path : List ℕ) → On path → 
   pub sight_more : (o : Option Sight) → SightOn On o → SightOn More o
   sight_more None h = tt
   sight_more (Some (SightOfFile d may_write)) h = f d.path h
+  sight_more (Some (SightBelow view d path may_write)) h = f d.path h
   sight_more (Some (SightOfFolder (RootOf view numbers has_views))) h = tt
   sight_more (Some (SightOfFolder (Views applications))) h = tt
   sight_more (Some (SightOfFolder (FolderOf view d may_write))) h = f d.path h
+  sight_more (Some (SightOfFolder (Exported view d path may_write))) h = f d.path h
 
 abbrev Among : List (List ℕ) → List ℕ → Type 0
 Among paths path = is_among paths path ≡ true

@@ -4,15 +4,16 @@ use Rattle.std.specs.List.{filter, find, list_all}
 use Rattle.std.specs.Option.{option_map}
 use Rattle.portal_base.specs.declared.who.Who.{Who}
 use Rattle.rights_rule.specs.Rights.{RightSet}
+use Rattle.portal_model.specs.declared.naming.Naming.{Naming}
 use Rattle.portal_model.specs.declared.place.Place.{Place}
 use Rattle.portal_model.specs.declared.state.Document.{Document}
 use Rattle.portal_model.specs.ListDocuments.{lower as lower_number}
 use Rattle.portal_model.specs.Ordered.{is_rising, put_all}
-use Rattle.portal_model.specs.Place.{FolderOf, RootOf, SightOfFile, SightOfFolder, may_read as may_read_document, numbers_seen, place_named, place_of, reach_at, reach_of_subject, Sight, seen_by, sight_at, sight_of_document, sight_of_folder, sight_of_place, sight_of_root, subject_of, view_of_node}
+use Rattle.portal_model.specs.Place.{FolderOf, RootOf, SightBelow, SightOfFolder, may_read as may_read_document, numbers_seen, place_named, place_of, reach_at, reach_of_subject, Sight, seen_by, sight_at, sight_at_path, sight_below, sight_of_document, sight_of_folder, sight_of_naming, sight_of_place, sight_of_root, subject_of, view_of_node}
 use Rattle.portal_model.specs.State.{State, document_of, held_of}
 use Rattle.portal_model.proofs.ListLookups.{find-filter, find-map, found_passes, nat_is}
 use Rattle.portal_model.proofs.RisingLists.{rising-filter, rising-put_all}
-use Rattle.app_world.specs.Node.{in_own_view, may_read, own_numbers, own_place, own_reach, own_reach_in, own_sight, own_sight_at, own_sight_of_folder, own_sight_of_place}
+use Rattle.app_world.specs.Node.{in_own_view, may_read, own_numbers, own_reach, own_reach_in, own_sight, own_sight_at, own_sight_below, own_sight_of_folder, own_sight_of_naming, own_sight_of_place}
 use Rattle.app_world.specs.View.{HeldDocument, found_document, held_documents, number_of, seen, view}
 use Rattle.app_world.proofs.DocumentLaws.{documents-found, documents-rising}
 use Rattle.app_world.proofs.Found.{find-kept, find-put_all, kept, told-apart}
@@ -20,11 +21,17 @@ use Rattle.app_world.proofs.Orders.{numbers}
 
 -- ---- one document
 
-sight_bits : (d : Document) (k : RightSet) (r b : Bool) → k.read ≡ r →
-    own_sight (cond (r || b) (Some (record { document = d; rights = k })) None) ≡ cond r (Some (SightOfFile d k.write)) None
-sight_bits d k true b e = rw e refl
-sight_bits d k false true e = rw e refl
-sight_bits d k false false e = refl
+sight_bits : (view : ℕ) (d : Document) (k : RightSet) (r b : Bool) → k.read ≡ r →
+    own_sight view (cond (r || b) (Some (record { document = d; rights = k })) None) ≡ cond r (Some (sight_at_path view d d.folder k.write)) None
+sight_bits view d k true b e = rw e refl
+sight_bits view d k false true e = rw e refl
+sight_bits view d k false false e = refl
+
+below_bits : (view : ℕ) (path : List ℕ) (d : Document) (k : RightSet) (r b : Bool) → k.read ≡ r →
+    own_sight_below view path (cond (r || b) (Some (record { document = d; rights = k })) None) ≡ cond r (Some (SightBelow view d path k.write)) None
+below_bits view path d k true b e = rw e refl
+below_bits view path d k false true e = rw e refl
+below_bits view path d k false false e = refl
 
 folder_bits : (view : ℕ) (d : Document) (k : RightSet) (r b : Bool) → k.read ≡ r →
     own_sight_of_folder view (cond (r || b) (Some (record { document = d; rights = k })) None) ≡ cond r (Some (SightOfFolder (FolderOf view d k.write))) None
@@ -86,11 +93,17 @@ module _ (app : List ℕ) (s : State) where
 
   -- ---- a place
 
-  sight_seen : (number : ℕ) (o : Option Document) → document_of s.documents number ≡ o → own_sight (seen (held number) o) ≡ sight_of_document s.rights (Who.App app) o
-  sight_seen number None e = refl
-  sight_seen number (Some d) e =
+  sight_seen : (view number : ℕ) (o : Option Document) → document_of s.documents number ≡ o → own_sight view (seen (held number) o) ≡ sight_of_document view s.rights (Who.App app) o
+  sight_seen view number None e = refl
+  sight_seen view number (Some d) e =
       let n : d.id.number ≡ number = nat_is d.id.number number (found_passes (λ (x : Document). x.id.number == number) s.documents d e) in
-      ap (λ (m : ℕ). own_sight (seen (held m) (Some d))) (sym n) ∙ sight_bits d (held d.id.number) (held d.id.number).read _ refl
+      ap (λ (m : ℕ). own_sight view (seen (held m) (Some d))) (sym n) ∙ sight_bits view d (held d.id.number) (held d.id.number).read _ refl
+
+  below_seen : (view : ℕ) (path : List ℕ) (number : ℕ) (o : Option Document) → document_of s.documents number ≡ o → own_sight_below view path (seen (held number) o) ≡ sight_below view s.rights (Who.App app) path o
+  below_seen view path number None e = refl
+  below_seen view path number (Some d) e =
+      let n : d.id.number ≡ number = nat_is d.id.number number (found_passes (λ (x : Document). x.id.number == number) s.documents d e) in
+      ap (λ (m : ℕ). own_sight_below view path (seen (held m) (Some d))) (sym n) ∙ below_bits view path d (held d.id.number) (held d.id.number).read _ refl
 
   folder_seen : (view number : ℕ) (o : Option Document) → document_of s.documents number ≡ o → own_sight_of_folder view (seen (held number) o) ≡ sight_of_folder view s.rights (Who.App app) o
   folder_seen view number None e = refl
@@ -102,19 +115,26 @@ module _ (app : List ℕ) (s : State) where
   view_same zero own sight e = e
   view_same (suc k) own sight e = refl
 
-  there_same : (p : Place) → own_sight_of_place (view s app) p ≡ sight_of_place s (Who.App app) p
-  there_same (Place.Root k) = view_same k (Some (SightOfFolder (RootOf k (own_numbers (held_documents held s.documents)) false))) (sight_of_root s (Who.App app) k) (ap (λ (ns : List ℕ). Some (SightOfFolder (RootOf k ns false))) numbers-seen)
-  there_same Place.ByApp = refl
-  there_same (Place.Folder k id) =
+  naming_same : (k : ℕ) (naming : Option Naming) → own_sight_of_naming (view s app) k naming ≡ sight_of_naming s k (Who.App app) naming
+  naming_same k None = refl
+  naming_same k (Some n) =
+      ap (λ (o : Option Sight). cond (n.view == k) o None)
+      (ap (own_sight_below k n.path) (documents-found held n.document.number s.documents) ∙ below_seen k n.path n.document.number (document_of s.documents n.document.number) refl)
+
+  there_same : (naming : Option Naming) (p : Place) → own_sight_of_place (view s app) naming p ≡ sight_of_place s (Who.App app) naming p
+  there_same naming (Place.Root k) = view_same k (Some (SightOfFolder (RootOf k (own_numbers (held_documents held s.documents)) false))) (sight_of_root s (Who.App app) k) (ap (λ (ns : List ℕ). Some (SightOfFolder (RootOf k ns false))) numbers-seen)
+  there_same naming Place.ByApp = refl
+  there_same naming (Place.Folder k id) =
       view_same k (own_sight_of_folder k (found_document (held_documents held s.documents) id.number)) (λ who. sight_of_folder k s.rights who (document_of s.documents id.number))
       (ap (own_sight_of_folder k) (documents-found held id.number s.documents) ∙ folder_seen k id.number (document_of s.documents id.number) refl)
-  there_same (Place.File k id) =
-      view_same k (own_sight (found_document (held_documents held s.documents) id.number)) (λ who. sight_of_document s.rights who (document_of s.documents id.number))
-      (ap own_sight (documents-found held id.number s.documents) ∙ sight_seen id.number (document_of s.documents id.number) refl)
+  there_same naming (Place.File k id) =
+      view_same k (own_sight k (found_document (held_documents held s.documents) id.number)) (λ who. sight_of_document k s.rights who (document_of s.documents id.number))
+      (ap (own_sight k) (documents-found held id.number s.documents) ∙ sight_seen k id.number (document_of s.documents id.number) refl)
+  there_same naming (Place.Named k n) = view_same k (own_sight_of_naming (view s app) k naming) (λ who. sight_of_naming s k who naming) (naming_same k naming)
 
-  place_same : (p : Option Place) → own_sight_at (view s app) p ≡ sight_at s (Who.App app) p
-  place_same None = refl
-  place_same (Some p) = there_same p
+  place_same : (naming : Option Naming) (p : Option Place) → own_sight_at (view s app) naming p ≡ sight_at s (Who.App app) naming p
+  place_same naming None = refl
+  place_same naming (Some p) = there_same naming p
 
   -- ---- what it may do now
 
@@ -126,5 +146,5 @@ module _ (app : List ℕ) (s : State) where
   pub own_reach-is : (node number : ℕ) → own_reach (view s app) node number ≡ reach_at s (Who.App app) node number
   own_reach-is node number = ap (own_reach_in (view_of_node node)) (documents-found held number s.documents) ∙ reach_seen (view_of_node node) number (document_of s.documents number) refl
 
-  pub own_place-is : (node : ℕ) → own_place (view s app) node ≡ place_of s (Who.App app) node
-  own_place-is node = place_same (place_named node)
+  pub own_place-is : (naming : Option Naming) (node : ℕ) → own_sight_at (view s app) naming (place_named node) ≡ place_of s (Who.App app) naming node
+  own_place-is naming node = place_same naming (place_named node)

@@ -13,7 +13,7 @@ use Rattle.portal_model.specs.Content.{content_at, content_of, file_at, has_room
 use Rattle.portal_model.specs.Node.{bytes_named, bytes_of}
 use Rattle.portal_model.specs.NodeVerdict.{NodeVerdict}
 use Rattle.portal_model.specs.State.{State}
-use Rattle.portal_model.specs.Walk.{Walk, Answers, Looks, Ends, Target, AtPath, Named, LastCall, Uses, Changes, Makes, Gives, is_found, look_of_file, looks_shown, shown_at}
+use Rattle.portal_model.specs.Walk.{Walk, Answers, Looks, Ends, Lists, Target, AtPath, Named, LastCall, Uses, Changes, Makes, Gives, is_found, look_of_file, looks_shown, shown_at}
 use Rattle.portal_model.proofs.ListLookups.{is_same-eq}
 use Rattle.portal_model.proofs.LooksTaken.{shown_given}
 use Rattle.app_world.specs.Shown.{bytes_in, is_file, is_place, of_generation, own_bytes, own_content, own_file, own_found, own_looks, own_shown_at, shown, succeeding}
@@ -123,6 +123,7 @@ module _ (app : List ℕ) (s : State) (differ : IsDistinct is_same (map (λ (f :
   looks-agree (Looks target next) h =
       (λ i. h.0 i ∷ own_looks (view s app) (next (h.0 i))) ∙ ap (λ (ls : List Look). shown_at s.files target ∷ ls) (looks-agree (next (shown_at s.files target)) h.1)
   looks-agree (Ends call done missing) h = ap (λ (b : Bool). cond b [] (Look.Missing ∷ [])) h.0
+  looks-agree (Lists path done missing) h = refl
 
   front : (w : Walk NodeVerdict) (looks : List Look) → Gives (Some s.files) w looks true → take (length looks) (looks_shown s.files w) ≡ looks
   front (Answers v) looks g = let no : true ≡ false = g.1 in cc
@@ -131,6 +132,7 @@ module _ (app : List ℕ) (s : State) (differ : IsDistinct is_same (map (λ (f :
       (λ i. sym g.0 i ∷ take (length looks) (looks_shown s.files (next (sym g.0 i)))) ∙ ap (λ (ls : List Look). look ∷ ls) (front (next look) looks g.1)
   front (Ends call done missing) [] g = refl
   front (Ends call done missing) (look ∷ looks) g = let no : true ≡ false = g.2 in cc
+  front (Lists path done missing) looks g = ap (λ (ls : List Look). take (length ls) []) g ∙ sym g
 
   -- the looks that succeed are those that were given
   pub succeeding-given : (w : Walk NodeVerdict) (fault : Fault) (looks : List Look) → Along s.files On Agrees Finds w → (fault ≡ Fault.Keeper → ⊥) → Gives (Some s.files) w looks (is_tree fault) →

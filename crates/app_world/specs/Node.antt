@@ -5,6 +5,7 @@ use Rattle.portal_base.specs.FileChanges.{cut_to, overlaid}
 use Rattle.portal_base.specs.declared.files.FileName.{FileName}
 use Rattle.portal_model.specs.declared.entry.Given.{Given}
 use Rattle.portal_model.specs.declared.handle.Handle.{Handle}
+use Rattle.portal_model.specs.declared.naming.Naming.{Naming}
 use Rattle.portal_model.specs.declared.place.Place.{Place}
 use Rattle.portal_model.specs.declared.reply.Answer.{Answer}
 use Rattle.portal_model.specs.declared.reply.Code.TheVariants as Code
@@ -14,9 +15,10 @@ use Rattle.portal_model.specs.Bus.{is_tree, moment_given}
 use Rattle.portal_model.specs.Content.{OfFile}
 use Rattle.portal_model.specs.Errno.{eio}
 use Rattle.portal_model.specs.Node.{NodeFacts, bytes_named, node_given, node_walk, walk_on_node}
-use Rattle.portal_model.specs.NodeVerdict.{FileChange, FilesStay, Writes, Resizes, Creates, HandleChange, HandlesStay, Opens, Closes, NodeDoing, NodeVerdict, Errs, Yields, Room}
-use Rattle.portal_model.specs.Place.{FolderOf, RootOf, Sight, SightOfFile, SightOfFolder, place_named, view_of_node}
+use Rattle.portal_model.specs.NodeVerdict.{FileChange, FilesStay, Writes, Resizes, Creates, HandleChange, HandlesStay, Opens, Closes, NameChange, NamesStay, Names, NodeDoing, NodeVerdict, Errs, Yields, Room}
+use Rattle.portal_model.specs.Place.{FolderOf, RootOf, Sight, SightBelow, SightOfFolder, id_of_node, place_named, sight_at_path, view_of_node}
 use Rattle.portal_model.specs.Reach.{Reach, Reaching, no_reach}
+use Rattle.portal_model.specs.SeatNames.{naming_of, with_naming}
 use Rattle.portal_model.specs.State.{State}
 use Rattle.portal_model.specs.Walk.{Walk, walked}
 use Rattle.app_world.specs.Effect.{Effect, Bytes, apply_all}
@@ -26,16 +28,23 @@ use Rattle.app_world.specs.View.{AppView, HeldDocument, OwnConnection, OwnHandle
 
 -- ---- what the application sees at a node
 
--- the application sees a document's file where it may read it
-abbrev pub own_sight : Option HeldDocument → Option Sight
-own_sight None = None
-own_sight (Some d) = cond d.rights.read (Some (SightOfFile d.document d.rights.write)) None
+-- the application sees a document's file, or the folder that it is, where it may read it
+abbrev pub own_sight : ℕ → Option HeldDocument → Option Sight
+own_sight view None = None
+own_sight view (Some d) =
+    cond d.rights.read (Some (sight_at_path view d.document d.document.folder d.rights.write)) None
 
 -- and its folder
 abbrev pub own_sight_of_folder : ℕ → Option HeldDocument → Option Sight
 own_sight_of_folder view None = None
 own_sight_of_folder view (Some d) =
     cond d.rights.read (Some (SightOfFolder (FolderOf view d.document d.rights.write))) None
+
+-- and what it named below one
+abbrev pub own_sight_below : ℕ → List ℕ → Option HeldDocument → Option Sight
+own_sight_below view path None = None
+own_sight_below view path (Some d) =
+    cond d.rights.read (Some (SightBelow view d.document path d.rights.write)) None
 
 abbrev pub may_read : HeldDocument → Bool
 may_read d = d.rights.read
@@ -49,22 +58,31 @@ abbrev pub in_own_view : ℕ → Option Sight → Option Sight
 in_own_view zero sight = sight
 in_own_view (suc k) sight = None
 
+abbrev pub own_sight_of_naming : AppView → ℕ → Option Naming → Option Sight
+own_sight_of_naming v view None = None
+own_sight_of_naming v view (Some n) =
+    cond (n.view == view)
+    (own_sight_below view n.path (found_document v.documents n.document.number)) None
+
 -- the folder of all views is the host's alone
-abbrev pub own_sight_of_place : AppView → Place → Option Sight
-own_sight_of_place v (Place.Root view) =
+abbrev pub own_sight_of_place : AppView → Option Naming → Place → Option Sight
+own_sight_of_place v naming (Place.Root view) =
     in_own_view view (Some (SightOfFolder (RootOf view (own_numbers v.documents) false)))
-own_sight_of_place v Place.ByApp = None
-own_sight_of_place v (Place.Folder view id) =
+own_sight_of_place v naming Place.ByApp = None
+own_sight_of_place v naming (Place.Folder view id) =
     in_own_view view (own_sight_of_folder view (found_document v.documents id.number))
-own_sight_of_place v (Place.File view id) =
-    in_own_view view (own_sight (found_document v.documents id.number))
+own_sight_of_place v naming (Place.File view id) =
+    in_own_view view (own_sight view (found_document v.documents id.number))
+own_sight_of_place v naming (Place.Named view k) =
+    in_own_view view (own_sight_of_naming v view naming)
 
-abbrev pub own_sight_at : AppView → Option Place → Option Sight
-own_sight_at v None = None
-own_sight_at v (Some p) = own_sight_of_place v p
+abbrev pub own_sight_at : AppView → Option Naming → Option Place → Option Sight
+own_sight_at v naming None = None
+own_sight_at v naming (Some p) = own_sight_of_place v naming p
 
-abbrev pub own_place : AppView → ℕ → Option Sight
-own_place v node = own_sight_at v (place_named node)
+-- on the connection that asks
+abbrev pub own_place : AppView → OwnConnection → ℕ → Option Sight
+own_place v c node = own_sight_at v (naming_of c.namings (id_of_node node)) (place_named node)
 
 -- ---- what a request depends on
 
@@ -89,11 +107,12 @@ own_room v c = record {
 
 abbrev pub own_facts : AppView → OwnConnection → ℕ → NodeFacts
 own_facts v c node = record {
-  sight = own_place v node;
+  sight = own_place v c node;
   handle = own_handle_of c.handles;
   reach = own_reach v;
   bytes = own_bytes v;
   room = own_room v c;
+  namings = c.namings;
   file_limit = v.file_bytes;
 }
 
@@ -122,6 +141,21 @@ own_connections_after c (Opens handle) connections =
     map (own_opened c.seat (next_own_handle c handle)) connections
 own_connections_after c (Closes fh) connections = map (own_closed c.seat fh) connections
 
+-- a path below a document that is a folder was named on the connection that asks
+abbrev pub own_named : ℕ → Naming → OwnConnection → OwnConnection
+own_named seat naming c =
+    cond (c.seat == seat) (record c { namings = with_naming c.namings naming }) c
+
+abbrev pub own_connections_named :
+    OwnConnection → NameChange → List OwnConnection → List OwnConnection
+own_connections_named c NamesStay connections = connections
+own_connections_named c (Names naming) connections = map (own_named c.seat naming) connections
+
+abbrev pub own_connections_then :
+    OwnConnection → NodeDoing → List OwnConnection → List OwnConnection
+own_connections_then c d connections =
+    own_connections_named c d.names (own_connections_after c d.handle connections)
+
 -- the file of a name has these bytes, since a moment
 abbrev pub bytes_at : AppView → FileName → List ℕ → ℕ → List Effect
 bytes_at v name bytes now =
@@ -143,7 +177,7 @@ bytes_effects v bytes (Creates path now) =
 abbrev pub own_node_done : AppView → OwnConnection → NodeDoing → AppView
 own_node_done v c d =
     apply_all
-    (prune (record v { connections = own_connections_after c d.handle v.connections }))
+    (prune (record v { connections = own_connections_then c d v.connections }))
     (bytes_effects v (own_bytes v) d.file)
 
 -- ---- the answer

@@ -4,7 +4,7 @@ use Rattle.portal_base.specs.declared.files.FileName.{FileName}
 use Rattle.portal_base.specs.declared.files.Look.{Look}
 use Rattle.portal_model.specs.declared.entry.Fault.{Fault}
 use Rattle.portal_model.specs.Content.{Content, OfFile, OfFolder, NotThere, look_of}
-use Rattle.portal_model.specs.Walk.{Walk, Answers, Looks, Ends, Target, AtPath, Named, LastCall, Uses, Changes, Makes}
+use Rattle.portal_model.specs.Walk.{Walk, Answers, Looks, Ends, Lists, Target, AtPath, Named, LastCall, Uses, Changes, Makes}
 use Rattle.app_world.specs.View.{AppView, PathContent, found_content}
 
 -- the view has a content for each path that it names
@@ -60,6 +60,7 @@ abbrev pub own_looks : {X : Type 0} → AppView → Walk X → List Look
 own_looks v (Answers x) = []
 own_looks v (Looks target next) = own_shown_at v target ∷ own_looks v (next (own_shown_at v target))
 own_looks v (Ends call done missing) = cond (own_found v call) [] (Look.Missing ∷ [])
+own_looks v (Lists path done missing) = []
 
 -- of these, those that succeed: where a call of the tree failed, the ones ahead of it
 abbrev pub succeeding : Fault → ℕ → List Look → List Look

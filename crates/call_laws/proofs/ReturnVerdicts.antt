@@ -1,6 +1,7 @@
 -- What holds of the answer of a request's verdict, and of every refusal, holds of the answer that
 -- its step gives, whatever the outside gave.
 use Rattle.std.proofs.Common.{ℕ, Bool, true, false, cond, List, [], ◌∷◌, Option, Some, None}
+use Rattle.portal_base.specs.declared.files.ChildName.{ChildName}
 use Rattle.portal_base.specs.declared.files.Look.{Look}
 use Rattle.portal_model.specs.declared.entry.Fault.{Fault}
 use Rattle.portal_model.specs.declared.entry.Given.{Given}
@@ -13,7 +14,7 @@ use Rattle.portal_model.specs.Bus.{bus_answer, bus_walk, is_tree, kept, moment_g
 use Rattle.portal_model.specs.State.{State}
 use Rattle.portal_model.specs.Step.{all_told, bus_step}
 use Rattle.portal_model.specs.Verdict.{Doing, Verdict, Refuses, Does, unless, walk_unless}
-use Rattle.portal_model.specs.Walk.{Walk, Answers, Looks, Ends, walked, looks_at_all}
+use Rattle.portal_model.specs.Walk.{Walk, Answers, Looks, Ends, Lists, walked, looks_at_all}
 
 abbrev pub OfVerdict : (Answer → Type 0) → Verdict → Type 0
 OfVerdict P (Refuses code) = Unit {0}
@@ -27,6 +28,7 @@ abbrev pub OfWalk : (Answer → Type 0) → Walk Verdict → Type 0
 OfWalk P (Answers v) = OfVerdict P v
 OfWalk P (Looks target next) = (look : Look) → OfWalk P (next look)
 OfWalk P (Ends call done missing) = ((now : ℕ) → OfVerdict P (done now)) × OfVerdict P missing
+OfWalk P (Lists path done missing) = ((names : List ChildName) → OfVerdict P (done names)) × OfVerdict P missing
 
 -- ---- checks
 
@@ -51,6 +53,8 @@ of_walked P (Looks target next) now (look ∷ looks) failed h = of_walked P (nex
 of_walked P (Ends call done missing) now [] true h = tt
 of_walked P (Ends call done missing) now [] false h = h.0 now
 of_walked P (Ends call done missing) now (look ∷ looks) failed h = h.1
+of_walked P (Lists path done missing) now looks true h = tt
+of_walked P (Lists path done missing) now looks false h = h.1
 
 module _ (P : Answer → Type 0) (refused : (code : Code) → P (Answer.Refused code)) where
   of_kept : (s : State) (f : Fault) (d : Doing) → P d.answer → P (kept s f d).1

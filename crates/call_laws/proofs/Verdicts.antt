@@ -1,6 +1,7 @@
 -- An answer that a request comes to, whatever the outside gave, is the one of its verdict or a
 -- refusal.
 use Rattle.std.proofs.Common.{◌≡◌, ℕ, Bool, true, false, cond, List, [], ◌∷◌, Option, Some, None, refl}
+use Rattle.portal_base.specs.declared.files.ChildName.{ChildName}
 use Rattle.portal_base.specs.declared.files.Look.{Look}
 use Rattle.portal_model.specs.declared.entry.Fault.{Fault}
 use Rattle.portal_model.specs.declared.entry.Given.{Given}
@@ -13,7 +14,7 @@ use Rattle.portal_model.specs.Bus.{bus_answer, bus_walk, is_tree, kept, moment_g
 use Rattle.portal_model.specs.State.{State}
 use Rattle.portal_model.specs.Step.{all_told, bus_step}
 use Rattle.portal_model.specs.Verdict.{Doing, Verdict, Refuses, Does, unless, walk_unless}
-use Rattle.portal_model.specs.Walk.{Walk, Answers, Looks, Ends, walked, looks_at_all}
+use Rattle.portal_model.specs.Walk.{Walk, Answers, Looks, Ends, Lists, walked, looks_at_all}
 use Rattle.dbus_calls.specs.declared.method.Method.{Method}
 use Rattle.dbus_dispatch.specs.Writable.{IsTold}
 
@@ -29,6 +30,7 @@ abbrev pub WalkTold : Method → Walk Verdict → Type 0
 WalkTold m (Answers v) = VerdictTold m v
 WalkTold m (Looks target next) = (look : Look) → WalkTold m (next look)
 WalkTold m (Ends call done missing) = ((now : ℕ) → VerdictTold m (done now)) × VerdictTold m missing
+WalkTold m (Lists path done missing) = ((names : List ChildName) → VerdictTold m (done names)) × VerdictTold m missing
 
 -- ---- checks
 
@@ -53,6 +55,8 @@ walked_told m (Looks target next) now (look ∷ looks) failed h = walked_told m 
 walked_told m (Ends call done missing) now [] true h = tt
 walked_told m (Ends call done missing) now [] false h = h.0 now
 walked_told m (Ends call done missing) now (look ∷ looks) failed h = h.1
+walked_told m (Lists path done missing) now looks true h = tt
+walked_told m (Lists path done missing) now looks false h = h.1
 
 keeper_told : (m : Method) (s : State) (f : Fault) (d : Doing) → IsTold m d.answer → IsTold m (kept s f d).1
 keeper_told m s Fault.None d h = h

@@ -8,6 +8,7 @@ use Rattle.portal_base.specs.declared.files.FileName.{FileName}
 use Rattle.portal_base.specs.declared.files.Look.{Look}
 use Rattle.portal_base.specs.declared.names.doc_id.DocId.{DocId}
 use Rattle.portal_model.specs.declared.handle.Handle.{Handle}
+use Rattle.portal_model.specs.declared.naming.Naming.{Naming}
 use Rattle.portal_model.specs.declared.place.Place.{Place}
 use Rattle.portal_model.specs.declared.reply.Answer.{Answer}
 use Rattle.portal_model.specs.declared.request.NodeOp.{NodeOp}
@@ -17,13 +18,14 @@ use Rattle.portal_model.specs.Content.{Content, OfFile, look_of}
 use Rattle.portal_model.specs.Errno.{eacces, ebadf, einval}
 use Rattle.portal_model.specs.Node.{NodeFacts, node_walk}
 use Rattle.portal_model.specs.NodeVerdict.{FileChange, FilesStay, Writes, Resizes, Creates, NodeDoing, NodeVerdict, Errs, Yields, errs_if}
-use Rattle.portal_model.specs.Place.{place_named}
+use Rattle.portal_model.specs.Place.{id_of_node, place_named}
+use Rattle.portal_model.specs.SeatNames.{naming_of}
 use Rattle.portal_model.specs.Reach.{Reaching, may_read_now, open_file_of}
 use Rattle.portal_model.specs.Read.{read, read_limit, read_name}
-use Rattle.portal_model.specs.Walk.{Walk, Answers, Looks, Ends, Target, AtPath, Named, LastCall, Uses, Changes, Makes, walked}
+use Rattle.portal_model.specs.Walk.{Walk, Answers, Looks, Ends, Lists, Target, AtPath, Named, LastCall, Uses, Changes, Makes, walked}
 use Rattle.portal_model.proofs.ListLookups.{is_same-refl}
 use Rattle.app_world.specs.Effect.{Bytes}
-use Rattle.app_world.specs.Node.{bytes_effects, own_connections_after, own_facts, own_handle_of, own_node_answer, own_node_done, own_node_given, own_reach, own_settled_on_node, own_sight_at, own_walk}
+use Rattle.app_world.specs.Node.{bytes_effects, own_connections_then, own_facts, own_handle_of, own_node_answer, own_node_done, own_node_given, own_reach, own_settled_on_node, own_sight_at, own_walk}
 use Rattle.app_world.specs.Own.{Own}
 use Rattle.app_world.specs.Shown.{is_file, is_place, own_bytes, own_content, own_file, own_found, own_looks, own_shown_at, succeeding}
 use Rattle.app_world.specs.View.{AppView, OwnConnection, OwnHandle, found_connection, names}
@@ -103,18 +105,20 @@ module _ (sees : FileName → Bool) (v : AppView) where
   looks-blind (Answers x) = refl
   looks-blind (Looks target next) = (λ i. shown-at target i ∷ own_looks b (next (shown-at target i))) ∙ ap (λ (ls : List Look). own_shown_at v target ∷ ls) (looks-blind (next (own_shown_at v target)))
   looks-blind (Ends call done missing) = ap (λ (x : Bool). cond x [] (Look.Missing ∷ [])) (found-at call)
+  looks-blind (Lists path done missing) = refl
 
   -- ---- the walk
 
-  sight-at : (p : Option Place) → own_sight_at b p ≡ own_sight_at v p
-  sight-at None = refl
-  sight-at (Some (Place.Root view)) = refl
-  sight-at (Some Place.ByApp) = refl
-  sight-at (Some (Place.Folder view id)) = refl
-  sight-at (Some (Place.File view id)) = refl
+  sight-at : (naming : Option Naming) (p : Option Place) → own_sight_at b naming p ≡ own_sight_at v naming p
+  sight-at naming None = refl
+  sight-at naming (Some (Place.Root view)) = refl
+  sight-at naming (Some Place.ByApp) = refl
+  sight-at naming (Some (Place.Folder view id)) = refl
+  sight-at naming (Some (Place.File view id)) = refl
+  sight-at naming (Some (Place.Named view k)) = refl
 
   facts-are : (c : OwnConnection) (node : ℕ) → own_facts b c node ≡ record (own_facts v c node) { bytes = own_bytes b }
-  facts-are c node = λ i. record (own_facts b c node) { sight = sight-at (place_named node) i }
+  facts-are c node = λ i. record (own_facts b c node) { sight = sight-at (naming_of c.namings (id_of_node node)) (place_named node) i }
 
   module _ (c : OwnConnection) (seat : ℕ) (found : found_connection v.connections seat ≡ Some c) (wide : (name : FileName) → reads v name ≡ true → sees name ≡ true) where
     or-right : (x y : Bool) → y ≡ true → (x || y) ≡ true
@@ -158,7 +162,7 @@ module _ (sees : FileName → Bool) (v : AppView) where
   effects-blind (Creates path now) = refl
 
   done-blind : (c : OwnConnection) (d : NodeDoing) → blind_but sees (own_node_done b c d) ≡ blind_but sees (own_node_done v c d)
-  done-blind c d = apply_all-same sees _ _ _ _ (connections-same sees v (own_connections_after c d.handle v.connections)) (effects-blind d.file)
+  done-blind c d = apply_all-same sees _ _ _ _ (connections-same sees v (own_connections_then c d v.connections)) (effects-blind d.file)
 
   settled-blind : (c : OwnConnection) (o : Option NodeVerdict) → seen_pair sees (own_settled_on_node b c o) ≡ seen_pair sees (own_settled_on_node v c o)
   settled-blind c None = ap (λ (x : AppView). own_settled_on_node x c None) (view-twice sees v)

@@ -17,7 +17,7 @@ use Rattle.portal_model.specs.Node.{bytes_named, facts_of, files_after, node_giv
 use Rattle.portal_model.specs.NodeVerdict.{FileChange, FilesStay, Writes, Resizes, Creates, NodeVerdict, Errs, Yields}
 use Rattle.portal_model.specs.NodeOutside.{LawfulNode}
 use Rattle.portal_model.specs.Outside.{files_told}
-use Rattle.portal_model.specs.Place.{FolderOf, RootOf, Views, Sight, SightOfFile, SightOfFolder, place_of}
+use Rattle.portal_model.specs.Place.{Exported, FolderOf, RootOf, Views, Sight, SightBelow, SightOfFile, SightOfFolder, sight_on}
 use Rattle.portal_model.specs.State.{State, connection_of, handle_of, held_of}
 use Rattle.portal_model.specs.Step.{after, all_told, mount_of, node_step}
 use Rattle.portal_model.specs.Valid.{Valid}
@@ -30,9 +30,11 @@ use Rattle.app_world.specs.Touched.{is_done}
 use Rattle.app_world.specs.View.{AppView, held_documents, named_paths, names, own_connections, path_content, view}
 use Rattle.app_world.specs.World.{touch}
 use Rattle.app_world.proofs.ContentLaws.{contents-found}
-use Rattle.app_world.proofs.NamedPaths.{HandleOn, SightOn}
+use Rattle.portal_model.proofs.ValidLaws.{told-sight}
+use Rattle.app_world.proofs.NamedPaths.{HandleOn, Plain, SightOn, sound-plain}
 use Rattle.app_world.proofs.WalksAlong.{CanBe, CanChange, given-can, walk-along}
 use Rattle.file_laws.specs.Touches.{AreBytesOf, if_named, path_changed, path_changed_on, path_if, path_told}
+use Rattle.file_laws.proofs.SeatMounts.{mount-seat}
 use Rattle.file_laws.proofs.ChangedContents.{made-now, resized-now, written-now}
 use Rattle.file_laws.proofs.ChangedPaths.{ChangesPath, path_of_change, walk-path}
 
@@ -44,21 +46,23 @@ Any path = Unit {0}
 any-sight : (o : Option Sight) → SightOn Any o
 any-sight None = tt
 any-sight (Some (SightOfFile d may_write)) = tt
+any-sight (Some (SightBelow view d path may_write)) = tt
 any-sight (Some (SightOfFolder (RootOf view numbers has_views))) = tt
 any-sight (Some (SightOfFolder (Views applications))) = tt
 any-sight (Some (SightOfFolder (FolderOf view d may_write))) = tt
+any-sight (Some (SightOfFolder (Exported view d path may_write))) = tt
 
 any-handle : (o : Option Handle) → HandleOn Any o
 any-handle None = tt
 any-handle (Some (Handle.File name node document strict read write)) = tt
 any-handle (Some (Handle.Folder node entries)) = tt
 
-can-be : (t : State) (c : Connection) (r : NodeRequest) (given : Given) → LawfulNode t c r given → t.told ≡ true → CanBe t.files Any (node_given (walk_on_node t c r) given)
-can-be t c r given l told =
-    given-can t.files Any (λ target. Unit {0}) (λ call. Unit {0}) (walk_on_node t c r) (moment_given given.now) given.looks (is_tree given.fault)
+can-be : (t : State) (c : Connection) (r : NodeRequest) (given : Given) → Plain (sight_on t c r.node) → LawfulNode t c r given → t.told ≡ true → CanBe t.files Any (node_given (walk_on_node t c r) given)
+can-be t c r given plain l told =
+    given-can t.files Any (λ target. Unit {0}) (λ call. Unit {0}) (walk_on_node t c r) (moment_given given.now) given.listed given.looks (is_tree given.fault)
     (subst (λ (b : Bool). Gives (cond b (Some t.files) None) (walk_on_node t c r) given.looks (is_tree given.fault)) told l.looks)
-    (walk-along t.files Any (λ target. Unit {0}) (λ call. Unit {0}) (λ path h. tt) (λ name h. tt) (λ name h. tt) (λ name h. tt) (λ path h e. tt) (facts_of t c r.node) r r.op
-    (any-sight (place_of t c.who r.node)) (λ fh. any-handle (handle_of t.handles c.seat fh)))
+    (walk-along t.files Any (λ target. Unit {0}) (λ call. Unit {0}) (λ path h. tt) (λ name h. tt) (λ name h. tt) (λ name h. tt) (λ path h e. tt) (facts_of t c r.node) r r.op plain
+    (any-sight (sight_on t c r.node)) (λ fh. any-handle (handle_of t.handles c.seat fh)))
 
 -- ---- what is told
 
@@ -104,16 +108,16 @@ module _ (app : List ℕ) (s : State) where
   verdict-told tree c path (Some (Yields d)) differ m h =
       subst (λ (p : Option (List ℕ)). AreBytesOf v (files_after s.told d.file s.files) (path_if s.told (if_named v p)) (cond s.told (bytes_effects v (bytes_named s.files) d.file) [])) m (told-by differ s.told d.file (λ told. (h told).file))
 
-  mount-told : (r : NodeRequest) (given : Given) (o : Option Connection) → IsDistinct is_same (map (λ (f : File). f.path) s.files) → LawfulOnNode s r given o →
+  mount-told : (seat : ℕ) (r : NodeRequest) (given : Given) (o : Option Connection) → mount_of (connection_of s.connections seat) ≡ o → Valid s → IsDistinct is_same (map (λ (f : File). f.path) s.files) → LawfulOnNode s r given o →
       AreBytesOf v (node_step s r given o).0.files (path_if (is_done (node_step s r given o).1.answer && s.told) (if_named v (path_changed_on s r o))) (cond (is_done (node_step s r given o).1.answer) (node_touch app s r given o) [])
-  mount-told r given None differ l = refl
-  mount-told r given (Some c) differ l =
+  mount-told seat r given None e valid differ l = refl
+  mount-told seat r given (Some c) e valid differ l =
       let t = all_told c.seat s in
       let facts = facts_of t c r.node in
       verdict-told (files_told t) c (path_changed facts r.op) (node_given (walk_on_node t c r) given) differ
-      (on-given (files_told t) (ChangesPath (path_changed facts r.op)) (walk_on_node t c r) (moment_given given.now) given.looks (is_tree given.fault) l.looks (walk-path (files_told t) facts r r.op))
-      (can-be t c r given l)
+      (on-given (files_told t) (ChangesPath (path_changed facts r.op)) (walk_on_node t c r) (moment_given given.now) given.listed given.looks (is_tree given.fault) l.looks (walk-path (files_told t) facts r r.op))
+      (can-be t c r given (sound-plain _ r.node _ (told-sight s seat c (mount-seat s.connections seat (connection_of s.connections seat) refl c e).1 valid r.node)) l)
 
 pub nodes-told : (app : List ℕ) (s : State) (seat : ℕ) (r : NodeRequest) (given : Given) → Valid s → Lawful s (asks seat (Request.Node r) given) →
     AreBytesOf (view s app) (after s (asks seat (Request.Node r) given)).files (path_told app s seat r given) (touch app s (asks seat (Request.Node r) given))
-nodes-told app s seat r given valid l = mount-told app s r given (mount_of (connection_of s.connections seat)) valid.files_differ l.given
+nodes-told app s seat r given valid l = mount-told app s seat r given (mount_of (connection_of s.connections seat)) refl valid valid.files_differ l.given

@@ -1,30 +1,32 @@
 -- A request on a node that is done changes the file of the path that the law tells, and no other.
 use Rattle.std.proofs.Common.{◌≡◌, ℕ, ◌+◌, nat_lt, List, [], ◌∷◌, length, Bool, true, false, not, ◌&&◌, ◌||◌, cond, Option, Some, None, refl}
-use Rattle.portal_base.specs.Names.{is_same, name_of}
+use Rattle.portal_base.specs.Names.{is_same, name_of, named_child}
 use Rattle.portal_base.specs.declared.files.File.{File}
 use Rattle.portal_base.specs.declared.files.FileName.{FileName}
 use Rattle.portal_base.specs.declared.files.Look.{Look}
 use Rattle.portal_model.specs.declared.handle.Handle.{Handle}
+use Rattle.portal_model.specs.declared.naming.Naming.{Naming}
 use Rattle.portal_model.specs.declared.reply.NodeAnswer.{NodeAnswer}
 use Rattle.portal_model.specs.declared.request.NodeOp.{NodeOp}
 use Rattle.portal_model.specs.declared.request.NodeRequest.{NodeRequest}
 use Rattle.portal_model.specs.declared.state.Document.{Document}
 use Rattle.portal_model.specs.Access.{access, access_file, access_folder, executes, writes_to}
-use Rattle.portal_model.specs.Attributes.{attr_of_file, attr_of_folder, on_node}
-use Rattle.portal_model.specs.Create.{create, create_in, create_there}
+use Rattle.portal_model.specs.Attributes.{attr_of_file, attr_of_folder, on_node, is_writable}
+use Rattle.portal_model.specs.Create.{create, create_in, create_there, Made, child_made, create_at as make_at, create_child, own_made}
 use Rattle.portal_model.specs.Errno.{eacces, ebadf, efbig, einval, eisdir, emfile, enametoolong, enoent, enotdir, eperm}
 use Rattle.portal_model.specs.Fsync.{fsync_open}
 use Rattle.portal_model.specs.GetAttr.{get_attr_by_handle, get_attr_by_place, get_attr_open, names_handle, tells_file, tells_folder}
-use Rattle.portal_model.specs.Lookup.{entry_of_file, found_folder, lookup_in, named_in_root, named_in_views}
+use Rattle.portal_model.specs.Lookup.{found_folder, lookup_in, named_in_root, named_in_views, found_child, found_document, lookup_child, naming_in}
 use Rattle.portal_model.specs.Node.{NodeFacts, node_walk}
-use Rattle.portal_model.specs.NodeVerdict.{FileChange, FilesStay, Writes, Resizes, Creates, NodeDoing, Errs, at_file, at_name, by_file_handle, by_place, errs, errs_if, is_too_long, no_file, told}
+use Rattle.portal_model.specs.NodeVerdict.{FileChange, FilesStay, Writes, Resizes, Creates, NodeDoing, Errs, at_name, by_file_handle, by_place, errs, errs_if, is_too_long, no_file, told, Spot, by_look, name_at, spot}
 use Rattle.portal_model.specs.Open.{file_handle, has_no_mode, open_file, open_folder, open_name, open_node, opened_file, opens_to_write, truncates}
 use Rattle.portal_model.specs.OpenDir.{open_dir, open_dir_in, open_found}
-use Rattle.portal_model.specs.Place.{Folder, RootOf, Views, FolderOf, file_node, Sight, SightOfFile, SightOfFolder}
+use Rattle.portal_model.specs.Place.{Folder, RootOf, Views, FolderOf, file_node, Sight, SightOfFile, SightOfFolder, Exported, SightBelow}
 use Rattle.portal_model.specs.Reach.{OpenFile, may_read_now, may_write_now, open_file_of, reaches}
 use Rattle.portal_model.specs.Read.{read, read_limit, read_open}
 use Rattle.portal_model.specs.ReadDir.{read_names}
 use Rattle.portal_model.specs.ReleaseDir.{release_dir}
+use Rattle.portal_model.specs.SeatNames.{lacks_number}
 use Rattle.portal_model.specs.SetAttr.{SetsAttr, resize, set_attr, set_attr_at, set_attr_of, set_attr_of_folder, set_attr_of_open, set_attr_open, sets_by_handle, sets_owner_or_mode, sets_size}
 use Rattle.portal_model.specs.Walk.{Walk, Answers, Looks, Ends, AtPath, Changes}
 use Rattle.portal_model.specs.NodeVerdict.{NodeVerdict}
@@ -43,10 +45,6 @@ path_of_change (Creates path now) = Some path
 abbrev pub ChangesPath : Option (List ℕ) → NodeDoing → Type 0
 ChangesPath path d = path_of_change d.file ≡ path
 
-no-path : (b : Bool) → None ≡ path_if b None
-no-path true = refl
-no-path false = refl
-
 module _ (tree : Option (List File)) (f : NodeFacts) (r : NodeRequest) where
   abbrev At : Option (List ℕ) → Walk NodeVerdict → Type 0
   At path w = OnNode tree (ChangesPath path) w
@@ -63,16 +61,31 @@ module _ (tree : Option (List File)) (f : NodeFacts) (r : NodeRequest) where
   found-still None = tt
   found-still (Some node) = refl
 
-  lookup-still : (name : List ℕ) (folder : Folder) → Still (lookup_in r name folder)
+  own-still : (node : ℕ) (d : Document) (may_write : Bool) (look : Look) → Still (found_document r node d may_write look)
+  own-still node d may_write (Look.File g s m) = refl
+  own-still node d may_write Look.Folder = elim d.folder as (λ b. Still (cond b (told (NodeAnswer.Entry (attr_of_folder (on_node r node) may_write))) (errs enoent))) [ true ↦ refl | false ↦ tt ]
+  own-still node d may_write Look.Missing = tt
+
+  child-still : (namings : List Naming) (naming : Naming) (may_write : Bool) (look : Look) → Still (found_child r namings naming may_write look)
+  child-still namings naming may_write (Look.File g s m) = errs_if-on tree P (lacks_number namings naming) emfile _ (λ e. refl)
+  child-still namings naming may_write Look.Folder = errs_if-on tree P (lacks_number namings naming) emfile _ (λ e. refl)
+  child-still namings naming may_write Look.Missing = tt
+
+  below-still : (namings : List Naming) (view : ℕ) (d : Document) (may_write : Bool) (path : Option (List ℕ)) → Still (lookup_child r namings view d may_write path)
+  below-still namings view d may_write None = tt
+  below-still namings view d may_write (Some path) = λ look shown. child-still namings (naming_in view d path) may_write look
+
+  lookup-still : (name : List ℕ) (folder : Folder) → Still (lookup_in r f.namings name folder)
   lookup-still name (RootOf view numbers has_views) = found-still (named_in_root view numbers has_views name)
   lookup-still name (Views applications) = found-still (named_in_views applications name)
-  lookup-still name (FolderOf view d may_write) = elim (is_same name (name_of d.path)) as (λ b. Still (cond b (at_file d.path (entry_of_file r (file_node view d.id.number) may_write)) (errs enoent))) [
-    | true ↦ at_file-on tree P d.path (entry_of_file r (file_node view d.id.number) may_write) (λ g s m. refl)
+  lookup-still name (FolderOf view d may_write) = elim (is_same name (name_of d.path)) as (λ b. Still (cond b (Looks (AtPath d.path) (found_document r (file_node view d.id.number) d may_write)) (errs enoent))) [
+    | true ↦ λ look shown. own-still (file_node view d.id.number) d may_write look
     | false ↦ tt
   ]
+  lookup-still name (Exported view d path may_write) = below-still f.namings view d may_write (named_child path name)
 
   attr-still : (sight : Option Sight) → Still (get_attr_by_place r sight)
-  attr-still sight = by_place-on tree P sight (λ d may_write. tells_file r may_write) (tells_folder r) (λ d w g s m. refl) (λ folder e. refl)
+  attr-still sight = by_place-on tree P sight (λ at. tells_file r at.may_write) (tells_folder r) (λ at g s m. refl) (λ folder e. refl)
 
   open-attr-still : (file : OpenFile) → Still (get_attr_open f.reach r file)
   open-attr-still file = errs_if-on tree P (not (reaches f.reach file)) eacces _ (λ e. at_name-on tree P file.name (tells_file (on_node r file.node) (may_write_now f.reach file)) (λ g s m. refl))
@@ -90,9 +103,10 @@ module _ (tree : Option (List File)) (f : NodeFacts) (r : NodeRequest) where
   found-dir-still (RootOf view numbers has_views) = refl
   found-dir-still (Views applications) = refl
   found-dir-still (FolderOf view d may_write) = λ look shown. refl
+  found-dir-still (Exported view d path may_write) = ((λ names. refl), tt)
 
   open_dir-still : (sight : Option Sight) → Still (open_dir r sight f.room)
-  open_dir-still sight = by_place-on tree P sight (no_file enotdir) (open_dir_in r f.room) (λ d w g s m. tt)
+  open_dir-still sight = by_place-on tree P sight (no_file enotdir) (open_dir_in r f.room) (λ at g s m. tt)
       (λ folder k. errs_if-on tree P f.room.full emfile (open_found r f.room folder) (λ e. found-dir-still folder))
 
   read-still : (offset size : ℕ) (handle : Option Handle) → Still (read f.reach f.bytes offset size handle)
@@ -116,8 +130,8 @@ module _ (tree : Option (List File)) (f : NodeFacts) (r : NodeRequest) where
   access-still mask sight =
       errs_if-on tree P (nat_lt 7 mask) einval (by_place sight (access_file mask) (access_folder mask)) (λ e.
       by_place-on tree P sight (access_file mask) (access_folder mask)
-      (λ d w g s m. errs_if-on tree P (executes mask || writes_to mask && not w) eacces (told NodeAnswer.Empty) (λ k. refl))
-      (λ folder h. errs_if-on tree P (writes_to mask) eacces (told NodeAnswer.Empty) (λ k. refl)))
+      (λ at g s m. errs_if-on tree P (executes mask || writes_to mask && not at.may_write) eacces (told NodeAnswer.Empty) (λ k. refl))
+      (λ folder h. errs_if-on tree P (writes_to mask && not (is_writable folder)) eacces (told NodeAnswer.Empty) (λ k. refl)))
 
   -- ---- a length that is set
 
@@ -142,10 +156,19 @@ module _ (tree : Option (List File)) (f : NodeFacts) (r : NodeRequest) where
   size-open a (Some (Handle.File name node document strict read write)) = size-of-open a (open_file_of name node document strict read write)
   size-open a (Some (Handle.Folder node names)) = tt
 
+  size-folder : (a : SetsAttr) (folder : Folder) (path : Option (List ℕ)) → At (path_if (sets_size a.valid) path) (set_attr_of_folder r a folder)
+  size-folder a folder path = elim (sets_size a.valid) as (λ b. At (path_if b path) (errs_if b eisdir (told (NodeAnswer.Attr (attr_of_folder r (is_writable folder)))))) [ true ↦ tt | false ↦ refl ]
+
+  size-below : (a : SetsAttr) (view : ℕ) (at : Spot) (look : Look) → At (path_if (sets_size a.valid) (Some at.path)) (by_look view at (set_attr_at r a) (set_attr_of_folder r a) look)
+  size-below a view at (Look.File g s m) = size-at r a (name_at at g) at.may_write s m
+  size-below a view at Look.Folder = size-folder a (Exported view at.document at.path at.may_write) (Some at.path)
+  size-below a view at Look.Missing = tt
+
   size-place : (a : SetsAttr) (sight : Option Sight) → At (path_if (sets_size a.valid) (path_of_sight sight)) (by_place sight (set_attr_at r a) (set_attr_of_folder r a))
   size-place a None = tt
-  size-place a (Some (SightOfFile d w)) = at_file-on tree (ChangesPath (path_if (sets_size a.valid) (Some d.path))) d.path (set_attr_at r a d w) (λ g s m. size-at r a (record { path = d.path; generation = g }) w s m)
-  size-place a (Some (SightOfFolder folder)) = errs_if-on tree (ChangesPath (path_if (sets_size a.valid) None)) (sets_size a.valid) eisdir (told (NodeAnswer.Attr (attr_of_folder r))) (λ e. no-path (sets_size a.valid))
+  size-place a (Some (SightOfFile d w)) = at_file-on tree (ChangesPath (path_if (sets_size a.valid) (Some d.path))) d.path (set_attr_at r a (spot d d.path w)) (λ g s m. size-at r a (name_at (spot d d.path w) g) w s m)
+  size-place a (Some (SightBelow view d path w)) = λ look shown. size-below a view (spot d path w) look
+  size-place a (Some (SightOfFolder folder)) = size-folder a folder None
 
   set_attr-at : (a : SetsAttr) (sight : Option Sight) (handle : Option Handle) → At (path_if (sets_size a.valid) (cond (sets_by_handle a.valid) (path_of_open handle) (path_of_sight sight))) (set_attr f.reach r a sight handle)
   set_attr-at a sight handle =
@@ -163,14 +186,22 @@ module _ (tree : Option (List File)) (f : NodeFacts) (r : NodeRequest) where
     | false ↦ refl
   ]
 
+  open-spot : (flags : ℕ) (at : Spot) (g s m : ℕ) → At (path_if (truncates flags) (Some at.path)) (open_file r flags f.room at g s m)
+  open-spot flags at g s m =
+      let Q : NodeDoing → Type 0 = ChangesPath (path_if (truncates flags) (Some at.path)) in
+      errs_if-on tree Q (opens_to_write flags && not at.may_write) eacces (errs_if f.room.full emfile (open_name r flags f.room at.document (name_at at g))) (λ k.
+      errs_if-on tree Q f.room.full emfile (open_name r flags f.room at.document (name_at at g)) (λ n. open-name-at flags at.document (name_at at g)))
+
+  open-below : (flags view : ℕ) (at : Spot) (look : Look) → At (path_if (truncates flags) (Some at.path)) (by_look view at (open_file r flags f.room) open_folder look)
+  open-below flags view at (Look.File g s m) = open-spot flags at g s m
+  open-below flags view at Look.Folder = tt
+  open-below flags view at Look.Missing = tt
+
   open-place : (flags : ℕ) (sight : Option Sight) → At (path_if (truncates flags) (path_of_sight sight)) (by_place sight (open_file r flags f.room) open_folder)
   open-place flags None = tt
   open-place flags (Some (SightOfFile d w)) =
-      let Q : NodeDoing → Type 0 = ChangesPath (path_if (truncates flags) (Some d.path)) in
-      at_file-on tree Q d.path (open_file r flags f.room d w) (λ g s m.
-      let name : FileName = record { path = d.path; generation = g } in
-      errs_if-on tree Q (opens_to_write flags && not w) eacces (errs_if f.room.full emfile (open_name r flags f.room d name)) (λ k.
-      errs_if-on tree Q f.room.full emfile (open_name r flags f.room d name) (λ n. open-name-at flags d name)))
+      at_file-on tree (ChangesPath (path_if (truncates flags) (Some d.path))) d.path (open_file r flags f.room (spot d d.path w)) (open-spot flags (spot d d.path w))
+  open-place flags (Some (SightBelow view d path w)) = λ look shown. open-below flags view (spot d path w) look
   open-place flags (Some (SightOfFolder folder)) = tt
 
   open-at : (flags : ℕ) (sight : Option Sight) → At (path_if (truncates flags) (path_of_sight sight)) (open_node r flags sight f.room)
@@ -178,31 +209,47 @@ module _ (tree : Option (List File)) (f : NodeFacts) (r : NodeRequest) where
 
   -- ---- a file that is made
 
-  there-at : (flags : ℕ) (d : Document) (node : ℕ) (look : Look) → At (Some d.path) (create_there r flags f.room d node look)
-  there-at flags d node (Look.File g s m) = tt
-  there-at flags d node Look.Folder = tt
-  there-at flags d node Look.Missing = ((λ now found. refl), tt)
+  there-at : (flags : ℕ) (made : Made) (look : Look) → At (Some made.path) (create_there r flags f.room made look)
+  there-at flags made (Look.File g s m) = tt
+  there-at flags made Look.Folder = tt
+  there-at flags made Look.Missing = ((λ now found. refl), tt)
 
-  create-in-at : (name : List ℕ) (flags : ℕ) (folder : Folder) → At (path_of_folder folder) (create_in r name flags f.room folder)
+  create-child-at : (flags view : ℕ) (d : Document) (may_write : Bool) (path : Option (List ℕ)) → At path (create_child r flags f.room f.namings view d may_write path)
+  create-child-at flags view d may_write None = tt
+  create-child-at flags view d may_write (Some path) =
+      let Q : NodeDoing → Type 0 = ChangesPath (Some path) in
+      let naming = naming_in view d path in
+      let there = make_at r flags f.room (child_made f.namings d naming) in
+      errs_if-on tree Q (not may_write) eacces (errs_if (f.room.full || lacks_number f.namings naming) emfile there) (λ a.
+      errs_if-on tree Q (f.room.full || lacks_number f.namings naming) emfile there (λ b. λ look shown. there-at flags (child_made f.namings d naming) look))
+
+  create-in-at : (name : List ℕ) (flags : ℕ) (folder : Folder) → At (path_of_folder name folder) (create_in r name flags f.room f.namings folder)
   create-in-at name flags (RootOf view numbers has_views) = tt
   create-in-at name flags (Views applications) = tt
   create-in-at name flags (FolderOf view d may_write) =
       let Q : NodeDoing → Type 0 = ChangesPath (Some d.path) in
-      let there = Looks (AtPath d.path) (create_there r flags f.room d (file_node view d.id.number)) in
+      let there = make_at r flags f.room (own_made view d) in
       errs_if-on tree Q (not (is_same name (name_of d.path))) eacces (errs_if (not may_write) eacces (errs_if f.room.full emfile there)) (λ a.
       errs_if-on tree Q (not may_write) eacces (errs_if f.room.full emfile there) (λ b.
-      errs_if-on tree Q f.room.full emfile there (λ e. λ look shown. there-at flags d (file_node view d.id.number) look)))
+      errs_if-on tree Q f.room.full emfile there (λ e. λ look shown. there-at flags (own_made view d) look)))
+  create-in-at name flags (Exported view d path may_write) = create-child-at flags view d may_write (named_child path name)
 
-  create-place : (name : List ℕ) (flags : ℕ) (sight : Option Sight) → At (path_in_sight sight) (by_place sight (no_file enotdir) (create_in r name flags f.room))
+  create-below : (name : List ℕ) (flags view : ℕ) (at : Spot) (look : Look) → At (named_child at.path name) (by_look view at (no_file enotdir) (create_in r name flags f.room f.namings) look)
+  create-below name flags view at (Look.File g s m) = tt
+  create-below name flags view at Look.Folder = create-in-at name flags (Exported view at.document at.path at.may_write)
+  create-below name flags view at Look.Missing = tt
+
+  create-place : (name : List ℕ) (flags : ℕ) (sight : Option Sight) → At (path_in_sight name sight) (by_place sight (no_file enotdir) (create_in r name flags f.room f.namings))
   create-place name flags None = tt
-  create-place name flags (Some (SightOfFile d w)) = at_file-on tree P d.path (no_file enotdir d w) (λ g s m. tt)
+  create-place name flags (Some (SightOfFile d w)) = at_file-on tree P d.path (no_file enotdir (spot d d.path w)) (λ g s m. tt)
+  create-place name flags (Some (SightBelow view d path w)) = λ look shown. create-below name flags view (spot d path w) look
   create-place name flags (Some (SightOfFolder folder)) = create-in-at name flags folder
 
-  create-at : (name : List ℕ) (flags : ℕ) (sight : Option Sight) → At (path_in_sight sight) (create r name flags sight f.room)
+  create-at : (name : List ℕ) (flags : ℕ) (sight : Option Sight) → At (path_in_sight name sight) (create r name flags sight f.room f.namings)
   create-at name flags sight =
-      let place = by_place sight (no_file enotdir) (create_in r name flags f.room) in
-      errs_if-on tree (ChangesPath (path_in_sight sight)) (has_no_mode flags) einval (errs_if (is_too_long name) enametoolong place) (λ a.
-      errs_if-on tree (ChangesPath (path_in_sight sight)) (is_too_long name) enametoolong place (λ b. create-place name flags sight))
+      let place = by_place sight (no_file enotdir) (create_in r name flags f.room f.namings) in
+      errs_if-on tree (ChangesPath (path_in_sight name sight)) (has_no_mode flags) einval (errs_if (is_too_long name) enametoolong place) (λ a.
+      errs_if-on tree (ChangesPath (path_in_sight name sight)) (is_too_long name) enametoolong place (λ b. create-place name flags sight))
 
   -- ---- a file that is written
 
@@ -226,8 +273,8 @@ module _ (tree : Option (List File)) (f : NodeFacts) (r : NodeRequest) where
 
   pub walk-path : (op : NodeOp) → OnNode tree (ChangesPath (path_changed f op)) (node_walk f r op)
   walk-path (NodeOp.Lookup name) =
-      errs_if-on tree P (is_too_long name) enametoolong (by_place f.sight (no_file enotdir) (lookup_in r name)) (λ e.
-      by_place-on tree P f.sight (no_file enotdir) (lookup_in r name) (λ d w g s m. tt) (λ folder k. lookup-still name folder))
+      errs_if-on tree P (is_too_long name) enametoolong (by_place f.sight (no_file enotdir) (lookup_in r f.namings name)) (λ e.
+      by_place-on tree P f.sight (no_file enotdir) (lookup_in r f.namings name) (λ at g s m. tt) (λ folder k. lookup-still name folder))
   walk-path (NodeOp.Forget count) = refl
   walk-path (NodeOp.BatchForget nodes) = refl
   walk-path (NodeOp.GetAttr flags fh) = get_attr-still (names_handle flags) f.sight (f.handle fh)

@@ -43,7 +43,7 @@ use Rattle.portal_model.specs.Step.{all_told, bus_of, bus_step, collect_step, mo
 use Rattle.portal_model.specs.Store.{Outcome, entry_of, entry_to_set, store_call, with_entry}
 use Rattle.portal_model.specs.StoreRequest.{are_store_arguments, has_entry_for, own_table, store_allowed, store_request, store_verdict, table_of}
 use Rattle.portal_model.specs.Verdict.{Verdict, Refuses, Does, unless, walk_unless}
-use Rattle.portal_model.specs.Walk.{Walk, looks_at_all, looks_shown, walked}
+use Rattle.portal_model.specs.Walk.{Walk, Answers, listed_shown, looks_at_all, looks_shown, walked, walked_with}
 use Rattle.portal_model.proofs.EntriesAllowed.{allowed-told}
 use Rattle.portal_model.proofs.LooksTaken.{walk_taken}
 use Rattle.portal_model.proofs.NodeAllowed.{met, walked_met}
@@ -217,12 +217,29 @@ settled-was : (s refused : State) (given : Given) (v : Verdict) → is_refusal (
 settled-was s refused given (Refuses code) h = cc
 settled-was s refused given (Does d) h = tt
 
+-- no request of a bus lists a folder
+unlisted-unless : (files : List File) (wrong : Bool) (code : Code) (w : Walk Verdict) → listed_shown files w ≡ None → listed_shown files (walk_unless wrong code w) ≡ None
+unlisted-unless files true code w h = refl
+unlisted-unless files false code w h = h
+
+unlisted-all : (files : List File) (paths : List (List ℕ)) (v : List Look → Verdict) → listed_shown files (looks_at_all paths (λ looks. Answers (v looks))) ≡ None
+unlisted-all files [] v = refl
+unlisted-all files (path ∷ paths) v = unlisted-all files paths (λ looks. v (look_at files path ∷ looks))
+
+unlisted : (files : List File) (s : State) (c : Connection) (request : Request) (numbers : List DocId) → listed_shown files (bus_walk s c request numbers) ≡ None
+unlisted files s c (Request.Add a) numbers =
+    unlisted-unless files (not (are_presented c.queue a)) Refusal.InvalidArgs (add_presented s c a numbers)
+    (unlisted-unless files (not (are_add_arguments c.queue a)) Refusal.InvalidArgument (add_allowed s c a numbers)
+    (unlisted-unless files (not (may_list_all s c.who a (document_paths c.queue a))) Refusal.NotAllowed (add_looking s c a numbers)
+    (unlisted-all files (paths_shown c.queue a) (λ looks. unless (not (are_of_kind a looks)) Refusal.InvalidArgument (added s (added_files s c a numbers))))))
+unlisted files s c request numbers = refl
+
 bus-was : (s : State) (c : Connection) (request : Request) (given : Given) → s.told ≡ true → on_bus request ≡ true → LawfulBus s c request given → given.fault ≡ Fault.None → is_refusal (bus_answer s c request given).1 ≡ false → is_allowed s c request ≡ true
 bus-was s c request given t o l e h =
     let w = bus_walk s c request given.numbers in
     let now = moment_given given.now in
     let looks : given.looks ≡ looks_shown s.files w = walk_taken s w given t e l.looks in
-    let verdict : verdict_given w given ≡ Some (met s.files now w) = (λ i. walked w now (looks i) (is_tree (e i))) ∙ walked_met s.files now w in
+    let verdict : verdict_given w given ≡ Some (met s.files now w) = (λ i. walked w now (looks i) (is_tree (e i))) ∙ ((λ i. walked_with w now (sym (unlisted s.files s c request given.numbers) i) (looks_shown s.files w) false) ∙ walked_met s.files now w) in
     walk-was s c request given.numbers now o
     (settled-was s (refused_state s c request) given (met s.files now w) (sym (ap (λ (v : Option Verdict). is_refusal (settled s (refused_state s c request) given v).1) verdict) ∙ h))
 

@@ -2,35 +2,37 @@
 -- closes one only where it is a release of it.
 use Rattle.std.proofs.Common.{◌≡◌, ℕ, ◌+◌, ◌==◌, nat_lt, List, [], ◌∷◌, length, Bool, true, false, not, ◌&&◌, ◌||◌, cond, Option, Some, None, refl, arith}
 use Rattle.std.proofs.lemmas.Bool.Decides.{nat_tests}
-use Rattle.portal_base.specs.Names.{is_same, name_of}
+use Rattle.portal_base.specs.Names.{is_same, name_of, named_child}
 use Rattle.portal_base.specs.declared.files.File.{File}
 use Rattle.portal_base.specs.declared.files.FileName.{FileName}
 use Rattle.portal_base.specs.declared.files.Look.{Look}
 use Rattle.portal_model.specs.declared.handle.Handle.{Handle}
+use Rattle.portal_model.specs.declared.naming.Naming.{Naming}
 use Rattle.portal_model.specs.declared.reply.NodeAnswer.{NodeAnswer}
 use Rattle.portal_model.specs.declared.request.NodeOp.{NodeOp}
 use Rattle.portal_model.specs.declared.request.NodeRequest.{NodeRequest}
 use Rattle.portal_model.specs.declared.state.Document.{Document}
 use Rattle.portal_model.specs.Access.{access, access_file, access_folder, executes, writes_to}
-use Rattle.portal_model.specs.Attributes.{attr_of_file, attr_of_folder, on_node}
-use Rattle.portal_model.specs.Create.{create, create_in, create_there}
+use Rattle.portal_model.specs.Attributes.{attr_of_file, attr_of_folder, on_node, is_writable}
+use Rattle.portal_model.specs.Create.{create, create_in, create_there, Made, child_made, create_at, create_child, own_made}
 use Rattle.portal_model.specs.Errno.{eacces, ebadf, efbig, einval, eisdir, emfile, enametoolong, enoent, enotdir, eperm}
 use Rattle.portal_model.specs.Fsync.{fsync_open}
 use Rattle.portal_model.specs.GetAttr.{get_attr_by_handle, get_attr_by_place, get_attr_open, names_handle, tells_file, tells_folder}
-use Rattle.portal_model.specs.Lookup.{entry_of_file, found_folder, lookup_in, named_in_root, named_in_views}
+use Rattle.portal_model.specs.Lookup.{found_folder, lookup_in, named_in_root, named_in_views, found_child, found_document, lookup_child, naming_in}
 use Rattle.portal_model.specs.Node.{NodeFacts, node_walk}
-use Rattle.portal_model.specs.NodeVerdict.{NodeDoing, NodeVerdict, FilesStay, Resizes, HandleChange, HandlesStay, Opens, Closes, Errs, at_file, at_name, by_file_handle, by_place, errs, errs_if, is_too_long, next_handle, no_file, told}
+use Rattle.portal_model.specs.NodeVerdict.{NodeDoing, NodeVerdict, FilesStay, Resizes, HandleChange, HandlesStay, Opens, Closes, Errs, at_name, by_file_handle, by_place, errs, errs_if, is_too_long, next_handle, no_file, told, name_at}
 use Rattle.portal_model.specs.Open.{file_handle, has_no_mode, open_file, open_folder, open_name, open_node, opened_file, opens_to_write, truncates}
 use Rattle.portal_model.specs.OpenDir.{open_dir, open_dir_in, open_found}
-use Rattle.portal_model.specs.Place.{Folder, RootOf, Views, FolderOf, file_node, Sight}
+use Rattle.portal_model.specs.Place.{Folder, RootOf, Views, FolderOf, file_node, Sight, Exported}
 use Rattle.portal_model.specs.Reach.{OpenFile, may_read_now, may_write_now, open_file_of, reaches}
 use Rattle.portal_model.specs.Read.{read, read_limit, read_open}
 use Rattle.portal_model.specs.ReadDir.{read_names}
 use Rattle.portal_model.specs.ReleaseDir.{release_dir}
+use Rattle.portal_model.specs.SeatNames.{lacks_number}
 use Rattle.portal_model.specs.SetAttr.{SetsAttr, resize, set_attr, set_attr_at, set_attr_of, set_attr_of_folder, set_attr_of_open, set_attr_open, sets_by_handle, sets_owner_or_mode, sets_size}
 use Rattle.portal_model.specs.Walk.{Walk, Answers, Looks, Ends, AtPath, Changes}
 use Rattle.portal_model.specs.Write.{write, write_content, write_limit, write_open}
-use Rattle.portal_model.proofs.NodeWalks.{OnNode, at_file-on, at_name-on, by_file_handle-on, by_place-on, errs_if-on}
+use Rattle.portal_model.proofs.NodeWalks.{OnNode, at_name-on, by_file_handle-on, by_place-on, errs_if-on}
 use Rattle.file_laws.specs.KeptHandles.{number_told, releases}
 
 -- the number by which a handle is opened
@@ -58,16 +60,31 @@ module _ (tree : Option (List File)) (f : NodeFacts) (r : NodeRequest) (op : Nod
   found-fits None = tt
   found-fits (Some node) = (refl, tt)
 
-  lookup-fits : (name : List ℕ) (folder : Folder) → On (lookup_in r name folder)
+  own-fits : (node : ℕ) (d : Document) (may_write : Bool) (look : Look) → On (found_document r node d may_write look)
+  own-fits node d may_write (Look.File g s m) = (refl, tt)
+  own-fits node d may_write Look.Folder = elim d.folder as (λ b. On (cond b (told (NodeAnswer.Entry (attr_of_folder (on_node r node) may_write))) (errs enoent))) [ true ↦ (refl, tt) | false ↦ tt ]
+  own-fits node d may_write Look.Missing = tt
+
+  child-fits : (namings : List Naming) (naming : Naming) (may_write : Bool) (look : Look) → On (found_child r namings naming may_write look)
+  child-fits namings naming may_write (Look.File g s m) = errs_if-on tree P (lacks_number namings naming) emfile _ (λ e. (refl, tt))
+  child-fits namings naming may_write Look.Folder = errs_if-on tree P (lacks_number namings naming) emfile _ (λ e. (refl, tt))
+  child-fits namings naming may_write Look.Missing = tt
+
+  below-fits : (namings : List Naming) (view : ℕ) (d : Document) (may_write : Bool) (path : Option (List ℕ)) → On (lookup_child r namings view d may_write path)
+  below-fits namings view d may_write None = tt
+  below-fits namings view d may_write (Some path) = λ look shown. child-fits namings (naming_in view d path) may_write look
+
+  lookup-fits : (name : List ℕ) (folder : Folder) → On (lookup_in r f.namings name folder)
   lookup-fits name (RootOf view numbers has_views) = found-fits (named_in_root view numbers has_views name)
   lookup-fits name (Views applications) = found-fits (named_in_views applications name)
-  lookup-fits name (FolderOf view d may_write) = elim (is_same name (name_of d.path)) as (λ b. On (cond b (at_file d.path (entry_of_file r (file_node view d.id.number) may_write)) (errs enoent))) [
-    | true ↦ at_file-on tree P d.path (entry_of_file r (file_node view d.id.number) may_write) (λ g s m. (refl, tt))
+  lookup-fits name (FolderOf view d may_write) = elim (is_same name (name_of d.path)) as (λ b. On (cond b (Looks (AtPath d.path) (found_document r (file_node view d.id.number) d may_write)) (errs enoent))) [
+    | true ↦ λ look shown. own-fits (file_node view d.id.number) d may_write look
     | false ↦ tt
   ]
+  lookup-fits name (Exported view d path may_write) = below-fits f.namings view d may_write (named_child path name)
 
   attr-fits : (sight : Option Sight) → On (get_attr_by_place r sight)
-  attr-fits sight = by_place-on tree P sight (λ d may_write. tells_file r may_write) (tells_folder r) (λ d w g s m. (refl, tt)) (λ folder e. (refl, tt))
+  attr-fits sight = by_place-on tree P sight (λ at. tells_file r at.may_write) (tells_folder r) (λ at g s m. (refl, tt)) (λ folder e. (refl, tt))
 
   open-attr-fits : (file : OpenFile) → On (get_attr_open f.reach r file)
   open-attr-fits file = errs_if-on tree P (not (reaches f.reach file)) eacces _ (λ e. at_name-on tree P file.name (tells_file (on_node r file.node) (may_write_now f.reach file)) (λ g s m. (refl, tt)))
@@ -90,7 +107,7 @@ module _ (tree : Option (List File)) (f : NodeFacts) (r : NodeRequest) (op : Nod
   ]
 
   folder-size-fits : (a : SetsAttr) (folder : Folder) → On (set_attr_of_folder r a folder)
-  folder-size-fits a folder = errs_if-on tree P (sets_size a.valid) eisdir (told (NodeAnswer.Attr (attr_of_folder r))) (λ e. (refl, tt))
+  folder-size-fits a folder = errs_if-on tree P (sets_size a.valid) eisdir (told (NodeAnswer.Attr (attr_of_folder r (is_writable folder)))) (λ e. (refl, tt))
 
   open-size-fits : (a : SetsAttr) (file : OpenFile) → On (set_attr_open f.reach r a file)
   open-size-fits a file =
@@ -104,7 +121,7 @@ module _ (tree : Option (List File)) (f : NodeFacts) (r : NodeRequest) (op : Nod
       errs_if-on tree P (sets_owner_or_mode a.valid) eperm (cond (sets_by_handle a.valid) (by_file_handle handle (set_attr_open f.reach r a)) (by_place sight (set_attr_at r a) (set_attr_of_folder r a))) (λ e.
       elim (sets_by_handle a.valid) as (λ b. On (cond b (by_file_handle handle (set_attr_open f.reach r a)) (by_place sight (set_attr_at r a) (set_attr_of_folder r a)))) [
         | true ↦ by_file_handle-on tree P handle (set_attr_open f.reach r a) (open-size-fits a)
-        | false ↦ by_place-on tree P sight (set_attr_at r a) (set_attr_of_folder r a) (λ d w g s m. size-fits r a (record { path = d.path; generation = g }) w s m) (λ folder e. folder-size-fits a folder)
+        | false ↦ by_place-on tree P sight (set_attr_at r a) (set_attr_of_folder r a) (λ at g s m. size-fits r a (name_at at g) at.may_write s m) (λ folder e. folder-size-fits a folder)
       ])
 
   open-name-fits : (flags : ℕ) (d : Document) (name : FileName) → On (open_name r flags f.room d name)
@@ -116,39 +133,48 @@ module _ (tree : Option (List File)) (f : NodeFacts) (r : NodeRequest) (op : Nod
   open-fits : (flags : ℕ) (sight : Option Sight) → On (open_node r flags sight f.room)
   open-fits flags sight =
       errs_if-on tree P (has_no_mode flags) einval (by_place sight (open_file r flags f.room) open_folder) (λ e.
-      by_place-on tree P sight (open_file r flags f.room) open_folder (λ d w g s m.
-      let name : FileName = record { path = d.path; generation = g } in
-      errs_if-on tree P (opens_to_write flags && not w) eacces (errs_if f.room.full emfile (open_name r flags f.room d name)) (λ k.
-      errs_if-on tree P f.room.full emfile (open_name r flags f.room d name) (λ n. open-name-fits flags d name))) (λ folder k. tt))
+      by_place-on tree P sight (open_file r flags f.room) open_folder (λ at g s m.
+      errs_if-on tree P (opens_to_write flags && not at.may_write) eacces (errs_if f.room.full emfile (open_name r flags f.room at.document (name_at at g))) (λ k.
+      errs_if-on tree P f.room.full emfile (open_name r flags f.room at.document (name_at at g)) (λ n. open-name-fits flags at.document (name_at at g)))) (λ folder k. tt))
 
-  there-fits : (flags : ℕ) (d : Document) (node : ℕ) (look : Look) → On (create_there r flags f.room d node look)
-  there-fits flags d node (Look.File g s m) = tt
-  there-fits flags d node Look.Folder = tt
-  there-fits flags d node Look.Missing = ((λ now found. (refl, tt)), tt)
+  there-fits : (flags : ℕ) (made : Made) (look : Look) → On (create_there r flags f.room made look)
+  there-fits flags made (Look.File g s m) = tt
+  there-fits flags made Look.Folder = tt
+  there-fits flags made Look.Missing = ((λ now found. (refl, tt)), tt)
 
-  create-in-fits : (name : List ℕ) (flags : ℕ) (folder : Folder) → On (create_in r name flags f.room folder)
+  create-child-fits : (flags view : ℕ) (d : Document) (may_write : Bool) (path : Option (List ℕ)) → On (create_child r flags f.room f.namings view d may_write path)
+  create-child-fits flags view d may_write None = tt
+  create-child-fits flags view d may_write (Some path) =
+      let naming = naming_in view d path in
+      let there = create_at r flags f.room (child_made f.namings d naming) in
+      errs_if-on tree P (not may_write) eacces (errs_if (f.room.full || lacks_number f.namings naming) emfile there) (λ a.
+      errs_if-on tree P (f.room.full || lacks_number f.namings naming) emfile there (λ b. λ look shown. there-fits flags (child_made f.namings d naming) look))
+
+  create-in-fits : (name : List ℕ) (flags : ℕ) (folder : Folder) → On (create_in r name flags f.room f.namings folder)
   create-in-fits name flags (RootOf view numbers has_views) = tt
   create-in-fits name flags (Views applications) = tt
   create-in-fits name flags (FolderOf view d may_write) =
-      let there = Looks (AtPath d.path) (create_there r flags f.room d (file_node view d.id.number)) in
+      let there = create_at r flags f.room (own_made view d) in
       errs_if-on tree P (not (is_same name (name_of d.path))) eacces (errs_if (not may_write) eacces (errs_if f.room.full emfile there)) (λ a.
       errs_if-on tree P (not may_write) eacces (errs_if f.room.full emfile there) (λ b.
-      errs_if-on tree P f.room.full emfile there (λ e. λ look shown. there-fits flags d (file_node view d.id.number) look)))
+      errs_if-on tree P f.room.full emfile there (λ e. λ look shown. there-fits flags (own_made view d) look)))
+  create-in-fits name flags (Exported view d path may_write) = create-child-fits flags view d may_write (named_child path name)
 
-  create-fits : (name : List ℕ) (flags : ℕ) (sight : Option Sight) → On (create r name flags sight f.room)
+  create-fits : (name : List ℕ) (flags : ℕ) (sight : Option Sight) → On (create r name flags sight f.room f.namings)
   create-fits name flags sight =
-      let place = by_place sight (no_file enotdir) (create_in r name flags f.room) in
+      let place = by_place sight (no_file enotdir) (create_in r name flags f.room f.namings) in
       errs_if-on tree P (has_no_mode flags) einval (errs_if (is_too_long name) enametoolong place) (λ a.
       errs_if-on tree P (is_too_long name) enametoolong place (λ b.
-      by_place-on tree P sight (no_file enotdir) (create_in r name flags f.room) (λ d w g s m. tt) (λ folder e. create-in-fits name flags folder)))
+      by_place-on tree P sight (no_file enotdir) (create_in r name flags f.room f.namings) (λ at g s m. tt) (λ folder e. create-in-fits name flags folder)))
 
   found-dir-fits : (folder : Folder) → On (open_found r f.room folder)
   found-dir-fits (RootOf view numbers has_views) = (refl, tt)
   found-dir-fits (Views applications) = (refl, tt)
   found-dir-fits (FolderOf view d may_write) = λ look shown. (refl, tt)
+  found-dir-fits (Exported view d path may_write) = ((λ names. (refl, tt)), tt)
 
   open_dir-fits : (sight : Option Sight) → On (open_dir r sight f.room)
-  open_dir-fits sight = by_place-on tree P sight (no_file enotdir) (open_dir_in r f.room) (λ d w g s m. tt)
+  open_dir-fits sight = by_place-on tree P sight (no_file enotdir) (open_dir_in r f.room) (λ at g s m. tt)
       (λ folder k. errs_if-on tree P f.room.full emfile (open_found r f.room folder) (λ e. found-dir-fits folder))
 
   read-fits : (offset size : ℕ) (handle : Option Handle) → On (read f.reach f.bytes offset size handle)
@@ -183,16 +209,16 @@ module _ (tree : Option (List File)) (f : NodeFacts) (r : NodeRequest) (op : Nod
   access-fits mask sight =
       errs_if-on tree P (nat_lt 7 mask) einval (by_place sight (access_file mask) (access_folder mask)) (λ e.
       by_place-on tree P sight (access_file mask) (access_folder mask)
-      (λ d w g s m. errs_if-on tree P (executes mask || writes_to mask && not w) eacces (told NodeAnswer.Empty) (λ k. (refl, tt)))
-      (λ folder h. errs_if-on tree P (writes_to mask) eacces (told NodeAnswer.Empty) (λ k. (refl, tt))))
+      (λ at g s m. errs_if-on tree P (executes mask || writes_to mask && not at.may_write) eacces (told NodeAnswer.Empty) (λ k. (refl, tt)))
+      (λ folder h. errs_if-on tree P (writes_to mask && not (is_writable folder)) eacces (told NodeAnswer.Empty) (λ k. (refl, tt))))
 
 same-number : (n : ℕ) → (n == n) ≡ true
 same-number n = grind (arith, nat_tests)
 
 pub walk-fits : (tree : Option (List File)) (f : NodeFacts) (r : NodeRequest) (op : NodeOp) → OnNode tree (Fits (next_handle f.room) op) (node_walk f r op)
 walk-fits t f r (NodeOp.Lookup name) =
-    errs_if-on t (Fits (next_handle f.room) (NodeOp.Lookup name)) (is_too_long name) enametoolong (by_place f.sight (no_file enotdir) (lookup_in r name)) (λ e.
-    by_place-on t (Fits (next_handle f.room) (NodeOp.Lookup name)) f.sight (no_file enotdir) (lookup_in r name) (λ d w g s m. tt) (λ folder k. lookup-fits t f r (NodeOp.Lookup name) name folder))
+    errs_if-on t (Fits (next_handle f.room) (NodeOp.Lookup name)) (is_too_long name) enametoolong (by_place f.sight (no_file enotdir) (lookup_in r f.namings name)) (λ e.
+    by_place-on t (Fits (next_handle f.room) (NodeOp.Lookup name)) f.sight (no_file enotdir) (lookup_in r f.namings name) (λ at g s m. tt) (λ folder k. lookup-fits t f r (NodeOp.Lookup name) name folder))
 walk-fits t f r (NodeOp.Forget count) = (refl, tt)
 walk-fits t f r (NodeOp.BatchForget nodes) = (refl, tt)
 walk-fits t f r (NodeOp.GetAttr flags fh) = get_attr-fits t f r (NodeOp.GetAttr flags fh) (names_handle flags) f.sight (f.handle fh)

@@ -19,7 +19,7 @@ use Rattle.portal_model.specs.NodeVerdict.{NodeVerdict}
 use Rattle.portal_model.specs.Open.{file_handle, open_node}
 use Rattle.portal_model.specs.Place.{SightOfFile}
 use Rattle.portal_model.specs.State.{State, handles_of}
-use Rattle.portal_model.specs.Walk.{Walk, looks_shown, reads_clock}
+use Rattle.portal_model.specs.Walk.{Walk, listed_shown, looks_shown, reads_clock}
 use Rattle.file_laws.specs.HandleLimits.{HandlesAreLimited, HandlesUpTo, opened_up_to}
 
 -- ---- the state, and what an OPEN makes of it
@@ -55,7 +55,7 @@ walk_by opens full = open_node open_request 0 (Some (SightOfFile a_document true
 abbrev given_by : ℕ → Bool → Given
 given_by opens full =
     let looks = looks_shown files (walk_by opens full) in
-    shown looks (cond (reads_clock (walk_by opens full) looks) (Some 7) None)
+    record (shown looks (cond (reads_clock (walk_by opens full) looks) (Some 7) None)) { listed = listed_shown files (walk_by opens full) }
 
 abbrev settled_by : State → Connection → Bool → State × Answer
 settled_by s c full = settled_on_node s c (node_given (walk_by c.opens full) (given_by c.opens full))

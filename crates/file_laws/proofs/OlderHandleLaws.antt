@@ -84,7 +84,7 @@ module _ (seat fh : ℕ) (handle : Handle) where
       let t = all_told c.seat s in
       let verdict = node_given (walk_on_node t c r) given in
       settled-keeps t c r verdict
-      (on-given (files_told t) (Fits (c.opens + 1) r.op) (walk_on_node t c r) (moment_given given.now) given.looks (is_tree given.fault) l.looks (walk-fits (files_told t) (facts_of t c r.node) r r.op))
+      (on-given (files_told t) (Fits (c.opens + 1) r.op) (walk_on_node t c r) (moment_given given.now) given.listed given.looks (is_tree given.fault) l.looks (walk-fits (files_told t) (facts_of t c r.node) r r.op))
       (ap (λ (k : ℕ). k == seat && (releases fh r.op && is_done (settled_on_node t c verdict).1)) (f c refl) ∙ m) e
 
   collect-keeps : (s : State) (o : Option Connection) → Has s → Has (collect_step s o).0
@@ -151,7 +151,7 @@ mount-makes s v n r given (Some c) fh f l e =
     let seat : c.seat ≡ n = (f c refl).0 in
     subst (λ (k : ℕ). Made k fh s.handles (settled_on_node t c verdict).0.handles) seat
     (settled-makes t c r verdict fh
-    (on-given (files_told t) (Fits (c.opens + 1) r.op) (walk_on_node t c r) (moment_given given.now) given.looks (is_tree given.fault) l.looks (walk-fits (files_told t) (facts_of t c r.node) r r.op))
+    (on-given (files_told t) (Fits (c.opens + 1) r.op) (walk_on_node t c r) (moment_given given.now) given.listed given.looks (is_tree given.fault) l.looks (walk-fits (files_told t) (facts_of t c r.node) r r.op))
     (next-free c s.connections (ap (connection_of s.connections) seat ∙ (f c refl).1) s.handles v.handles_sound) e)
 
 step-makes : (s : State) (v : Valid s) (n : ℕ) (request : Request) (given : Given) (fh : ℕ) → LawfulGiven s n request given → number_answered request (request_step s n request given).1.answer ≡ Some fh → Made n fh s.handles (request_step s n request given).0.handles

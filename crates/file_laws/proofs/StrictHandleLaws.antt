@@ -1,6 +1,7 @@
 -- What is done by an open file of a strict document needs the rights that its application has then.
 use Rattle.std.proofs.Common.{◌≡◌, ℕ, zero, suc, nat_lt, List, [], ◌∷◌, Bool, true, false, not, ◌&&◌, ◌||◌, cond, Option, Some, None, refl, sym, ap, subst, ◌∙◌}
 use Rattle.portal_base.specs.declared.files.FileName.{FileName}
+use Rattle.portal_base.specs.declared.files.ChildName.{ChildName}
 use Rattle.portal_base.specs.declared.files.Look.{Look}
 use Rattle.portal_base.specs.declared.names.doc_id.DocId.{DocId}
 use Rattle.portal_base.specs.declared.who.Who.{Who}
@@ -25,7 +26,7 @@ use Rattle.portal_model.specs.Read.{read_name, read_open}
 use Rattle.portal_model.specs.SetAttr.{SetsAttr, resize, set_attr_at, set_attr_of, set_attr_of_folder, set_attr_of_open, set_attr_open, sets_by_handle, sets_owner_or_mode, sets_size}
 use Rattle.portal_model.specs.State.{State, connection_of, handle_of, has}
 use Rattle.portal_model.specs.Step.{all_told, mount_of, node_step, request_step}
-use Rattle.portal_model.specs.Walk.{Walk, walked}
+use Rattle.portal_model.specs.Walk.{Walk, walked_with}
 use Rattle.portal_model.specs.Write.{write_content, write_open}
 use Rattle.app_world.specs.Touched.{is_done}
 use Rattle.file_laws.specs.StrictHandles.{HasRightsFor, StrictHandlesFollowRevocations, changes_file, file_asked, strict_document}
@@ -68,10 +69,10 @@ module _ (reach : Reaching) (file : OpenFile) (strict : file.strict ≡ true) wh
 
 -- ---- walks that are done
 
-module _ (s : State) (c : Connection) (now : ℕ) (failed : Bool) where
+module _ (s : State) (c : Connection) (now : ℕ) (listed : Option (List ChildName)) (failed : Bool) where
   -- with these looks it is done
   abbrev Done : Walk NodeVerdict → List Look → Type 0
-  Done w looks = is_done (settled_on_node s c (walked w now looks failed)).1 ≡ true
+  Done w looks = is_done (settled_on_node s c (walked_with w now listed looks failed)).1 ≡ true
 
   passed : (b : Bool) (errno : ℕ) (w : Walk NodeVerdict) (looks : List Look) → Done (errs_if b errno w) looks → (b ≡ false) × Done w looks
   passed true errno w looks h = cc
@@ -181,7 +182,7 @@ module _ (app : List ℕ) (s : State) (r : NodeRequest) (fh : ℕ) (document : D
       let t = all_told c.seat s in
       let who : c.who ≡ Who.App app = (f c refl).1 in
       let strict : strict_document (handle_of s.handles c.seat fh) ≡ Some document = ap (λ (m : ℕ). strict_document (handle_of s.handles m fh)) (f c refl).0 ∙ i in
-      let made = op-reached t c (moment_given given.now) (is_tree given.fault) (facts_of t c r.node) r r.op fh document given.looks by strict done in
+      let made = op-reached t c (moment_given given.now) given.listed (is_tree given.fault) (facts_of t c r.node) r r.op fh document given.looks by strict done in
       record {
         read = in-view-read app s document.number (view_of_node made.node) (ap (λ (w : Who). (reach_at s w made.node document.number).read) (sym who) ∙ made.read);
         write = λ e. in-view-write app s document.number (view_of_node made.node) (ap (λ (w : Who). (reach_at s w made.node document.number).write) (sym who) ∙ made.write e);

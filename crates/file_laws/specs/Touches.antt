@@ -3,7 +3,7 @@
 -- told. The requests that change a file are those of include/uapi/linux/fuse.h; those on documents
 -- are of the documentation of org.freedesktop.portal.Documents.
 use Rattle.std.specs.Prelude.{◌≡◌, ℕ, List, [], ◌∷◌, ◌++◌, Bool, true, false, ◌&&◌, cond, Option, Some, None, is_some}
-use Rattle.portal_base.specs.Names.{is_same}
+use Rattle.portal_base.specs.Names.{is_same, named_child}
 use Rattle.portal_base.specs.declared.files.File.{File}
 use Rattle.portal_base.specs.declared.names.doc_id.DocId.{DocId}
 use Rattle.rights_rule.specs.Rights.{RightSet, contains, holds_any, minus, no_rights, rights_named}
@@ -23,7 +23,7 @@ use Rattle.portal_model.specs.Content.{Content, OfFile, content_at}
 use Rattle.portal_model.specs.Lawful.{Lawful}
 use Rattle.portal_model.specs.Node.{NodeFacts, facts_of}
 use Rattle.portal_model.specs.Open.{truncates}
-use Rattle.portal_model.specs.Place.{Folder, RootOf, Views, FolderOf, Sight, SightOfFile, SightOfFolder}
+use Rattle.portal_model.specs.Place.{Folder, RootOf, Views, FolderOf, Sight, SightOfFile, SightOfFolder, Exported, SightBelow}
 use Rattle.portal_model.specs.SetAttr.{sets_by_handle, sets_size}
 use Rattle.portal_model.specs.State.{State, connection_of, document_of, held_of}
 use Rattle.portal_model.specs.Step.{after, bus_of, mount_of, reply_at}
@@ -45,23 +45,26 @@ path_of_open None = None
 path_of_open (Some (Handle.File name node document strict read write)) = Some name.path
 path_of_open (Some (Handle.Folder node entries)) = None
 
--- the path of what is seen as a file
+-- the path of what is seen as a file, or may be one
 abbrev pub path_of_sight : Option Sight → Option (List ℕ)
 path_of_sight None = None
 path_of_sight (Some (SightOfFile d may_write)) = Some d.path
+path_of_sight (Some (SightBelow view d path may_write)) = Some path
 path_of_sight (Some (SightOfFolder folder)) = None
 
--- the path of the document whose folder it is
-abbrev pub path_of_folder : Folder → Option (List ℕ)
-path_of_folder (RootOf view numbers has_views) = None
-path_of_folder (Views applications) = None
-path_of_folder (FolderOf view d may_write) = Some d.path
+-- the path of the document whose folder it is, or of a name in an exported folder
+abbrev pub path_of_folder : List ℕ → Folder → Option (List ℕ)
+path_of_folder name (RootOf view numbers has_views) = None
+path_of_folder name (Views applications) = None
+path_of_folder name (FolderOf view d may_write) = Some d.path
+path_of_folder name (Exported view d path may_write) = named_child path name
 
--- the path of the document whose folder is seen
-abbrev pub path_in_sight : Option Sight → Option (List ℕ)
-path_in_sight None = None
-path_in_sight (Some (SightOfFile d may_write)) = None
-path_in_sight (Some (SightOfFolder folder)) = path_of_folder folder
+-- the same of what is seen, as a folder or as what may be one
+abbrev pub path_in_sight : List ℕ → Option Sight → Option (List ℕ)
+path_in_sight name None = None
+path_in_sight name (Some (SightOfFile d may_write)) = None
+path_in_sight name (Some (SightBelow view d path may_write)) = named_child path name
+path_in_sight name (Some (SightOfFolder folder)) = path_of_folder name folder
 
 abbrev pub path_if : Bool → Option (List ℕ) → Option (List ℕ)
 path_if b path = cond b path None
@@ -80,7 +83,7 @@ path_changed f (NodeOp.SetAttr valid fh size) =
     path_if (sets_size valid)
     (cond (sets_by_handle valid) (path_of_open (f.handle fh)) (path_of_sight f.sight))
 path_changed f (NodeOp.Open flags) = path_if (truncates flags) (path_of_sight f.sight)
-path_changed f (NodeOp.Create name flags) = path_in_sight f.sight
+path_changed f (NodeOp.Create name flags) = path_in_sight name f.sight
 path_changed f op = None
 
 abbrev pub path_changed_on : State → NodeRequest → Option Connection → Option (List ℕ)

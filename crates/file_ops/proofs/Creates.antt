@@ -1,4 +1,5 @@
 -- How a CREATE follows its walk, and what it leaves of the open handles.
+use Rattle.std.specs.Option.{option_map}
 use Rattle.std.proofs.Common.{◌≡◌, ℕ, List, Bool, true, false, not, ◌&&◌, Option, Some, None, is_some, refl, sym, ap, subst, ◌∙◌, IfSome}
 use Rattle.portal_base.specs.Content.{content_of, file_at, has_room, is_folder, look_at, look_of}
 use Rattle.portal_base.specs.declared.files.File.{File}
@@ -17,25 +18,28 @@ use Rattle.portal_model.specs.declared.reply.Attr.{Attr}
 use Rattle.portal_model.specs.declared.handle.Handle.{Handle}
 use Rattle.portal_model.specs.declared.request.NodeOp.{NodeOp}
 use Rattle.portal_model.specs.declared.request.NodeRequest.{NodeRequest}
-use Rattle.portal_model.specs.declared.state.Document.{Document}
+use Rattle.portal_model.specs.declared.naming.Naming.{Naming}
 use Rattle.portal_model.specs.Attributes.{attr_of_file, on_node}
-use Rattle.portal_model.specs.Create.{create, create_there, created}
+use Rattle.portal_model.specs.Create.{Made, create, create_at, create_there, created}
 use Rattle.portal_model.specs.Errno.{emfile, enoent}
 use Rattle.portal_model.specs.Node.{files_after, room_of}
 use Rattle.portal_model.specs.NodeVerdict.{NodeVerdict, Creates, Errs, HandlesStay, Opens, Room, Yields, errs_if, next_handle}
 use Rattle.portal_model.specs.Open.{file_handle}
-use Rattle.portal_model.specs.Place.{place_of}
+use Rattle.portal_model.specs.Place.{Sight, naming_on, place_of}
 use Rattle.portal_model.specs.State.{State}
 use Rattle.portal_model.specs.Walk.{AtPath, Ends, Looks, Makes, Walk, is_found}
 use Rattle.app_view.specs.Books.{Lends}
-use Rattle.file_ops.specs.Creates.{Opening, OpeningBehind, made_walk, target_walk}
-use Rattle.node_looks.specs.Done.{Does, room_in}
+use Rattle.app_view.specs.declared.book.ViewBook.{ViewBook}
+use Rattle.file_ops.specs.Creates.{Opening, OpeningBehind, target_walk}
+use Rattle.node_looks.specs.Done.{DoesAt, room_in}
 use Rattle.node_looks.specs.OpenHandles.{Handled}
 use Rattle.file_ops.specs.Tries.{Goes, done_behind, done_of_ended, ended_by, refuses}
 use Rattle.file_ops.specs.declared.created.Target.{Target as NewTarget}
 use Rattle.node_looks.specs.declared.served.FileBook.{FileBook}
 use Rattle.node_looks.specs.declared.served.NodeCall.{NodeCall}
 use Rattle.node_looks.specs.declared.served.NodeDone.{NodeDone}
+use Rattle.node_looks.specs.declared.sight.SeenPlace.{SeenPlace}
+use Rattle.node_looks.specs.Sights.{sight_of}
 use Rattle.file_ops.specs.declared.tried.Came.TheVariants as came
 use Rattle.file_ops.specs.declared.tried.Ended.{Ended}
 use Rattle.node_looks.proofs.DoneLemmas.{IsExact, done-in, handled-after, handles-stay, room-is, room-stays, walk-is}
@@ -64,47 +68,51 @@ makes path change old d new m h = record { goes = h.goes; does = makes-by path c
 
 -- ---- the last call
 
--- the first file of a document's path
-abbrev pub first_of : Document → FileName
-first_of d = record { path = d.path; generation = 0 }
+-- the first file of its path
+abbrev pub first_of : Made → FileName
+first_of made = record { path = made.path; generation = 0 }
 
-module _ (r : NodeRequest) (flags : ℕ) (table : HandleTable) (seat : ℕ) (document : Document) (name : FileName) (node now : ℕ) (old new : TreeIs) (d : TreeDone) (first : name ≡ first_of document)
+module _ (r : NodeRequest) (flags : ℕ) (table : HandleTable) (seat : ℕ) (made : Made) (name : FileName) (now : ℕ) (old new : TreeIs) (d : TreeDone) (first : name ≡ first_of made)
     (missing : IfSome old.told (λ files. Look.Missing ≡ look_at files name.path)) (creates : Changes TreeCall.Create (λ files. may_create files name.path) (files_after true (Creates name.path now)) old d new) where
-  m : IfSome old.told (λ files. Look.Missing ≡ look_at files document.path)
+  abbrev there : Walk NodeVerdict
+  there = Ends (Makes made.path) (created r flags (room_in table seat) made) (Errs enoent)
+
+  m : IfSome old.told (λ files. Look.Missing ≡ look_at files made.path)
   m = subst (λ (n : FileName). IfSome old.told (λ files. Look.Missing ≡ look_at files n.path)) first missing
 
-  h : Changes TreeCall.Create (λ files. may_create files document.path) (files_after true (Creates document.path now)) old d new
+  h : Changes TreeCall.Create (λ files. may_create files made.path) (files_after true (Creates made.path now)) old d new
   h = subst (λ (n : FileName). Changes TreeCall.Create (λ files. may_create files n.path) (files_after true (Creates n.path now)) old d new) first creates
 
-  pub made-done : (attr : Attr) (fh : ℕ) (handle : Handle) (ended : Ended) (after : HandleTable) → d ≡ done.Done → attr ≡ attr_of_file (on_node r node) true 0 now → fh ≡ next_handle (room_in table seat) →
-      handle ≡ file_handle document name node flags → ended ≡ ended_by now came.Done (NodeAnswer.Created attr fh) → Handled seat (Opens handle) table after →
-      Opening (create_there r flags (room_in table seat) document node Look.Missing) seat table old (done_of_ended ended) after new
-  made-done attr fh handle ended after e a n f b o = let same : handle ≡ file_handle document (first_of document) node flags = f ∙ ap (λ (x : FileName). file_handle document x node flags) first in record {
+  came-so : (x : TreeDone) → d ≡ x → Changes TreeCall.Create (λ files. is_found files (Makes made.path)) (files_after true (Creates made.path now)) old x new
+  came-so x e = subst (λ (y : TreeDone). Changes TreeCall.Create (λ files. is_found files (Makes made.path)) (files_after true (Creates made.path now)) old y new) e (makes made.path (files_after true (Creates made.path now)) old d new m h)
+
+  pub made-done : (attr : Attr) (fh : ℕ) (handle : Handle) (ended : Ended) (after : HandleTable) → d ≡ done.Done → attr ≡ attr_of_file (on_node r made.node) true 0 now → fh ≡ next_handle (room_in table seat) →
+      handle ≡ file_handle made.document name made.node flags → ended ≡ ended_by now came.Done (NodeAnswer.Created attr fh) → Handled seat (Opens handle) table after →
+      Opening (create_there r flags (room_in table seat) made Look.Missing) seat table old (done_of_ended ended) after new
+  made-done attr fh handle ended after e a n f b o = let same : handle ≡ file_handle made.document (first_of made) made.node flags = f ∙ ap (λ (x : FileName). file_handle made.document x made.node flags) first in record {
     change = Opens handle;
-    goes = subst (λ (x : Ended). Goes (Ends (Makes document.path) (created r flags (room_in table seat) document node) (Errs enoent)) old (done_of_ended x) (Opens handle) new) (sym b)
-        (ends-done (Makes document.path) (created r flags (room_in table seat) document node) (record { answer = NodeAnswer.Created attr fh; file = Creates document.path now; handle = Opens handle }) now old new refl
-        (λ i. Yields (record { answer = NodeAnswer.Created (sym a i) (sym n i); file = Creates document.path now; handle = Opens (sym same i) }))
-        (subst (λ (x : TreeDone). Changes TreeCall.Create (λ files. is_found files (Makes document.path)) (files_after true (Creates document.path now)) old x new) e (makes document.path (files_after true (Creates document.path now)) old d new m h)));
+    goes = subst (λ (x : Ended). Goes there old (done_of_ended x) (Opens handle) new) (sym b)
+        (ends-done (Makes made.path) (created r flags (room_in table seat) made) (record { answer = NodeAnswer.Created attr fh; file = Creates made.path now; handle = Opens handle; names = made.names }) now old new refl
+        (λ i. Yields (record { answer = NodeAnswer.Created (sym a i) (sym n i); file = Creates made.path now; handle = Opens (sym same i); names = made.names }))
+        (came-so done.Done e));
     handled = o;
   }
 
   pub made-missing : (ended : Ended) → d ≡ done.NotFile → ended ≡ ended_by now came.NotFile NodeAnswer.Empty →
-      Opening (create_there r flags (room_in table seat) document node Look.Missing) seat table old (done_of_ended ended) table new
+      Opening (create_there r flags (room_in table seat) made Look.Missing) seat table old (done_of_ended ended) table new
   made-missing ended e b = record {
     change = HandlesStay;
-    goes = subst (λ (x : Ended). Goes (Ends (Makes document.path) (created r flags (room_in table seat) document node) (Errs enoent)) old (done_of_ended x) HandlesStay new) (sym b)
-        (ends-missing (Makes document.path) (created r flags (room_in table seat) document node) (files_after true (Creates document.path now)) NodeAnswer.Empty now old new refl
-        (subst (λ (x : TreeDone). Changes TreeCall.Create (λ files. is_found files (Makes document.path)) (files_after true (Creates document.path now)) old x new) e (makes document.path (files_after true (Creates document.path now)) old d new m h)));
+    goes = subst (λ (x : Ended). Goes there old (done_of_ended x) HandlesStay new) (sym b)
+        (ends-missing (Makes made.path) (created r flags (room_in table seat) made) (files_after true (Creates made.path now)) NodeAnswer.Empty now old new refl (came-so done.NotFile e));
     handled = handles-stay seat table;
   }
 
   pub made-failed : (ended : Ended) → d ≡ done.Failed → ended ≡ ended_by now came.Failed NodeAnswer.Empty →
-      Opening (create_there r flags (room_in table seat) document node Look.Missing) seat table old (done_of_ended ended) table new
+      Opening (create_there r flags (room_in table seat) made Look.Missing) seat table old (done_of_ended ended) table new
   made-failed ended e b = record {
     change = HandlesStay;
-    goes = subst (λ (x : Ended). Goes (Ends (Makes document.path) (created r flags (room_in table seat) document node) (Errs enoent)) old (done_of_ended x) HandlesStay new) (sym b)
-        (ends-failed (Makes document.path) (created r flags (room_in table seat) document node) (files_after true (Creates document.path now)) NodeAnswer.Empty now old new refl
-        (subst (λ (x : TreeDone). Changes TreeCall.Create (λ files. is_found files (Makes document.path)) (files_after true (Creates document.path now)) old x new) e (makes document.path (files_after true (Creates document.path now)) old d new m h)));
+    goes = subst (λ (x : Ended). Goes there old (done_of_ended x) HandlesStay new) (sym b)
+        (ends-failed (Makes made.path) (created r flags (room_in table seat) made) (files_after true (Creates made.path now)) NodeAnswer.Empty now old new refl (came-so done.Failed e));
     handled = handles-stay seat table;
   }
 
@@ -128,10 +136,10 @@ opening-behind path next look.Failed seat table ended after old mid new a i o = 
   handled = o.1;
 }
 
-pub made-behind : (r : NodeRequest) (flags : ℕ) (room : Room) (document : Document) (node : ℕ) (a : LookAnswer) (seat : ℕ) (table : HandleTable) (ended : Ended) (after : HandleTable) (old mid new : TreeIs) → Asks TreeCall.Look old (is_look_fault a) mid →
-    Shows old.told document.path a → OpeningBehind (create_there r flags room document node) a seat table mid ended after new → Opening (made_walk r flags room document node) seat table old (done_behind (Some a) ended) after new
-made-behind r flags room document node a seat table ended after old mid new asks shows o =
-    opening-behind document.path (create_there r flags room document node) a seat table ended after old mid new asks shows o
+pub made-behind : (r : NodeRequest) (flags : ℕ) (room : Room) (made : Made) (a : LookAnswer) (seat : ℕ) (table : HandleTable) (ended : Ended) (after : HandleTable) (old mid new : TreeIs) → Asks TreeCall.Look old (is_look_fault a) mid →
+    Shows old.told made.path a → OpeningBehind (create_there r flags room made) a seat table mid ended after new → Opening (create_at r flags room made) seat table old (done_behind (Some a) ended) after new
+made-behind r flags room made a seat table ended after old mid new asks shows o =
+    opening-behind made.path (create_there r flags room made) a seat table ended after old mid new asks shows o
 
 -- a copy of the path stands for it, and what was shown is still there
 pub shown-still : (path copy : List ℕ) (a : LookAnswer) (old mid : TreeIs) → copy ≡ path → Asks TreeCall.Look old (is_look_fault a) mid → Shows old.told path a → Shows mid.told copy a
@@ -140,12 +148,12 @@ shown-still path copy a old mid e asks h =
 
 -- ---- behind the room for the handle
 
-pub opening-after : (r : NodeRequest) (flags seat : ℕ) (a b after : HandleTable) (document : Document) (node : ℕ) (old : TreeIs) (done : NodeDone) (new : TreeIs) (free : Bool) → Handled seat HandlesStay a b → (room_in a seat).full ≡ not free → free ≡ true →
-    Opening (made_walk r flags (room_in b seat) document node) seat b old done after new → Opening (errs_if (room_in a seat).full emfile (made_walk r flags (room_in a seat) document node)) seat a old done after new
-opening-after r flags seat a b after document node old done new free k f t o = record {
+pub opening-after : (r : NodeRequest) (flags seat : ℕ) (a b after : HandleTable) (made : Made) (old : TreeIs) (done : NodeDone) (new : TreeIs) (free : Bool) → Handled seat HandlesStay a b → (room_in a seat).full ≡ not free → free ≡ true →
+    Opening (create_at r flags (room_in b seat) made) seat b old done after new → Opening (errs_if (room_in a seat).full emfile (create_at r flags (room_in a seat) made)) seat a old done after new
+opening-after r flags seat a b after made old done new free k f t o = record {
   change = o.change;
-  goes = subst (λ (full : Bool). Goes (errs_if full emfile (made_walk r flags (room_in a seat) document node)) old done o.change new) (sym (f ∙ ap not t))
-      (subst (λ (room : Room). Goes (made_walk r flags room document node) old done o.change new) (room-stays seat a b k) o.goes);
+  goes = subst (λ (full : Bool). Goes (errs_if full emfile (create_at r flags (room_in a seat) made)) old done o.change new) (sym (f ∙ ap not t))
+      (subst (λ (room : Room). Goes (create_at r flags room made) old done o.change new) (room-stays seat a b k) o.goes);
   handled = handled-after seat o.change a b after k o.handled;
 }
 
@@ -159,15 +167,18 @@ full-refuses w seat a b t free k f e = record {
 
 -- ---- the request
 
-pub create-does : (book : FileBook) (call : NodeCall) (name : List ℕ) (flags : ℕ) (target : NewTarget) (table : HandleTable) (old : TreeIs) (done : NodeDone) (after : HandleTable) (new : TreeIs) → call.request.now.op ≡ NodeOp.Create name flags →
-    ((s : State) (room : Room) → Lends book.view s → create call.request.now name flags (place_of s call.who.now call.request.now.node) room ≡ target_walk call.request.now flags room target) →
-    Opening (target_walk call.request.now flags (room_in table call.seat) target) call.seat table old done after new → Does book call table old done after new
-create-does book call name flags target table old done after new op f o = λ s c a.
+pub create-does : (book : FileBook) (naming : Option Naming) (call : NodeCall) (name : List ℕ) (flags : ℕ) (place : Option SeenPlace) (target : NewTarget) (table : HandleTable) (old : TreeIs) (done : NodeDone) (after : HandleTable) (new : TreeIs) →
+    ((s : State) → Lends book.view s → place_of s call.who.now naming call.request.now.node ≡ option_map (sight_of book.view call.who.now) place) → call.request.now.op ≡ NodeOp.Create name flags →
+    ((b : ViewBook) (who : Who) (r : NodeRequest) (room : Room) (namings : List Naming) → create r name flags (option_map (sight_of b who) place) room namings ≡ target_walk r flags room target) →
+    Opening (target_walk call.request.now flags (room_in table call.seat) target) call.seat table old done after new → DoesAt naming book call table old done after new
+create-does book naming call name flags place target table old done after new seen op f o = λ s c a n.
     let r = call.request.now in
     let w : Walk NodeVerdict = target_walk r flags (room_in table call.seat) target in
     done-in s c book call w table old done after new a
     (walk-is s c r (NodeOp.Create name flags) op
-    ∙ (ap (λ (who : Who). create r name flags (place_of s who r.node) (room_of s c)) a.caller
-    ∙ (ap (create r name flags (place_of s call.who.now r.node)) (sym (room-is s c book call table old.told a))
-    ∙ f s (room_in table call.seat) a.lists)))
+    ∙ (ap (λ (who : Who). create r name flags (place_of s who (naming_on c r.node) r.node) (room_of s c) c.namings) a.caller
+    ∙ (ap (λ (o : Option Naming). create r name flags (place_of s call.who.now o r.node) (room_of s c) c.namings) n
+    ∙ (ap (λ (sight : Option Sight). create r name flags sight (room_of s c) c.namings) (seen s a.lists)
+    ∙ (ap (λ (room : Room). create r name flags (option_map (sight_of book.view call.who.now) place) room c.namings) (sym (room-is s c book call table old.told a))
+    ∙ f book.view call.who.now r (room_in table call.seat) c.namings)))))
     (goes-done w r.op call.seat table old done o.change after new (subst IsExact (sym op) tt) o.goes o.handled)

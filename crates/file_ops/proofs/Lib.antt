@@ -4,3 +4,9 @@ mod Tries
 mod Sets
 mod Creates
 mod Openings
+mod NeverNames
+mod DoesNames
+mod Numberings
+mod DoesBelow
+mod Numbers
+mod ChildWalks

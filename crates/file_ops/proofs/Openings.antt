@@ -1,5 +1,5 @@
 -- How a request that hands out a handle on a file follows its walk.
-use Rattle.std.proofs.Common.{◌≡◌, ℕ, ◌&&◌, List, Bool, true, false, not, cond, Some, Result, Ok, Err, refl, sym, ap, subst, ◌∙◌}
+use Rattle.std.proofs.Common.{◌≡◌, ℕ, ◌&&◌, List, Bool, true, false, not, cond, Option, Some, Result, Ok, Err, refl, sym, ap, subst, ◌∙◌}
 use Rattle.std.specs.Result.{IfOk}
 use Rattle.portal_base.specs.declared.files.FileName.{FileName}
 use Rattle.portal_base.specs.declared.files.Look.{Look}
@@ -12,19 +12,20 @@ use Rattle.host_tree.specs.declared.tree.TreeDone.TheVariants as done
 use Rattle.host_tree.specs.declared.tree.LookAnswer.{LookAnswer}
 use Rattle.host_tree.specs.declared.tree.LookAnswer.TheVariants as look
 use Rattle.open_handles.specs.Opened.{HandleTable}
+use Rattle.portal_model.specs.declared.naming.Naming.{Naming}
 use Rattle.portal_model.specs.declared.reply.NodeAnswer.{NodeAnswer}
 use Rattle.portal_model.specs.declared.request.NodeOp.{NodeOp}
 use Rattle.portal_model.specs.declared.request.NodeRequest.{NodeRequest}
 use Rattle.portal_model.specs.declared.state.Document.{Document}
 use Rattle.portal_model.specs.Errno.{eacces, emfile, enoent}
 use Rattle.portal_model.specs.Node.{room_of}
-use Rattle.portal_model.specs.NodeVerdict.{Errs, FilesStay, HandlesStay, NodeVerdict, OnFile, Resizes, Room, errs_if, if_file}
+use Rattle.portal_model.specs.NodeVerdict.{Errs, FilesStay, HandlesStay, NodeVerdict, OnFile, Resizes, Room, Spot, by_look, errs_if, if_file, spot}
 use Rattle.portal_model.specs.Open.{file_handle, open_file, open_name, open_node, opened_file, opens_to_write, truncates}
-use Rattle.portal_model.specs.Place.{place_of}
+use Rattle.portal_model.specs.Place.{Folder, naming_on, place_of}
 use Rattle.portal_model.specs.State.{State}
 use Rattle.portal_model.specs.Walk.{Answers, AtPath, Changes, Ends, Looks, Walk}
 use Rattle.app_view.specs.Books.{Lends}
-use Rattle.node_looks.specs.Done.{Does, Wants, room_in}
+use Rattle.node_looks.specs.Done.{DoesAt, Wants, room_in}
 use Rattle.node_looks.specs.OpenHandles.{Handled}
 use Rattle.file_ops.specs.Creates.{Opening, OpeningBehind}
 use Rattle.file_ops.specs.Tries.{Goes, done_behind, done_of_ended, ended_by}
@@ -48,23 +49,23 @@ wants-after most seat table mid old after new k w = record { handles = λ s a. w
 
 -- ---- the checks of an OPEN, behind its look
 
-module _ (r : NodeRequest) (flags : ℕ) (document : Document) (copy : List ℕ) (w : Bool) (generation size moment seat : ℕ) (table mid : HandleTable) (old : TreeIs) (after : HandleTable) (new : TreeIs)
-    (same : copy ≡ document.path) (may : (opens_to_write flags && not w) ≡ false) (free : (room_in table seat).full ≡ false) (kept : Handled seat HandlesStay table mid) where
+module _ (r : NodeRequest) (flags : ℕ) (document : Document) (path copy : List ℕ) (w : Bool) (generation size moment seat : ℕ) (table mid : HandleTable) (old : TreeIs) (after : HandleTable) (new : TreeIs)
+    (same : copy ≡ path) (may : (opens_to_write flags && not w) ≡ false) (free : (room_in table seat).full ≡ false) (kept : Handled seat HandlesStay table mid) where
   abbrev named : List ℕ → FileName
   named p = record { path = p; generation = generation }
 
-  passes : open_file r flags (room_in table seat) document w generation size moment ≡ open_name r flags (room_in mid seat) document (named copy)
+  passes : open_file r flags (room_in table seat) (spot document path w) generation size moment ≡ open_name r flags (room_in mid seat) document (named copy)
   passes =
-      ap (λ (b : Bool). errs_if b eacces (errs_if (room_in table seat).full emfile (open_name r flags (room_in table seat) document (named document.path)))) may
-      ∙ (ap (λ (b : Bool). errs_if b emfile (open_name r flags (room_in table seat) document (named document.path))) free
-      ∙ (ap (λ (m : Room). open_name r flags m document (named document.path)) (sym (room-stays seat table mid kept))
+      ap (λ (b : Bool). errs_if b eacces (errs_if (room_in table seat).full emfile (open_name r flags (room_in table seat) document (named path)))) may
+      ∙ (ap (λ (b : Bool). errs_if b emfile (open_name r flags (room_in table seat) document (named path))) free
+      ∙ (ap (λ (m : Room). open_name r flags m document (named path)) (sym (room-stays seat table mid kept))
       ∙ ap (λ (p : List ℕ). open_name r flags (room_in mid seat) document (named p)) (sym same)))
 
-  opens-one : (done : NodeDone) → Opening (open_name r flags (room_in mid seat) document (named copy)) seat mid old done after new → Opening (open_file r flags (room_in table seat) document w generation size moment) seat table old done after new
+  opens-one : (done : NodeDone) → Opening (open_name r flags (room_in mid seat) document (named copy)) seat mid old done after new → Opening (open_file r flags (room_in table seat) (spot document path w) generation size moment) seat table old done after new
   opens-one done g = subst (λ (v : Walk NodeVerdict). Opening v seat table old done after new) (sym passes) (opens-after _ seat table mid old done after new kept g)
 
   pub shown-opens : (o : Result Ended WantOfMemory) → IfOk o (λ ended. Opening (open_name r flags (room_in mid seat) document (named copy)) seat mid old (done_of_ended ended) after new) →
-      IfOk o (λ ended. Opening (open_file r flags (room_in table seat) document w generation size moment) seat table old (done_of_ended ended) after new)
+      IfOk o (λ ended. Opening (open_file r flags (room_in table seat) (spot document path w) generation size moment) seat table old (done_of_ended ended) after new)
   shown-opens (Ok ended) g = opens-one (done_of_ended ended) g
   shown-opens (Err e) g = g
 
@@ -99,6 +100,12 @@ pub behind-file : (next : OnFile) (answer : LookAnswer) (shown : Look) (generati
 behind-file next answer shown generation size moment seat table old o after new e f g =
     subst (λ (a : LookAnswer). IfOk o (λ ended. OpeningBehind (if_file next) a seat table old ended after new)) (sym (e ∙ ap look.Is f)) g
 
+pub behind-below : (view : ℕ) (at : Spot) (next : Spot → OnFile) (folder : Folder → Walk NodeVerdict) (answer : LookAnswer) (shown : Look) (generation size moment seat : ℕ) (table : HandleTable) (old : TreeIs) (o : Result Ended WantOfMemory) (after : HandleTable) (new : TreeIs) →
+    answer ≡ look.Is shown → shown ≡ Look.File generation size moment → IfOk o (λ ended. Opening (next at generation size moment) seat table old (done_of_ended ended) after new) →
+    IfOk o (λ ended. OpeningBehind (by_look view at next folder) answer seat table old ended after new)
+behind-below view at next folder answer shown generation size moment seat table old o after new e f g =
+    subst (λ (a : LookAnswer). IfOk o (λ ended. OpeningBehind (by_look view at next folder) a seat table old ended after new)) (sym (e ∙ ap look.Is f)) g
+
 pub behind-look : (path : List ℕ) (next : Look → Walk NodeVerdict) (answer : LookAnswer) (seat : ℕ) (table : HandleTable) (old mid : TreeIs) (ended : Ended) (after : HandleTable) (new : TreeIs) → Asks TreeCall.Look old (is_look_fault answer) mid → Shows old.told path answer →
     OpeningBehind next answer seat table mid ended after new → Opening (Looks (AtPath path) next) seat table old (done_behind (Some answer) ended) after new
 behind-look path next (look.Is shown) seat table old mid ended after new a l g = record {
@@ -117,14 +124,15 @@ wants-behind table old mid failed after new f a w = record { handles = w.handles
 
 -- ---- the request
 
-pub open-does : (book : FileBook) (call : NodeCall) (flags : ℕ) (table : HandleTable) (old : TreeIs) (done : NodeDone) (after : HandleTable) (new : TreeIs) → call.request.now.op ≡ NodeOp.Open flags →
-    ((s : State) → Lends book.view s → Opening (open_node call.request.now flags (place_of s call.who.now call.request.now.node) (room_in table call.seat)) call.seat table old done after new) →
-    Does book call table old done after new
-open-does book call flags table old done after new op f = λ s c a.
+pub open-does : (naming : Option Naming) (book : FileBook) (call : NodeCall) (flags : ℕ) (table : HandleTable) (old : TreeIs) (done : NodeDone) (after : HandleTable) (new : TreeIs) → call.request.now.op ≡ NodeOp.Open flags →
+    ((s : State) → Lends book.view s → Opening (open_node call.request.now flags (place_of s call.who.now naming call.request.now.node) (room_in table call.seat)) call.seat table old done after new) →
+    DoesAt naming book call table old done after new
+open-does naming book call flags table old done after new op f = λ s c a n.
     let r = call.request.now in
-    let g : Opening (open_node r flags (place_of s call.who.now r.node) (room_in table call.seat)) call.seat table old done after new = f s a.lists in
-    done-in s c book call (open_node r flags (place_of s call.who.now r.node) (room_in table call.seat)) table old done after new a
+    let g : Opening (open_node r flags (place_of s call.who.now naming r.node) (room_in table call.seat)) call.seat table old done after new = f s a.lists in
+    done-in s c book call (open_node r flags (place_of s call.who.now naming r.node) (room_in table call.seat)) table old done after new a
     (walk-is s c r (NodeOp.Open flags) op
-    ∙ (ap (λ (w : Who). open_node r flags (place_of s w r.node) (room_of s c)) a.caller
-    ∙ ap (open_node r flags (place_of s call.who.now r.node)) (sym (room-is s c book call table old.told a))))
-    (goes-done (open_node r flags (place_of s call.who.now r.node) (room_in table call.seat)) r.op call.seat table old done g.change after new (subst IsExact (sym op) tt) g.goes g.handled)
+    ∙ (ap (λ (w : Who). open_node r flags (place_of s w (naming_on c r.node) r.node) (room_of s c)) a.caller
+    ∙ (ap (λ (o : Option Naming). open_node r flags (place_of s call.who.now o r.node) (room_of s c)) n
+    ∙ ap (open_node r flags (place_of s call.who.now naming r.node)) (sym (room-is s c book call table old.told a)))))
+    (goes-done (open_node r flags (place_of s call.who.now naming r.node) (room_in table call.seat)) r.op call.seat table old done g.change after new (subst IsExact (sym op) tt) g.goes g.handled)

@@ -1,5 +1,5 @@
 -- How a request that may change a file follows its walk.
-use Rattle.std.proofs.Common.{◌≡◌, ℕ, List, [], ◌∷◌, Bool, true, false, cond, Option, Some, None, refl, sym, ap, subst, ◌∙◌, IfSome, Result, Ok, Err, length, map, take, unwrap_or, not, nat_lt, ◌≤◌, arith, inl, inr}
+use Rattle.std.proofs.Common.{◌≡◌, ◌+◌, ℕ, List, [], ◌∷◌, Bool, true, false, cond, Option, Some, None, refl, sym, ap, subst, ◌∙◌, IfSome, Result, Ok, Err, length, map, take, unwrap_or, not, nat_lt, ◌≤◌, arith, inl, inr}
 use Rattle.std.specs.Option.{option_map}
 use Rattle.std.proofs.lemmas.Bool.Decides.{nat_tests}
 use Rattle.std.specs.List.{slice_set}
@@ -21,13 +21,14 @@ use Rattle.host_tree.specs.declared.tree.TreeDone.TheVariants as done
 use Rattle.portal_model.specs.declared.reply.Answer.{Answer}
 use Rattle.portal_model.specs.declared.reply.Code.TheVariants as Code
 use Rattle.portal_model.specs.declared.reply.NodeAnswer.{NodeAnswer}
+use Rattle.portal_model.specs.Attributes.{is_writable}
 use Rattle.portal_model.specs.Bus.{is_tree}
 use Rattle.portal_model.specs.Errno.{eacces, ebadf, eio, enoent}
 use Rattle.portal_model.specs.Node.{files_after}
-use Rattle.portal_model.specs.NodeVerdict.{NodeVerdict, Errs, FileChange, FilesStay, HandleChange, HandlesStay, NodeDoing, OnFile, OnHandle, Yields, at_file, by_file_handle, by_place, changes, errs, errs_if, errs_on_file, if_file, tells, told}
-use Rattle.portal_model.specs.declared.state.Document.{Document}
-use Rattle.portal_model.specs.Place.{Folder, Sight, SightOfFolder, place_of, reach_at}
-use Rattle.portal_model.specs.Walk.{AtPath, Ends, Gives, IsFound, IsShown, LastCall, Looks, Named, Target, Walk, changes_file, is_found, look_of_file}
+use Rattle.portal_model.specs.NodeVerdict.{NodeVerdict, Errs, FileChange, FilesStay, HandleChange, HandlesStay, NamesStay, NodeDoing, OnFile, OnHandle, Spot, Yields, at_file, by_file_handle, by_place, changes, errs, errs_if, errs_on_file, if_file, tells, told}
+use Rattle.portal_model.specs.declared.naming.Naming.{Naming}
+use Rattle.portal_model.specs.Place.{Folder, Sight, SightOfFolder, naming_on, place_of, reach_at}
+use Rattle.portal_model.specs.Walk.{AtPath, Ends, Gives, GivesNames, IsFound, IsShown, LastCall, Looks, Named, Target, Walk, changes_file, is_found, look_of_file}
 use Rattle.app_view.specs.declared.book.ViewBook.{ViewBook}
 use Rattle.node_looks.specs.TreeCalls.{Call, Calling, CallsAsTold, WasCalledOnce, WasCalledUpTo, after_calls, call_at, call_doing, unfailed, with_files}
 use Rattle.open_handles.specs.Opened.{HandleTable, handle_of as handle_in, opened_on}
@@ -43,13 +44,13 @@ use Rattle.node_looks.specs.declared.opened.Allowed.{Allowed}
 use Rattle.node_looks.specs.declared.opened.OpenFile.{OpenFile as FileLent}
 use Rattle.node_looks.specs.declared.served.FileBook.{FileBook}
 use Rattle.node_looks.specs.declared.served.NodeCall.{NodeCall}
-use Rattle.node_looks.specs.Done.{Does, DoneBy, Wants, answer_of, file_change, handle_change}
+use Rattle.node_looks.specs.Done.{Does, DoesAt, DoneBy, Wants, answer_of, file_change, handle_change}
 use Rattle.node_looks.specs.Opened.{IsAllowed, by_open_file, file_of}
 use Rattle.node_looks.specs.OpenHandles.{Handled}
 use Rattle.node_looks.proofs.DoneLemmas.{IsExact, done-in, handle-is, handles-stay, same-answer, walk-is}
 use Rattle.node_looks.specs.Sights.{sight_of}
 use Rattle.file_ops.specs.Wanting.{calls_in_vain}
-use Rattle.file_ops.specs.Tries.{Goes, GoesBehind, ShowsAt, done_behind, done_of_ended, ended_by, fault_of_call, found_nothing, refuses, says, shown_behind, tree_done}
+use Rattle.file_ops.specs.Tries.{Goes, GoesBehind, ShowsAt, done_after, done_behind, done_of_ended, ended_by, fault_of_call, found_nothing, refuses, says, shown_behind, tree_done}
 use Rattle.node_looks.specs.declared.served.NodeDone.{NodeDone}
 use Rattle.node_looks.specs.declared.sight.SeenPlace.{SeenPlace}
 use Rattle.file_ops.specs.declared.tried.Came.{Came}
@@ -87,6 +88,32 @@ set-both (a ∷ []) x y e = absurd (omega (arith, e))
 set-both (a ∷ b ∷ []) x y e = refl
 set-both (a ∷ b ∷ d ∷ ds) x y e = absurd (omega (arith, e))
 
+pub set-one : (xs : List Look) (a : Look) → length xs ≡ 1 → slice_set xs 0 a ≡ a ∷ []
+set-one [] a e = absurd (omega (arith, e))
+set-one (x ∷ []) a e = refl
+set-one (x ∷ y ∷ xs) a e = absurd (omega (arith, e))
+
+pub one-look : (xs : List Look) (a : Look) → length xs ≡ 3 → take 1 (slice_set xs 0 a) ≡ a ∷ []
+one-look [] a e = absurd (omega (arith, e))
+one-look (x ∷ xs) a e = refl
+
+pub two-looks : (xs : List Look) (a b : Look) → length xs ≡ 3 → take 2 (slice_set (slice_set xs 0 a) 1 b) ≡ a ∷ b ∷ []
+two-looks [] a b e = absurd (omega (arith, e))
+two-looks (x ∷ []) a b e = absurd (omega (arith, e))
+two-looks (x ∷ y ∷ xs) a b e = refl
+
+pub three-looks : (xs : List Look) (a b c : Look) → length xs ≡ 3 → slice_set (slice_set (slice_set xs 0 a) 1 b) 2 c ≡ a ∷ b ∷ c ∷ []
+three-looks [] a b c e = absurd (omega (arith, e))
+three-looks (x ∷ []) a b c e = absurd (omega (arith, e))
+three-looks (x ∷ y ∷ []) a b c e = absurd (omega (arith, e))
+three-looks (x ∷ y ∷ z ∷ []) a b c e = refl
+three-looks (x ∷ y ∷ z ∷ w ∷ xs) a b c e = absurd (omega (arith, e))
+
+pub first-two : (xs : List Look) → length xs ≡ 3 → length (take 2 xs) ≡ 2
+first-two [] e = absurd (omega (arith, e))
+first-two (x ∷ []) e = absurd (omega (arith, e))
+first-two (x ∷ y ∷ xs) e = refl
+
 pub shown-missing : (call : Option CallMade) (r : Bool) → r ≡ found_nothing call → r ≡ true → shown_behind call ≡ Look.Missing ∷ []
 shown-missing call r e t = ap (λ (b : Bool). cond b (Look.Missing ∷ []) []) (sym e ∙ t)
 
@@ -98,6 +125,7 @@ shown-none call r e t = ap (λ (b : Bool). cond b (Look.Missing ∷ []) []) (sym
 pub refuses-goes : (errno : ℕ) (t : TreeIs) → Goes (errs errno) t (done_of_ended (refuses errno)) HandlesStay t
 refuses-goes errno t = record {
   gives = (refl, refl);
+  lists = refl;
   clock = refl;
   keeper = λ e. cc;
   verdict = Some (Errs errno);
@@ -111,6 +139,7 @@ refuses-goes errno t = record {
 pub told-goes : (answer : NodeAnswer) (t : TreeIs) → Goes (told answer) t (done_of_ended (says answer)) HandlesStay t
 told-goes answer t = record {
   gives = (refl, refl);
+  lists = refl;
   clock = refl;
   keeper = λ e. cc;
   verdict = Some (tells answer);
@@ -134,6 +163,7 @@ pub ends-done : (call : LastCall) (f : ℕ → NodeVerdict) (d : NodeDoing) (now
     ChangesFiles (call_doing (f 0)) (λ files. is_found files call) (files_after true d.file) old done.Done new → Goes (Ends call f (Errs enoent)) old (done_of_ended (ended_by now came.Done d.answer)) d.handle new
 ends-done call f d now old new k e h = record {
   gives = found-told old.told call true h.does.1;
+  lists = refl;
   clock = sym k;
   keeper = λ e. cc;
   verdict = Some (f now);
@@ -148,6 +178,7 @@ pub ends-missing : (call : LastCall) (f : ℕ → NodeVerdict) (change : List Fi
     ChangesFiles (call_doing (f 0)) (λ files. is_found files call) change old done.NotFile new → Goes (Ends call f (Errs enoent)) old (done_of_ended (ended_by now came.NotFile answer)) HandlesStay new
 ends-missing call f change answer now old new k h = record {
   gives = (refl, refl, refl, found-told old.told call false h.does.1);
+  lists = refl;
   clock = sym k;
   keeper = λ e. cc;
   verdict = Some (Errs enoent);
@@ -162,6 +193,7 @@ pub ends-failed : (call : LastCall) (f : ℕ → NodeVerdict) (change : List Fil
     ChangesFiles (call_doing (f 0)) (λ files. is_found files call) change old done.Failed new → Goes (Ends call f (Errs enoent)) old (done_of_ended (ended_by now came.Failed answer)) HandlesStay new
 ends-failed call f change answer now old new k h = record {
   gives = tt;
+  lists = refl;
   clock = sym k;
   keeper = λ e. cc;
   verdict = None;
@@ -174,7 +206,7 @@ ends-failed call f change answer now old new k h = record {
 
 ends-goes : (call : LastCall) (f : ℕ → NodeVerdict) (change : FileChange) (answer : NodeAnswer) (now : ℕ) (c : Came) (old new : TreeIs) → changes_file call ≡ true → f now ≡ changes change answer →
     ChangesFiles (call_doing (f 0)) (λ files. is_found files call) (files_after true change) old (tree_done c) new → Goes (Ends call f (Errs enoent)) old (done_of_ended (ended_by now c answer)) HandlesStay new
-ends-goes call f change answer now came.Done old new k e h = ends-done call f (record { answer = answer; file = change; handle = HandlesStay }) now old new k e h
+ends-goes call f change answer now came.Done old new k e h = ends-done call f (record { answer = answer; file = change; handle = HandlesStay; names = NamesStay }) now old new k e h
 ends-goes call f change answer now came.NotFile old new k e h = ends-missing call f (files_after true change) answer now old new k h
 ends-goes call f change answer now came.Failed old new k e h = ends-failed call f (files_after true change) answer now old new k h
 
@@ -186,10 +218,12 @@ changed-goes call f change answer now c d ended old new k e s a h =
 
 -- ---- a look ahead
 
-pub looked-goes : (target : Target) (next : Look → Walk NodeVerdict) (shown : Look) (ended : Ended) (change : HandleChange) (old mid new : TreeIs) → Asks (call_at target) old false mid → IsShown old.told target shown →
-    Goes (next shown) mid (done_of_ended ended) change new → Goes (Looks target next) old (done_behind (Some (look.Is shown)) ended) change new
-looked-goes target next shown ended change old mid new a i g = record {
-  gives = (i, subst (λ (t : Option (List File)). Gives t (next shown) (shown_behind ended.call) (is_tree (fault_of_call ended.call))) (told-stays old false mid a) g.gives);
+-- whatever comes behind what was shown
+pub after-goes : (target : Target) (next : Look → Walk NodeVerdict) (shown : Look) (done : NodeDone) (change : HandleChange) (old mid new : TreeIs) → Asks (call_at target) old false mid → IsShown old.told target shown →
+    Goes (next shown) mid done change new → Goes (Looks target next) old (done_after shown done) change new
+after-goes target next shown done change old mid new a i g = record {
+  gives = (i, subst (λ (t : Option (List File)). Gives t (next shown) done.looks (is_tree done.fault)) (told-stays old false mid a) g.gives);
+  lists = subst (λ (t : Option (List File)). GivesNames t (next shown) done.looks done.listed (is_tree done.fault)) (told-stays old false mid a) g.lists;
   clock = g.clock;
   keeper = g.keeper;
   verdict = g.verdict;
@@ -200,9 +234,14 @@ looked-goes target next shown ended change old mid new a i g = record {
   calls = more-calls old false mid _ new.told new a g.calls;
 }
 
+pub looked-goes : (target : Target) (next : Look → Walk NodeVerdict) (shown : Look) (ended : Ended) (change : HandleChange) (old mid new : TreeIs) → Asks (call_at target) old false mid → IsShown old.told target shown →
+    Goes (next shown) mid (done_of_ended ended) change new → Goes (Looks target next) old (done_behind (Some (look.Is shown)) ended) change new
+looked-goes target next shown ended change old mid new a i g = after-goes target next shown (done_of_ended ended) change old mid new a i g
+
 failed-goes : (target : Target) (next : Look → Walk NodeVerdict) (old new : TreeIs) → Asks (call_at target) old true new → Goes (Looks target next) old (done_behind (Some look.Failed) (refuses eio)) HandlesStay new
 failed-goes target next old new a = record {
   gives = refl;
+  lists = refl;
   clock = refl;
   keeper = λ e. cc;
   verdict = None;
@@ -262,6 +301,16 @@ on-err (Err e) P p = p
 
 pub called-behind : {kind : TreeCall} (old mid new : TreeIs) (failed : Bool) → failed ≡ false → Asks kind old failed mid → WasCalledUpTo 1 mid new → WasCalledUpTo 2 old new
 called-behind {kind} old mid new failed f a w =
+    let asked : Asks kind old false mid = subst (λ (b : Bool). Asks kind old b mid) f a in (
+      kind ∷ w.0,
+      more-calls old false mid (map unfailed w.0) old.told new asked
+          (subst (λ (t : Option (List File)). Calling mid (map unfailed w.0) t new) (told-stays old false mid asked) w.1),
+      omega (arith, w.2),
+    )
+
+-- the same, behind a call that didn't fail
+pub called-more : {kind : TreeCall} (most : ℕ) (old mid new : TreeIs) (failed : Bool) → failed ≡ false → Asks kind old failed mid → WasCalledUpTo most mid new → WasCalledUpTo (most + 1) old new
+called-more {kind} most old mid new failed f a w =
     let asked : Asks kind old false mid = subst (λ (b : Bool). Asks kind old b mid) f a in (
       kind ∷ w.0,
       more-calls old false mid (map unfailed w.0) old.told new asked
@@ -329,11 +378,11 @@ pub by-open : (next : OnHandle) (handle : Option Handle) (o : Option FileLent) (
 by-open next handle o file old done change new e f g =
     subst (λ (w : Walk NodeVerdict). Goes w old done change new) (sym (e ∙ ap (λ (x : Option FileLent). by_open_file x next) f)) g
 
--- a folder is answered the same, whichever it is
-pub folder-goes : (p q : SeenPlace) (b : ViewBook) (who : Who) (file : Document → Bool → OnFile) (folder : Folder → Walk NodeVerdict) (t : TreeIs) (done : NodeDone) → p ≡ q → (f : Folder) → sight_of b who q ≡ SightOfFolder f →
-    ((x : Folder) → Goes (folder x) t done HandlesStay t) → Goes (by_place (Some (sight_of b who p)) file folder) t done HandlesStay t
-folder-goes p q b who file folder t done e f s g =
-    subst (λ (x : Sight). Goes (by_place (Some x) file folder) t done HandlesStay t) (sym (ap (sight_of b who) e ∙ s)) (g f)
+-- a folder in which no names are made is answered the same, whichever it is
+pub folder-goes : (p q : SeenPlace) (b : ViewBook) (who : Who) (file : Spot → OnFile) (folder : Folder → Walk NodeVerdict) (t : TreeIs) (done : NodeDone) → p ≡ q → (f : Folder) → sight_of b who q ≡ SightOfFolder f → is_writable f ≡ false →
+    ((x : Folder) → is_writable x ≡ false → Goes (folder x) t done HandlesStay t) → Goes (by_place (Some (sight_of b who p)) file folder) t done HandlesStay t
+folder-goes p q b who file folder t done e f s w g =
+    subst (λ (x : Sight). Goes (by_place (Some x) file folder) t done HandlesStay t) (sym (ap (sight_of b who) e ∙ s)) (g f w)
 
 -- ---- the request
 
@@ -343,6 +392,7 @@ goes-done w op seat table old done change after new x g h = record {
   verdict = g.verdict;
   comes = record {
     gives = g.gives;
+    lists = g.lists;
     clock = g.clock;
     keeper = g.keeper;
     comes = g.comes;
@@ -370,17 +420,18 @@ pub open-writes : (reach : Reaching) (limit offset : ℕ) (content : List ℕ) (
 open-writes reach limit offset content file allowed old done new i g =
     subst (λ (b : Bool). Goes (errs_if (not file.write) ebadf (errs_if (not b) eacces (write_content limit file.name offset content))) old done HandlesStay new) i.write_is g
 
-pub set_attr-does : (book : FileBook) (call : NodeCall) (table : HandleTable) (valid fh size : ℕ) (handle : Option Handle) (old : TreeIs) (done : NodeDone) (new : TreeIs) → handle_in (opened_on table.seats call.seat) fh ≡ handle →
+pub set_attr-does : (naming : Option Naming) (book : FileBook) (call : NodeCall) (table : HandleTable) (valid fh size : ℕ) (handle : Option Handle) (old : TreeIs) (done : NodeDone) (new : TreeIs) → handle_in (opened_on table.seats call.seat) fh ≡ handle →
     call.request.now.op ≡ NodeOp.SetAttr valid fh size →
-    ((s : State) → Lends book.view s → Goes (set_attr (reach_at s call.who.now) call.request.now (record { valid = valid; size = size; limit = book.file_limit }) (place_of s call.who.now call.request.now.node) handle) old done HandlesStay new) →
-    Does book call table old done table new
-set_attr-does book call table valid fh size handle old done new h op f = λ s c a.
+    ((s : State) → Lends book.view s → Goes (set_attr (reach_at s call.who.now) call.request.now (record { valid = valid; size = size; limit = book.file_limit }) (place_of s call.who.now naming call.request.now.node) handle) old done HandlesStay new) →
+    DoesAt naming book call table old done table new
+set_attr-does naming book call table valid fh size handle old done new h op f = λ s c a n.
     let r = call.request.now in
     let asks : SetsAttr = record { valid = valid; size = size; limit = book.file_limit } in
     let reach = reach_at s call.who.now in
-    done-in s c book call (set_attr reach r asks (place_of s call.who.now r.node) handle) table old done table new a
+    done-in s c book call (set_attr reach r asks (place_of s call.who.now naming r.node) handle) table old done table new a
     (walk-is s c r (NodeOp.SetAttr valid fh size) op
-    ∙ (ap (λ (n : ℕ). set_attr (reach_at s c.who) r (record { valid = valid; size = size; limit = n }) (place_of s c.who r.node) (handle_of s.handles c.seat fh)) a.limit
-    ∙ (ap (λ (w : Who). set_attr (reach_at s w) r asks (place_of s w r.node) (handle_of s.handles c.seat fh)) a.caller
-    ∙ ap (set_attr reach r asks (place_of s call.who.now r.node)) (sym (handle-is s c book call table old.told a fh) ∙ h))))
-    (goes-done (set_attr reach r asks (place_of s call.who.now r.node) handle) r.op call.seat table old done HandlesStay table new (subst IsExact (sym op) tt) (f s a.lists) (handles-stay call.seat table))
+    ∙ (ap (λ (n : ℕ). set_attr (reach_at s c.who) r (record { valid = valid; size = size; limit = n }) (place_of s c.who (naming_on c r.node) r.node) (handle_of s.handles c.seat fh)) a.limit
+    ∙ (ap (λ (w : Who). set_attr (reach_at s w) r asks (place_of s w (naming_on c r.node) r.node) (handle_of s.handles c.seat fh)) a.caller
+    ∙ (ap (λ (o : Option Naming). set_attr reach r asks (place_of s call.who.now o r.node) (handle_of s.handles c.seat fh)) n
+    ∙ ap (set_attr reach r asks (place_of s call.who.now naming r.node)) (sym (handle-is s c book call table old.told a fh) ∙ h)))))
+    (goes-done (set_attr reach r asks (place_of s call.who.now naming r.node) handle) r.op call.seat table old done HandlesStay table new (subst IsExact (sym op) tt) (f s a.lists) (handles-stay call.seat table))

@@ -1,6 +1,8 @@
 -- FUSE_OPENDIR behind the room that was taken for a handle: the entries, and the handle on them.
 use Rattle.std.specs.Prelude.{◌≡◌, ℕ, List, Option, Some, None}
 use Rattle.portal_base.specs.declared.files.Look.{Look}
+use Rattle.portal_base.specs.declared.files.ChildName.{ChildName}
+use Rattle.host_tree.specs.Trees.{TreeIs}
 use Rattle.host_tree.specs.declared.tree.LookAnswer.{LookAnswer}
 use Rattle.host_tree.specs.declared.tree.LookAnswer.TheVariants as look
 use Rattle.portal_model.specs.declared.handle.Handle.{Handle}
@@ -8,16 +10,20 @@ use Rattle.portal_model.specs.declared.reply.Answer.{Answer}
 use Rattle.portal_model.specs.declared.reply.Code.TheVariants as Code
 use Rattle.portal_model.specs.declared.reply.DirName.{DirName}
 use Rattle.portal_model.specs.declared.reply.NodeAnswer.TheVariants as NodeAnswer
+use Rattle.portal_model.specs.declared.request.NodeOp.TheVariants as NodeOp
 use Rattle.portal_model.specs.declared.request.NodeRequest.{NodeRequest}
+use Rattle.portal_model.specs.declared.state.Document.{Document}
 use Rattle.portal_model.specs.Errno.{eio}
-use Rattle.portal_model.specs.NodeVerdict.{HandlesStay, Opens, next_handle}
-use Rattle.portal_model.specs.OpenDir.{open_dir}
-use Rattle.portal_model.specs.Place.{FolderOf, RootOf, Sight, SightOfFile, SightOfFolder, Views}
-use Rattle.portal_model.specs.Walk.{Answers}
+use Rattle.portal_model.specs.NodeVerdict.{NodeVerdict, HandlesStay, Opens, next_handle}
+use Rattle.portal_model.specs.OpenDir.{names_of_children, open_dir, parent_of_exported, with_dots}
+use Rattle.portal_model.specs.Place.{Exported, FolderOf, RootOf, Sight, SightBelow, SightOfFile, SightOfFolder, Views}
+use Rattle.portal_model.specs.Walk.{Answers, Walk}
 use Rattle.app_view.specs.Entries.{behind_look, opened_with}
 use Rattle.open_handles.specs.Opened.{HandleTable}
-use Rattle.node_looks.specs.Done.{room_in}
+use Rattle.node_looks.specs.Done.{DoneBy, room_in}
 use Rattle.node_looks.specs.OpenHandles.{Handled}
+use Rattle.node_looks.specs.declared.served.NodeDone.{NodeDone}
+use Rattle.file_ops.specs.Tries.{done_after}
 
 -- the folder that is seen is opened with the entries that it has where a look shows this
 pub record Lists (r : NodeRequest) (sight : Option Sight) (seat : ℕ) (shown : Look)
@@ -36,9 +42,28 @@ ListsBehind r sight seat (look.Is shown) table answer after =
 ListsBehind r sight seat look.Failed table answer after =
     (answer ≡ Answer.Refused (Code.Errno eio)) × Handled seat HandlesStay table after
 
--- the path that is looked at where the folder is opened
+-- the path that is looked at where a folder is opened whose names aren't listed
 abbrev pub path_in : Sight → Option (List ℕ)
 path_in (SightOfFile d may_write) = None
+path_in (SightBelow view d path may_write) = None
 path_in (SightOfFolder (RootOf view numbers has_views)) = None
 path_in (SightOfFolder (Views applications)) = None
 path_in (SightOfFolder (FolderOf view d may_write)) = Some d.path
+path_in (SightOfFolder (Exported view d path may_write)) = None
+
+-- ---- a folder whose names are listed
+
+-- the next handle, on a folder at this path with these names
+pub record ListedBelow (r : NodeRequest) (view : ℕ) (d : Document) (path : List ℕ)
+    (children : List ChildName) (seat : ℕ) (table : HandleTable) (answer : Answer)
+    (after : HandleTable) : Type 0 where
+  pub number : answer ≡ Answer.Node (NodeAnswer.Opened (next_handle (room_in table seat)))
+  pub handled : Handled seat (Opens (Handle.Folder r.node
+      (with_dots r.node (parent_of_exported view d path) (names_of_children children)))) table after
+
+-- What was done behind the look that showed a folder: it is what the walk comes to from there on.
+pub record OpensBelow (walk : Walk NodeVerdict) (seat : ℕ) (table : HandleTable) (old : TreeIs)
+    (done : NodeDone) (after : HandleTable) (new : TreeIs) : Type 0 where
+  pub behind : NodeDone
+  pub looked : done ≡ done_after Look.Folder behind
+  pub opened : DoneBy walk NodeOp.OpenDir seat table old behind after new

@@ -15,7 +15,7 @@ use Rattle.portal_model.specs.Bus.{is_tree, moment_given}
 use Rattle.portal_model.specs.Errno.{eio, enoent}
 use Rattle.portal_model.specs.Node.{files_after}
 use Rattle.portal_model.specs.NodeVerdict.{NodeVerdict, HandleChange, HandlesStay}
-use Rattle.portal_model.specs.Walk.{Gives, IsShown, Target, Walk, reads_clock, walked}
+use Rattle.portal_model.specs.Walk.{Gives, GivesNames, IsShown, Target, Walk, reads_clock, walked_with}
 use Rattle.node_looks.specs.Done.{answer_of, file_change, handle_change}
 use Rattle.node_looks.specs.TreeCalls.{Calling, calls_of}
 use Rattle.node_looks.specs.Walks.{taken}
@@ -25,6 +25,7 @@ use Rattle.file_ops.specs.declared.tried.Came.TheVariants as came
 use Rattle.file_ops.specs.declared.tried.CallMade.{CallMade}
 use Rattle.file_ops.specs.declared.tried.Ended.{Ended}
 use Rattle.file_ops.specs.declared.tried.Tried.{Tried}
+use Rattle.file_ops.specs.declared.tried.TriedBelow.{TriedBelow}
 
 -- ---- what the tree gave
 
@@ -78,6 +79,7 @@ abbrev pub done_behind : Option LookAnswer → Ended → NodeDone
 done_behind look ended = record {
   answer = ended.answer;
   looks = taken look ++ shown_behind ended.call;
+  listed = None;
   now = moment_of ended.call;
   fault = fault_behind look ended.call;
 }
@@ -87,6 +89,17 @@ done_of_ended ended = done_behind None ended
 
 abbrev pub done_of_tried : Tried → NodeDone
 done_of_tried tried = done_behind tried.look tried.ended
+
+-- what was done behind what was shown first
+abbrev pub done_after : Look → NodeDone → NodeDone
+done_after shown done = record done { looks = shown ∷ done.looks }
+
+abbrev pub done_behind_first : Option Look → NodeDone → NodeDone
+done_behind_first None done = done
+done_behind_first (Some shown) done = done_after shown done
+
+abbrev pub done_of_below : TriedBelow → NodeDone
+done_of_below below = done_behind_first below.first (done_of_tried below.then)
 
 -- no call was reached
 abbrev pub refuses : ℕ → Ended
@@ -114,10 +127,13 @@ ended_by now came answer = record {
 pub record Goes (walk : Walk NodeVerdict) (old : TreeIs) (done : NodeDone) (change : HandleChange)
     (new : TreeIs) : Type 0 where
   pub gives : Gives old.told walk done.looks (is_tree done.fault)
+  pub lists : GivesNames old.told walk done.looks done.listed (is_tree done.fault)
   pub clock : is_some done.now ≡ reads_clock walk done.looks
   pub keeper : done.fault ≡ Fault.Keeper → ⊥
   pub verdict : Option NodeVerdict
-  pub comes : walked walk (moment_given done.now) done.looks (is_tree done.fault) ≡ verdict
+  pub comes :
+      walked_with walk (moment_given done.now) done.listed done.looks (is_tree done.fault)
+      ≡ verdict
   pub answer : done.answer ≡ answer_of verdict
   pub handles : handle_change verdict ≡ change
   pub files : new.told ≡ option_map (files_after true (file_change verdict)) old.told

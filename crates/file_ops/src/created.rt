@@ -1,49 +1,49 @@
 //! FUSE_CREATE: the file of a document is made, and opened.
 
-ghost use Rattle.std.specs.Prelude.{◌≡◌, ℕ, ◌<◌, ◌^◌, IfOk, IfSome, IsSome, IsSomeAnd, OnErr, Some, false};
+ghost use Rattle.std.specs.Prelude.{◌≡◌, ℕ, ◌<◌, ◌^◌, IfOk, IfSome, IsSome, IsSomeAnd, List, OnErr, Option, Some, false, option_map};
 ghost use Rattle.host_tree.specs.Trees.{Looks, is_look_fault};
 ghost use Rattle.portal_base.specs.Content.{look_at};
 ghost use Rattle.portal_base.specs.declared.files.Look.TheVariants as Look;
 ghost use Rattle.open_handles.specs.Opened.{CanAdd, opened_on};
 ghost use Rattle.portal_base.specs.declared.who.Who.{Who};
+ghost use Rattle.portal_model.specs.declared.naming.Naming.{Naming as NamingNow};
 ghost use Rattle.portal_model.specs.declared.request.NodeOp.TheVariants as NodeOp;
 ghost use Rattle.portal_model.specs.declared.request.NodeRequest.{NodeRequest};
-ghost use Rattle.portal_model.specs.Create.{create, create_in, create_there};
+ghost use Rattle.portal_model.specs.Create.{create, create_at, create_in, create_there};
 ghost use Rattle.portal_model.specs.Errno.{enotdir};
 ghost use Rattle.portal_model.specs.NodeVerdict.{HandlesStay, Room, by_place, no_file};
 ghost use Rattle.portal_model.specs.Place.{FolderOf, place_of};
 ghost use Rattle.portal_model.specs.State.{State};
 ghost use Rattle.app_view.specs.Books.{Lends};
 ghost use Rattle.app_view.specs.declared.book.ViewBook.{ViewBook};
-ghost use Rattle.file_ops.specs.Creates.{Opening, OpeningBehind, made_walk, target_walk};
-ghost use Rattle.node_looks.specs.Done.{Does, MayRead, Reads, Wants, room_in};
+ghost use Rattle.file_ops.specs.Creates.{Opening, OpeningBehind, made_of, target_walk};
+ghost use Rattle.node_looks.specs.Done.{DoesAt, MayRead, Reads, Wants, room_in};
 ghost use Rattle.node_looks.specs.OpenHandles.{Handled};
-ghost use Rattle.node_looks.specs.Sights.{sight_of, view_of};
+ghost use Rattle.node_looks.specs.Sights.{is_below, sight_of, view_of};
+ghost use Rattle.node_looks.specs.declared.served.FileBook.{FileBook as FileBookNow};
 ghost use Rattle.node_looks.specs.TreeCalls.{WasCalledUpTo};
 ghost use Rattle.file_ops.specs.Tries.{done_of_ended, done_of_tried, moment_of};
 
 use crate::tried::{Came, Ended, Tried, came_of, room_for_looks};
-use app_view::{SeenDocument, ViewBook, node_of};
+use app_view::{SeenDocument, node_of};
 use document_records::Document;
 use host_tree::{HostTree, LookAnswer};
 use node_looks::attributes::attr_of_file;
 use node_looks::entry::{is_name_of, is_too_long};
 use node_looks::handed::{hand_out, take_room};
-use node_looks::served::{FileBook, NodeCall, NodeDone};
-use node_looks::sight::{SeenPlace, seen_place};
+use node_looks::served::{NodeCall, NodeDone};
+use node_looks::sight::SeenPlace;
 use open_handles::Handles;
 use open_handles::open_flags::{file_handle, has_no_mode};
 use portal_base::files::{FileName, Look};
 use portal_base::memory::{Replica, WantOfMemory};
 use portal_base::names::HostPath;
 use portal_base::outside::Clock;
-use portal_base::who::Who;
 use portal_model::errno::{
     EACCES, EEXIST, EINVAL, EIO, EMFILE, ENAMETOOLONG, ENOENT, ENOTDIR, EPERM,
 };
 use portal_model::place::Place;
 use portal_model::reply::NodeAnswer;
-use portal_model::request::NodeRequest;
 use std::alloc::Global;
 
 /// What a CREATE comes to by the name that it gives and by what the caller sees.
@@ -68,46 +68,51 @@ struct NewFile<'a> {
 
 /// Answers a CREATE of a name in a folder, with the flags of open(2): the file of a
 /// document alone may be made, where it may be written and isn't there, and it is
-/// opened.
+/// opened. `place` is what the caller sees at the node, and doesn't lie at or below a
+/// document that is a folder.
 ///
 /// The room for the handle is taken before the tree is called. It takes a look at the
 /// file and one more call of the tree, and for that the moment of now. Of n documents
 /// it takes about n steps.
 pub fn create<T: HostTree, C: Clock>(
     alloc: Global,
-    book: &FileBook,
     handles: &mut Handles,
     tree: &mut T,
     clock: &mut C,
     call: &NodeCall,
+    place: Option<SeenPlace>,
     name: &[u8],
     flags: u32,
 ) -> Result<NodeDone, WantOfMemory>
-    requires { IsSome (opened_on handles.old.seats call.now.seat) }
-    ensures ok { call.now.request.now.op ≡ NodeOp.Create name.now flags → IfOk result (λ done.
-        Does book.now call.now handles.old (T.is tree.old) done handles.new (T.is tree.new)) }
+    requires entered { IsSome (opened_on handles.old.seats call.now.seat) }
+    requires plain { IfSome place (λ seen. is_below seen ≡ false) }
+    requires small { IfSome place (λ seen. view_of seen < 2 ^ 28) }
+    ensures ok { (book : FileBookNow) (naming : Option NamingNow) →
+        ((s : State) → Lends book.view s →
+        place_of s call.now.who.now naming call.now.request.now.node
+        ≡ option_map (sight_of book.view call.now.who.now) place.entry) →
+        call.now.request.now.op ≡ NodeOp.Create name.now flags → IfOk result (λ done.
+        DoesAt naming book call.now handles.old (T.is tree.old) done handles.new
+        (T.is tree.new)) }
     ensures clock { IfOk result (λ done. Reads C.reads clock.old done.now clock.new) }
     ensures err { OnErr result
         (Wants 2 handles.old (T.is tree.old) handles.new (T.is tree.new)) }
     ensures clock_err { OnErr result (MayRead C.reads clock.old clock.new) }
 {
     let room = room_for_looks(alloc)?;
-    let target = find_target(&book.view, call.who, call.request, name, flags);
+    let target = find_target(place, name, flags);
     let tried = make(alloc, handles, tree, clock, call, flags, target)?;
     Ok(tried.done(room))
 }
 
 /// What the request comes to by the name that it gives and by what the caller sees.
-fn find_target<'a>(
-    book: &ViewBook<'a>,
-    who: &'a Who,
-    request: &NodeRequest,
-    name: &[u8],
-    flags: u32,
-) -> Target<'a>
-    ensures { (s : State) (room : Room) → Lends book.now s →
-        create request.now name.now flags (place_of s who.now request.now.node) room
-        ≡ target_walk request.now flags room result }
+fn find_target<'a>(place: Option<SeenPlace<'a>>, name: &[u8], flags: u32) -> Target<'a>
+    requires plain { IfSome place (λ seen. is_below seen ≡ false) }
+    requires small { IfSome place (λ seen. view_of seen < 2 ^ 28) }
+    ensures { (b : ViewBook) (who : Who) (r : NodeRequest) (room : Room)
+        (namings : List NamingNow) →
+        create r name.now flags (option_map (sight_of b who) place.entry) room namings
+        ≡ target_walk r flags room result }
 {
     if has_no_mode(flags) {
         return Target::Refused(EINVAL);
@@ -115,7 +120,7 @@ fn find_target<'a>(
     if is_too_long(name) {
         return Target::Refused(ENAMETOOLONG);
     }
-    match seen_place(book, who, request.node) {
+    match place {
         Some(place) => target_at(place, name),
         None => Target::Refused(ENOENT),
     }
@@ -123,13 +128,16 @@ fn find_target<'a>(
 
 /// What the request comes to at a place that the caller sees.
 fn target_at<'a>(place: SeenPlace<'a>, name: &[u8]) -> Target<'a>
-    requires { view_of place < 2 ^ 28 }
-    ensures { (b : ViewBook) (who : Who) (r : NodeRequest) (flags : ℕ) (room : Room) →
+    requires plain { is_below place ≡ false }
+    requires small { view_of place < 2 ^ 28 }
+    ensures { (b : ViewBook) (who : Who) (r : NodeRequest) (flags : ℕ) (room : Room)
+        (namings : List NamingNow) →
         by_place (Some (sight_of b who place.entry)) (no_file enotdir)
-        (create_in r name.now flags room) ≡ target_walk r flags room result }
+        (create_in r name.now flags room namings) ≡ target_walk r flags room result }
 {
     match place {
         SeenPlace::File { seen, .. } => Target::File(&seen.document.path),
+        SeenPlace::Below { .. } => unreachable!(),
         SeenPlace::Folder { view, seen } => target_in(view, seen, name),
         SeenPlace::Root { .. } => Target::Refused(EPERM),
         SeenPlace::Views => Target::Refused(EPERM),
@@ -139,8 +147,8 @@ fn target_at<'a>(place: SeenPlace<'a>, name: &[u8]) -> Target<'a>
 /// What the request comes to in the folder of a document.
 fn target_in<'a>(view: u32, seen: SeenDocument<'a>, name: &[u8]) -> Target<'a>
     requires { view < 2 ^ 28 }
-    ensures { (r : NodeRequest) (flags : ℕ) (room : Room) →
-        create_in r name.now flags room (FolderOf view seen.entry.document.now
+    ensures { (r : NodeRequest) (flags : ℕ) (room : Room) (namings : List NamingNow) →
+        create_in r name.now flags room namings (FolderOf view seen.entry.document.now
         seen.entry.may_write) ≡ target_walk r flags room result }
 {
     // In a document's folder some file may be made, so another name is denied; where none may,
@@ -210,8 +218,8 @@ fn make_new<T: HostTree, C: Clock>(
 ) -> Result<Tried, WantOfMemory>
     requires { IsSomeAnd (opened_on handles.old.seats call.now.seat) (CanAdd handles.old.most) }
     ensures ok { IfOk result (λ tried. Opening
-        (made_walk call.now.request.now flags (room_in handles.old call.now.seat)
-        made.entry.document.now made.entry.node)
+        (create_at call.now.request.now flags (room_in handles.old call.now.seat)
+        (made_of made.entry))
         call.now.seat handles.old (T.is tree.old) (done_of_tried tried) handles.new
         (T.is tree.new)) }
     ensures clock { IfOk result (λ tried.
@@ -252,7 +260,7 @@ fn make_looked<T: HostTree, C: Clock>(
     requires looks { Looks (T.is tree.old).told file.path look }
     ensures ok { IfOk result (λ ended. OpeningBehind
         (create_there call.now.request.now flags (room_in handles.old call.now.seat)
-        made.entry.document.now made.entry.node) look call.now.seat handles.old (T.is tree.old)
+        (made_of made.entry)) look call.now.seat handles.old (T.is tree.old)
         ended handles.new (T.is tree.new)) }
     ensures clock { IfOk result (λ ended. Reads C.reads clock.old
         (moment_of ended.call) clock.new) }
@@ -287,7 +295,7 @@ fn make_file<T: HostTree, C: Clock>(
         Look.Missing ≡ look_at files file.path) }
     ensures ok { IfOk result (λ ended. Opening
         (create_there call.now.request.now flags (room_in handles.old call.now.seat)
-        made.entry.document.now made.entry.node Look.Missing) call.now.seat handles.old
+        (made_of made.entry) Look.Missing) call.now.seat handles.old
         (T.is tree.old) (done_of_ended ended) handles.new (T.is tree.new)) }
     ensures clock { IfOk result (λ ended. Reads C.reads clock.old
         (moment_of ended.call) clock.new) }

@@ -1,34 +1,40 @@
 //! FUSE_OPENDIR: a folder, and the entries that it has then.
 
-ghost use Rattle.std.specs.Prelude.{◌≡◌, ℕ, IfOk, IsSome, IsSomeAnd, None, OnErr, Some, false, option_copied, option_map};
+ghost use Rattle.std.specs.Prelude.{◌≡◌, ℕ, ◌<◌, ◌^◌, [], ◌∷◌, IfOk, IsSome, IsSomeAnd, None, OnErr, Option, Some, false, length, option_copied, option_map};
+ghost use Rattle.portal_base.specs.declared.files.Look.TheVariants as Look;
 ghost use Rattle.host_tree.specs.Trees.{is_look_fault};
 ghost use Rattle.open_handles.specs.Opened.{CanAdd, HandleTable, opened_on};
 ghost use Rattle.portal_base.specs.declared.who.Who.{Who};
+ghost use Rattle.portal_model.specs.declared.naming.Naming.{Naming as NamingNow};
 ghost use Rattle.portal_model.specs.declared.request.NodeOp.TheVariants as NodeOp;
 ghost use Rattle.portal_model.specs.Errno.{enotdir};
-ghost use Rattle.portal_model.specs.NodeVerdict.{at_file, errs_on_file};
-ghost use Rattle.portal_model.specs.OpenDir.{open_dir};
-ghost use Rattle.portal_model.specs.Place.{node_of, place_of, sight_of_place};
+ghost use Rattle.portal_model.specs.NodeVerdict.{at_file, by_look, errs_on_file, no_file, spot};
+ghost use Rattle.portal_model.specs.OpenDir.{open_dir, open_dir_in};
+ghost use Rattle.portal_model.specs.Place.{Exported, node_of, sight_of_place};
 ghost use Rattle.portal_model.specs.State.{State};
+ghost use Rattle.portal_model.specs.Walk.{AtPath, Looks};
 ghost use Rattle.app_view.specs.Books.{Lends};
 ghost use Rattle.app_view.specs.Places.{IsFolder};
 ghost use Rattle.app_view.specs.declared.book.ViewBook.{ViewBook};
-ghost use Rattle.node_looks.specs.Done.{Does, DoneBy, Wants, done_with, room_in};
-ghost use Rattle.file_ops.specs.OpenedFolders.{Lists, ListsBehind, path_in};
+ghost use Rattle.node_looks.specs.Done.{DoesAt, DoneBy, Wants, done_with, room_in};
+ghost use Rattle.file_ops.specs.OpenedFolders.{ListedBelow, Lists, ListsBehind, OpensBelow, path_in};
 ghost use Rattle.node_looks.specs.Sights.{sight_of};
 
-use app_view::{ViewBook, listing, place_of};
+use app_view::{SeenBelow, ViewBook, listing, listing_below, place_of};
 use document_records::Document;
-use host_tree::{HostTree, LookAnswer};
+use host_tree::{HostTree, ListAnswer, LookAnswer};
 use node_looks::asked::{Asked, done, refusal, refusal_on_file, room_for_look};
 use node_looks::handed::{hand_out, take_room};
 use node_looks::served::{FileBook, NodeCall, NodeDone};
 use node_looks::sight::{SeenPlace, seen_at};
 use open_handles::{Handle, Handles};
-use portal_base::files::Look;
+use portal_base::files::{ChildName, Look};
+use portal_base::list::List;
 use portal_base::memory::WantOfMemory;
 use portal_base::names::HostPath;
+use portal_model::entry::Fault;
 use portal_model::errno::{EIO, EMFILE, ENOENT, ENOTDIR};
+use portal_model::naming::Naming;
 use portal_model::place::Place;
 use portal_model::reply::{Answer, NodeAnswer};
 use std::alloc::Global;
@@ -36,73 +42,195 @@ use std::alloc::Global;
 /// Answers a caller's OPENDIR of a folder: the next handle of its connection, which
 /// was entered, keeps the entries that the folder has now.
 ///
-/// Room for the handle is taken first; a document's folder then takes one look at
-/// the tree. No document is looked at in which the view's subject has no right: n
-/// documents or applications take about n log m steps, of m that there are.
+/// `naming` is what the connection has named by the number in the node. Room for the
+/// handle is taken first; a document's folder then takes one look at the tree. A folder
+/// that is a document, or lies below one, takes its look ahead of the room, and then the
+/// names in it are listed. No document is looked at in which the view's subject has no
+/// right: n documents or applications take about n log m steps, of m that there are.
 pub fn open_dir<T: HostTree>(
     alloc: Global,
     book: &FileBook,
     handles: &mut Handles,
     tree: &mut T,
     call: &NodeCall,
+    naming: Option<&Naming>,
 ) -> Result<NodeDone, WantOfMemory>
     requires { IsSome (opened_on handles.old.seats call.now.seat) }
     ensures ok { call.now.request.now.op ≡ NodeOp.OpenDir → IfOk result (λ done.
-        Does book.now call.now handles.old (T.is tree.old) done handles.new (T.is tree.new)) }
+        DoesAt (option_copied naming.entry) book.now call.now handles.old (T.is tree.old) done
+        handles.new (T.is tree.new)) }
+    ensures unclocked { IfOk result (λ done. done.now ≡ None) }
+    ensures err { OnErr result
+        (Wants 2 handles.old (T.is tree.old) handles.new (T.is tree.new)) }
+{
+    let room = room_for_look(alloc)?;
+    match place_of(call.request.node) {
+        None => Ok(done(room, unlooked(refusal(ENOENT)))),
+        Some(place) => at_place(alloc, room, &book.view, handles, tree, call, naming, place),
+    }
+}
+
+/// What is done at a place.
+fn at_place<T: HostTree>(
+    alloc: Global,
+    room: List<Look>,
+    book: &ViewBook,
+    handles: &mut Handles,
+    tree: &mut T,
+    call: &NodeCall,
+    naming: Option<&Naming>,
+    place: Place,
+) -> Result<NodeDone, WantOfMemory>
+    requires room { length room ≡ 1 }
+    requires entered { IsSome (opened_on handles.old.seats call.now.seat) }
+    requires node { node_of place ≡ call.now.request.now.node }
+    ensures ok { IfOk result (λ done. (s : State) → Lends book.now s → DoneBy
+        (open_dir call.now.request.now
+        (sight_of_place s call.now.who.now (option_copied naming.entry) place)
+        (room_in handles.old call.now.seat)) NodeOp.OpenDir call.now.seat
+        handles.old (T.is tree.old) done handles.new (T.is tree.new)) }
+    ensures unclocked { IfOk result (λ done. done.now ≡ None) }
+    ensures err { OnErr result
+        (Wants 2 handles.old (T.is tree.old) handles.new (T.is tree.new)) }
+{
+    match seen_at(book, call.who, place, naming) {
+        None => Ok(done(room, unlooked(refusal(ENOENT)))),
+        Some(SeenPlace::File { seen, .. }) => Ok(done(room, in_file(tree, &seen.document.path))),
+        Some(SeenPlace::Below { view, below }) => {
+            in_below(alloc, room, handles, tree, call, view, below)
+        }
+        Some(folder) => {
+            let asked = in_folder(alloc, book, handles, tree, call, place, folder)?;
+            Ok(done(room, asked))
+        }
+    }
+}
+
+/// What is done where a look tells whether there is a folder.
+fn in_below<T: HostTree>(
+    alloc: Global,
+    room: List<Look>,
+    handles: &mut Handles,
+    tree: &mut T,
+    call: &NodeCall,
+    view: u32,
+    below: SeenBelow,
+) -> Result<NodeDone, WantOfMemory>
+    requires room { length room ≡ 1 }
+    requires entered { IsSome (opened_on handles.old.seats call.now.seat) }
+    requires view { view < 2 ^ 28 }
+    ensures ok { IfOk result (λ done. DoneBy (Looks (AtPath below.entry.path.now) (by_look view
+        (spot below.entry.seen.document.now below.entry.path.now below.entry.seen.may_write)
+        (no_file enotdir)
+        (open_dir_in call.now.request.now (room_in handles.old call.now.seat))))
+        NodeOp.OpenDir call.now.seat handles.old (T.is tree.old) done handles.new
+        (T.is tree.new)) }
+    ensures unclocked { IfOk result (λ done. done.now ≡ None) }
+    ensures err { OnErr result
+        (Wants 2 handles.old (T.is tree.old) handles.new (T.is tree.new)) }
+{
+    let look = tree.look(below.path);
+    match look {
+        LookAnswer::Is(Look::Folder) => {
+            opened_below(alloc, room, handles, tree, call, view, below)
+        }
+        LookAnswer::Is(Look::File { .. } | Look::Missing) | LookAnswer::Failed => {
+            let answer = refusal_on_file(look, ENOTDIR);
+            Ok(done(
+                room,
+                Asked {
+                    answer,
+                    look: Some(look),
+                },
+            ))
+        }
+    }
+}
+
+/// What is done in a folder behind the look that showed it.
+fn opened_below<T: HostTree>(
+    alloc: Global,
+    room: List<Look>,
+    handles: &mut Handles,
+    tree: &mut T,
+    call: &NodeCall,
+    view: u32,
+    below: SeenBelow,
+) -> Result<NodeDone, WantOfMemory>
+    requires room { length room ≡ 1 }
+    requires entered { IsSome (opened_on handles.old.seats call.now.seat) }
+    requires view { view < 2 ^ 28 }
+    ensures ok { IfOk result (λ done. OpensBelow (open_dir_in call.now.request.now
+        (room_in handles.old call.now.seat) (Exported view below.entry.seen.document.now
+        below.entry.path.now below.entry.seen.may_write)) call.now.seat handles.old
+        (T.is tree.old) done handles.new (T.is tree.new)) }
     ensures unclocked { IfOk result (λ done. done.now ≡ None) }
     ensures err { OnErr result
         (Wants 1 handles.old (T.is tree.old) handles.new (T.is tree.new)) }
 {
-    let room = room_for_look(alloc)?;
-    let asked = opened(alloc, &book.view, handles, tree, call)?;
-    Ok(done(room, asked))
-}
-
-/// The answer.
-fn opened<T: HostTree>(
-    alloc: Global,
-    book: &ViewBook,
-    handles: &mut Handles,
-    tree: &mut T,
-    call: &NodeCall,
-) -> Result<Asked, WantOfMemory>
-    requires { IsSome (opened_on handles.old.seats call.now.seat) }
-    ensures ok { IfOk result (λ asked. (s : State) → Lends book.now s → DoneBy
-        (open_dir call.now.request.now (place_of s call.now.who.now call.now.request.now.node)
-        (room_in handles.old call.now.seat)) NodeOp.OpenDir call.now.seat
-        handles.old (T.is tree.old) (done_with asked) handles.new (T.is tree.new)) }
-    ensures err { OnErr result
-        (Wants 1 handles.old (T.is tree.old) handles.new (T.is tree.new)) }
-{
-    match place_of(call.request.node) {
-        None => Ok(unlooked(refusal(ENOENT))),
-        Some(place) => at_place(alloc, book, handles, tree, call, place),
+    if !take_room(handles, call.seat)? {
+        return Ok(behind_look(room, refusal(EMFILE), None, Fault::None));
+    }
+    match tree.list(below.path) {
+        ListAnswer::Names(names) => {
+            let answer = listed_below(alloc, handles, call, view, below, names.as_slice())?;
+            Ok(behind_look(room, answer, Some(names), Fault::None))
+        }
+        ListAnswer::NotFolder => Ok(behind_look(room, refusal(ENOENT), None, Fault::None)),
+        ListAnswer::Failed => Ok(behind_look(room, refusal(EIO), None, Fault::Tree)),
+        ListAnswer::Memory => Err(WantOfMemory),
     }
 }
 
-/// The answer at a place.
-fn at_place<T: HostTree>(
-    alloc: Global,
-    book: &ViewBook,
-    handles: &mut Handles,
-    tree: &mut T,
-    call: &NodeCall,
-    place: Place,
-) -> Result<Asked, WantOfMemory>
-    requires entered { IsSome (opened_on handles.old.seats call.now.seat) }
-    requires node { node_of place ≡ call.now.request.now.node }
-    ensures ok { IfOk result (λ asked. (s : State) → Lends book.now s → DoneBy
-        (open_dir call.now.request.now (sight_of_place s call.now.who.now place)
-        (room_in handles.old call.now.seat)) NodeOp.OpenDir call.now.seat
-        handles.old (T.is tree.old) (done_with asked) handles.new (T.is tree.new)) }
-    ensures err { OnErr result
-        (Wants 1 handles.old (T.is tree.old) handles.new (T.is tree.new)) }
+/// What was done behind the look that showed a folder.
+fn behind_look(
+    mut room: List<Look>,
+    answer: Answer,
+    listed: Option<List<ChildName>>,
+    fault: Fault,
+) -> NodeDone
+    requires { length room ≡ 1 }
+    ensures { result ≡ record {
+      answer = answer;
+      looks = Look.Folder ∷ [];
+      listed = listed;
+      now = None;
+      fault = fault;
+    } }
 {
-    match seen_at(book, call.who, place) {
-        None => Ok(unlooked(refusal(ENOENT))),
-        Some(SeenPlace::File { seen, .. }) => Ok(in_file(tree, &seen.document.path)),
-        Some(folder) => in_folder(alloc, book, handles, tree, call, place, folder),
+    room.set(0, Look::Folder);
+    NodeDone {
+        answer,
+        looks: room,
+        listed,
+        now: None,
+        fault,
     }
+}
+
+/// The handle on the names in a folder.
+fn listed_below(
+    alloc: Global,
+    handles: &mut Handles,
+    call: &NodeCall,
+    view: u32,
+    below: SeenBelow,
+    children: &[ChildName],
+) -> Result<Answer, WantOfMemory>
+    requires room { IsSomeAnd (opened_on handles.old.seats call.now.seat)
+        (CanAdd handles.old.most) }
+    requires view { view < 2 ^ 28 }
+    ensures ok { IfOk result (λ answer. ListedBelow call.now.request.now view
+        below.entry.seen.document.now below.entry.path.now children.now call.now.seat
+        handles.old answer handles.new) }
+    ensures err { OnErr result (handles.new ≡ handles.old) }
+{
+    let document = below.seen.document;
+    let node = call.request.node;
+    let names = listing_below(alloc, view, document, below.path, node, children)?;
+    Ok(Answer::Node(NodeAnswer::Opened {
+        fh: hand_out(handles, call.seat, Handle::Folder { node, names }),
+    }))
 }
 
 /// The answer for a file, which has no entries.
@@ -129,11 +257,13 @@ fn in_folder<T: HostTree>(
 ) -> Result<Asked, WantOfMemory>
     requires entered { IsSome (opened_on handles.old.seats call.now.seat) }
     requires node { node_of place ≡ call.now.request.now.node }
-    requires seen { (s : State) → Lends book.now s → sight_of_place s call.now.who.now place
+    requires seen { (s : State) (named : Option NamingNow) → Lends book.now s →
+        sight_of_place s call.now.who.now named place
         ≡ Some (sight_of book.now call.now.who.now folder) }
     requires folder { IsFolder (Some (sight_of book.now call.now.who.now folder)) }
-    ensures ok { IfOk result (λ asked. (s : State) → Lends book.now s → DoneBy
-        (open_dir call.now.request.now (sight_of_place s call.now.who.now place)
+    ensures ok { IfOk result (λ asked. (s : State) (named : Option NamingNow) →
+        Lends book.now s → DoneBy
+        (open_dir call.now.request.now (sight_of_place s call.now.who.now named place)
         (room_in handles.old call.now.seat)) NodeOp.OpenDir call.now.seat
         handles.old (T.is tree.old) (done_with asked) handles.new (T.is tree.new)) }
     ensures err { OnErr result
@@ -161,7 +291,10 @@ fn document_in(folder: SeenPlace) -> Option<&Document>
 {
     match folder {
         SeenPlace::Folder { seen, .. } => Some(seen.document),
-        SeenPlace::File { .. } | SeenPlace::Root { .. } | SeenPlace::Views => None,
+        SeenPlace::File { .. }
+        | SeenPlace::Below { .. }
+        | SeenPlace::Root { .. }
+        | SeenPlace::Views => None,
     }
 }
 
@@ -178,10 +311,10 @@ fn by_look(
         (CanAdd handles.old.most) }
     requires node { node_of place ≡ call.now.request.now.node }
     requires folder { (s : State) → Lends book.now s →
-        IsFolder (sight_of_place s call.now.who.now place) }
+        IsFolder (sight_of_place s call.now.who.now None place) }
     ensures ok { IfOk result (λ answer. (s : State) → Lends book.now s →
-        ListsBehind call.now.request.now (sight_of_place s call.now.who.now place) call.now.seat
-        look handles.old answer handles.new) }
+        ListsBehind call.now.request.now (sight_of_place s call.now.who.now None place)
+        call.now.seat look handles.old answer handles.new) }
     ensures err { OnErr result ((handles.new ≡ handles.old) × (is_look_fault look ≡ false)) }
 {
     match look {
@@ -203,9 +336,9 @@ fn listed(
         (CanAdd handles.old.most) }
     requires node { node_of place ≡ call.now.request.now.node }
     requires folder { (s : State) → Lends book.now s →
-        IsFolder (sight_of_place s call.now.who.now place) }
+        IsFolder (sight_of_place s call.now.who.now None place) }
     ensures ok { IfOk result (λ answer. (s : State) → Lends book.now s →
-        Lists call.now.request.now (sight_of_place s call.now.who.now place) call.now.seat
+        Lists call.now.request.now (sight_of_place s call.now.who.now None place) call.now.seat
         look handles.old answer handles.new) }
     ensures err { OnErr result (handles.new ≡ handles.old) }
 {

@@ -5,9 +5,11 @@
 //! in every valid state with these lists and over every connection of this caller;
 //! that what it took from the outside is what such a request takes, with the fault
 //! at its place where a call of the tree fails, which is EIO; that the tree was
-//! called for nothing else; and that want of memory changes no file and no handle, and
-//! doesn't come to a LOOKUP, GETATTR, ACCESS, FLUSH, RELEASE, RELEASEDIR, FORGET or
-//! BATCH_FORGET for which room was taken ahead.
+//! called for nothing else; that names below folders that are documents have numbers by
+//! connection; and that want of memory changes no file, no handle and no name, and
+//! doesn't come to a GETATTR, ACCESS, FLUSH, RELEASE, RELEASEDIR, FORGET or
+//! BATCH_FORGET for which room was taken ahead, nor to such a LOOKUP in a root, in the
+//! folder of all views or in a document's folder.
 //!
 //! Served are FUSE_LOOKUP, FUSE_ACCESS, FUSE_GETATTR, FUSE_READ, FUSE_FLUSH,
 //! FUSE_FSYNC and FUSE_READDIR, which change nothing, FUSE_FORGET and
@@ -22,6 +24,8 @@
 //! | `opening` | [`open`]: a file is opened |
 //! | `written` | [`write`]: bytes over those of an open file |
 //! | `created` | [`create`]: a document's file is made, and opened |
+//! | `children` | names in a folder that is a document, or lies below one |
+//! | `numbered` | the numbers of such names |
 //! | `resized` | [`set_attr`]: the length of a file |
 //! | `opened` | looks at open files, by their names |
 //! | `tried` | requests that may end with a call which changes or makes a file |
@@ -29,14 +33,18 @@
 //! Requests that change no file and open none are served in `node_looks`, and named here too.
 //!
 //! ```text
-//! let done = serve_node(alloc, &mut rooms, &book, &mut handles, &mut tree, &mut clock, &call)?;
+//! let done = serve_node(
+//!     alloc, &mut rooms, &book, &mut handles, &mut namings, &mut tree, &mut clock, &call,
+//! )?;
 //! ```
 //!
 //! Source: `include/uapi/linux/fuse.h`.
 #![tactic(auto)]
 
+mod children;
 mod created;
 mod folders;
+mod numbered;
 mod opened;
 mod opening;
 mod resized;

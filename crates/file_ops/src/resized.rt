@@ -1,17 +1,19 @@
 //! FUSE_SETATTR: of the attributes a file's length alone may be set.
 
-ghost use Rattle.std.specs.Prelude.{◌≡◌, ℕ, IfOk, OnErr, None, Some, false, not, option_copied};
+ghost use Rattle.std.specs.Prelude.{◌≡◌, ℕ, IfOk, List, OnErr, None, Some, false, not, option_copied};
 ghost use Rattle.open_handles.specs.Opened.{HandleTable, handle_of, opened_on};
 ghost use Rattle.portal_model.specs.declared.request.NodeOp.TheVariants as NodeOp;
 ghost use Rattle.host_tree.specs.Trees.{TreeIs, is_look_fault};
-ghost use Rattle.portal_model.specs.Attributes.{on_node};
+ghost use Rattle.portal_model.specs.declared.state.Document.{Document as DocumentNow};
+ghost use Rattle.portal_model.specs.Attributes.{is_writable, on_node};
 ghost use Rattle.portal_model.specs.Errno.{eacces};
-ghost use Rattle.portal_model.specs.NodeVerdict.{HandlesStay, at_file, at_name, by_file_handle, by_place, errs_if, if_file};
+ghost use Rattle.portal_model.specs.NodeVerdict.{HandlesStay, at_file, at_name, by_file_handle, by_look, by_place, errs_if, if_file, spot};
 ghost use Rattle.portal_model.specs.Place.{Folder, place_of, reach_at};
 ghost use Rattle.portal_model.specs.SetAttr.{set_attr, set_attr_at, set_attr_of_folder, set_attr_open, sets_by_handle, sets_owner_or_mode, sets_size};
 ghost use Rattle.portal_model.specs.State.{State};
+ghost use Rattle.portal_model.specs.Walk.{AtPath, Looks};
 ghost use Rattle.app_view.specs.Books.{Lends};
-ghost use Rattle.node_looks.specs.Done.{Does, MayRead, Reads};
+ghost use Rattle.node_looks.specs.Done.{DoesAt, MayRead, Reads};
 ghost use Rattle.node_looks.specs.Opened.{file_of};
 ghost use Rattle.file_ops.specs.Sets.{denial_of, generation_of, set_subject, sets_file, sets_length, sets_of};
 ghost use Rattle.node_looks.specs.Sights.{sight_of};
@@ -20,7 +22,7 @@ ghost use Rattle.file_ops.specs.Tries.{Goes, GoesBehind, done_of_ended, done_of_
 
 use crate::opened::look_named;
 use crate::tried::{Ended, Tried, came_of, room_for_looks};
-use app_view::ViewBook;
+use app_view::{SeenBelow, ViewBook};
 use document_records::Document;
 use host_tree::{HostTree, LookAnswer};
 use node_looks::attributes::{attr_of_file, attr_of_folder};
@@ -33,6 +35,7 @@ use portal_base::outside::Clock;
 use portal_base::who::Who;
 use portal_model::errno::{EACCES, EBADF, EFBIG, EIO, EISDIR, ENOENT, EPERM};
 use portal_model::handle::Handle;
+use portal_model::naming::Naming;
 use portal_model::reply::NodeAnswer;
 use portal_model::request::NodeRequest;
 use std::alloc::Global;
@@ -55,15 +58,17 @@ struct Setting {
 /// is EACCES where the subject of the node's view may not read the document now, and
 /// for a length where it may not write it.
 ///
-/// It takes a look at the file, and where the length is to be set one more call of
-/// the tree, and for that the moment of now. Where memory is wanting the tree was
-/// called at most, and no file has changed. Of n documents it takes about n steps.
+/// `naming` is what the connection has named by the number in the node. It takes a look
+/// at the file, and where the length is to be set one more call of the tree, and for that
+/// the moment of now. Where memory is wanting the tree was called twice at most, and no
+/// file has changed. Of n documents it takes about n steps.
 pub fn set_attr<T: HostTree, C: Clock>(
     alloc: Global,
     book: &FileBook,
     tree: &mut T,
     clock: &mut C,
     call: &NodeCall,
+    naming: Option<&Naming>,
     handle: Option<&Handle>,
     valid: u32,
     size: u64,
@@ -71,7 +76,8 @@ pub fn set_attr<T: HostTree, C: Clock>(
     ensures ok { (table : HandleTable) (fh : ℕ) →
         handle_of (opened_on table.seats call.now.seat) fh ≡ option_copied handle.entry →
         call.now.request.now.op ≡ NodeOp.SetAttr valid fh size → IfOk result (λ done.
-        Does book.now call.now table (T.is tree.old) done table (T.is tree.new)) }
+        DoesAt (option_copied naming.entry) book.now call.now table (T.is tree.old) done table
+        (T.is tree.new)) }
     ensures clock { IfOk result (λ done. Reads C.reads clock.old done.now clock.new) }
     ensures err { OnErr result (WasCalledUpTo 2 (T.is tree.old) (T.is tree.new)) }
     ensures clock_err { OnErr result (MayRead C.reads clock.old clock.new) }
@@ -89,6 +95,7 @@ pub fn set_attr<T: HostTree, C: Clock>(
         clock,
         call.who,
         call.request,
+        naming,
         setting,
         handle,
     )?;
@@ -103,13 +110,15 @@ fn set<T: HostTree, C: Clock>(
     clock: &mut C,
     who: &Who,
     request: &NodeRequest,
+    naming: Option<&Naming>,
     setting: Setting,
     handle: Option<&Handle>,
 ) -> Result<Tried, WantOfMemory>
     ensures ok { IfOk result (λ tried. (s : State) → Lends book.now s →
         Goes (set_attr (reach_at s who.now) request.now (sets_of setting)
-        (place_of s who.now request.now.node) (option_copied handle.entry)) (T.is tree.old)
-        (done_of_tried tried) HandlesStay (T.is tree.new)) }
+        (place_of s who.now (option_copied naming.entry) request.now.node)
+        (option_copied handle.entry)) (T.is tree.old) (done_of_tried tried) HandlesStay
+        (T.is tree.new)) }
     ensures clock { IfOk result (λ tried.
         Reads C.reads clock.old (moment_of tried.ended.call) clock.new) }
     ensures err { OnErr result (WasCalledUpTo 2 (T.is tree.old) (T.is tree.new)) }
@@ -122,7 +131,7 @@ fn set<T: HostTree, C: Clock>(
     if sets_by_handle(setting.valid) {
         return set_open(book, tree, clock, who, request, setting, handle);
     }
-    match seen_place(book, who, request.node) {
+    match seen_place(book, who, request.node, naming) {
         Some(place) => set_place(alloc, book, tree, clock, who, request, setting, place),
         None => Ok(Tried::unlooked(Ended::refused(ENOENT))),
     }
@@ -394,24 +403,104 @@ fn set_place<T: HostTree, C: Clock>(
             seen.document,
             seen.may_write,
         ),
-        SeenPlace::Folder { .. } => Ok(set_folder(request, setting)),
-        SeenPlace::Root { .. } => Ok(set_folder(request, setting)),
-        SeenPlace::Views => Ok(set_folder(request, setting)),
+        SeenPlace::Below { below, .. } => { set_below(alloc, tree, clock, request, setting, below) }
+        SeenPlace::Folder { .. } => Ok(set_plain(request, setting)),
+        SeenPlace::Root { .. } => Ok(set_plain(request, setting)),
+        SeenPlace::Views => Ok(set_plain(request, setting)),
     }
 }
 
-/// How the request ends on a folder.
-fn set_folder(request: &NodeRequest, setting: Setting) -> Tried
-    ensures goes { (tree : TreeIs) (folder : Folder) →
+/// How the request ends on a folder that isn't at or below a document that is one.
+fn set_plain(request: &NodeRequest, setting: Setting) -> Tried
+    ensures goes { (tree : TreeIs) (folder : Folder) → is_writable folder ≡ false →
         Goes (set_attr_of_folder request.now (sets_of setting) folder) tree
         (done_of_tried result) HandlesStay tree }
     ensures call { result.ended.call ≡ None }
 {
+    Tried::unlooked(set_folder(request, setting, false))
+}
+
+/// How the request ends on a folder.
+fn set_folder(request: &NodeRequest, setting: Setting, may_write: bool) -> Ended
+    ensures goes { (tree : TreeIs) (folder : Folder) → is_writable folder ≡ may_write →
+        Goes (set_attr_of_folder request.now (sets_of setting) folder) tree
+        (done_of_ended result) HandlesStay tree }
+    ensures call { result.call ≡ None }
+{
     if sets_size(setting.valid) {
-        Tried::unlooked(Ended::refused(EISDIR))
+        Ended::refused(EISDIR)
     } else {
-        let attr = attr_of_folder(request, request.node);
-        Tried::unlooked(Ended::told(NodeAnswer::Attr(attr)))
+        let attr = attr_of_folder(request, request.node, may_write);
+        Ended::told(NodeAnswer::Attr(attr))
+    }
+}
+
+/// How the request ends on what lies at or below a document that is a folder.
+fn set_below<T: HostTree, C: Clock>(
+    alloc: Global,
+    tree: &mut T,
+    clock: &mut C,
+    request: &NodeRequest,
+    setting: Setting,
+    below: SeenBelow,
+) -> Result<Tried, WantOfMemory>
+    ensures ok { (view : ℕ) → IfOk result (λ tried. Goes (Looks (AtPath below.entry.path.now)
+        (by_look view
+        (spot below.entry.seen.document.now below.entry.path.now below.entry.seen.may_write)
+        (set_attr_at request.now (sets_of setting))
+        (set_attr_of_folder request.now (sets_of setting)))) (T.is tree.old)
+        (done_of_tried tried) HandlesStay (T.is tree.new)) }
+    ensures clock { IfOk result (λ tried.
+        Reads C.reads clock.old (moment_of tried.ended.call) clock.new) }
+    ensures err { OnErr result (WasCalledUpTo 2 (T.is tree.old) (T.is tree.new)) }
+    ensures clock_err { OnErr result (MayRead C.reads clock.old clock.new) }
+{
+    let path_copy = below.path.replica(alloc)?;
+    let look = tree.look(below.path);
+    let name = FileName {
+        path: path_copy,
+        generation: generation_of(look),
+    };
+    let subject = Subject {
+        node: request.node,
+        may_write: below.seen.may_write,
+        denial: EACCES,
+    };
+    let ended = set_looked_below(tree, clock, request, setting, &name, subject, look)?;
+    Ok(Tried {
+        look: Some(look),
+        ended,
+    })
+}
+
+/// How the request ends behind the look for what is there.
+fn set_looked_below<T: HostTree, C: Clock>(
+    tree: &mut T,
+    clock: &mut C,
+    request: &NodeRequest,
+    setting: Setting,
+    name: &FileName,
+    subject: Subject,
+    look: LookAnswer,
+) -> Result<Ended, WantOfMemory>
+    ensures ok { (view : ℕ) (d : DocumentNow) (path : List ℕ) → IfOk result (λ ended.
+        GoesBehind (by_look view (spot d path subject.may_write)
+        (λ at. set_subject request.now (sets_of setting) subject name.now)
+        (set_attr_of_folder request.now (sets_of setting))) look
+        (T.is tree.old) ended HandlesStay (T.is tree.new)) }
+    ensures clock { IfOk result (λ ended. Reads C.reads clock.old
+        (moment_of ended.call) clock.new) }
+    ensures err { OnErr result (WasCalledUpTo 1 (T.is tree.old) (T.is tree.new)) }
+    ensures shown { OnErr result (is_look_fault look ≡ false) }
+    ensures clock_err { OnErr result (MayRead C.reads clock.old clock.new) }
+{
+    match look {
+        LookAnswer::Is(Look::File { size, moment, .. }) => {
+            set_file(tree, clock, request, setting, name, subject, size, moment)
+        }
+        LookAnswer::Is(Look::Folder) => Ok(set_folder(request, setting, subject.may_write)),
+        LookAnswer::Is(Look::Missing) => Ok(Ended::refused(ENOENT)),
+        LookAnswer::Failed => Ok(Ended::refused(EIO)),
     }
 }
 
@@ -426,8 +515,9 @@ fn set_placed<T: HostTree, C: Clock>(
     may_write: bool,
 ) -> Result<Tried, WantOfMemory>
     ensures ok { IfOk result (λ tried. Goes (at_file document.now.path
-        (set_attr_at request.now (sets_of setting) document.now may_write))
-        (T.is tree.old) (done_of_tried tried) HandlesStay (T.is tree.new)) }
+        (set_attr_at request.now (sets_of setting)
+        (spot document.now document.now.path may_write))) (T.is tree.old) (done_of_tried tried)
+        HandlesStay (T.is tree.new)) }
     ensures clock { IfOk result (λ tried.
         Reads C.reads clock.old (moment_of tried.ended.call) clock.new) }
     ensures err { OnErr result (WasCalledUpTo 2 (T.is tree.old) (T.is tree.new)) }

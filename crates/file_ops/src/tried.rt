@@ -5,7 +5,7 @@ ghost use Rattle.host_tree.specs.declared.tree.TreeDone.TheVariants as TreeDone;
 ghost use Rattle.host_tree.specs.Trees.{TreeIs};
 ghost use Rattle.portal_model.specs.declared.reply.NodeAnswer.TheVariants as NodeAnswer;
 ghost use Rattle.portal_model.specs.NodeVerdict.{HandlesStay, at_file, errs, errs_on_file, told};
-ghost use Rattle.file_ops.specs.Tries.{Goes, done_of_ended, done_of_tried, ended_by, fault_by, fault_behind, fault_of_call, found_nothing, is_not_file, moment_of, refuses, says, shown_behind, tree_done};
+ghost use Rattle.file_ops.specs.Tries.{Goes, done_after, done_of_below, done_of_ended, done_of_tried, ended_by, fault_by, fault_behind, fault_of_call, found_nothing, is_not_file, moment_of, refuses, says, shown_behind, tree_done};
 ghost use Rattle.node_looks.specs.Walks.{taken};
 ghost use Rattle.file_ops.specs.declared.tried.Came.TheVariants as came;
 
@@ -56,6 +56,14 @@ pub(crate) struct Tried {
     pub look: Option<LookAnswer>,
     /// How the request ended.
     pub ended: Ended,
+}
+
+/// A request that ended behind what was shown first.
+pub(crate) struct TriedBelow {
+    /// What was shown first, where the request went on behind it.
+    pub first: Option<Look>,
+    /// How it ended.
+    pub then: Tried,
 }
 
 /// What came of a call of the tree.
@@ -173,9 +181,56 @@ impl Tried {
         NodeDone {
             answer,
             looks: looks_in(room, look, call),
+            listed: None,
             now: moment_of(call),
             fault: fault_behind(look, call),
         }
+    }
+}
+
+impl TriedBelow {
+    /// A request that took one look at most ahead of its call.
+    pub(crate) fn at_once(then: Tried) -> TriedBelow
+        ensures { result ≡ record { first = None; then = then } }
+    {
+        TriedBelow { first: None, then }
+    }
+
+    /// What was done, with the looks in the room that was taken for them.
+    pub(crate) fn done(self, room: List<Look>) -> NodeDone
+        requires { length room ≡ 3 }
+        ensures { result ≡ done_of_below self }
+    {
+        let TriedBelow { first, then } = self;
+        match first {
+            Some(shown) => done_after(room, shown, then),
+            None => done_at_once(room, then),
+        }
+    }
+}
+
+/// What was done with one look at most ahead of the call.
+fn done_at_once(mut room: List<Look>, then: Tried) -> NodeDone
+    requires { length room ≡ 3 }
+    ensures { result ≡ done_of_tried then }
+{
+    room.truncate(2);
+    then.done(room)
+}
+
+/// What was done behind what was shown first.
+fn done_after(room: List<Look>, shown: Look, then: Tried) -> NodeDone
+    requires { length room ≡ 3 }
+    ensures { result ≡ done_after shown (done_of_tried then) }
+{
+    let Tried { look, ended } = then;
+    let Ended { answer, call } = ended;
+    NodeDone {
+        answer,
+        looks: looks_after(room, shown, look, call),
+        listed: None,
+        now: moment_of(call),
+        fault: fault_behind(look, call),
     }
 }
 
@@ -186,6 +241,67 @@ pub(crate) fn room_for_looks(alloc: Global) -> Result<List<Look>, WantOfMemory>
     let mut room = room_for_look(alloc)?;
     room.push(Look::Missing)?;
     Ok(room)
+}
+
+/// Room for the looks of a request that looks at a folder ahead of what is in it.
+pub(crate) fn room_below(alloc: Global) -> Result<List<Look>, WantOfMemory>
+    ensures { IfOk result (λ room. length room ≡ 3) }
+{
+    let mut room = room_for_looks(alloc)?;
+    room.push(Look::Missing)?;
+    Ok(room)
+}
+
+/// A look, and those that were taken behind it.
+fn looks_after(
+    room: List<Look>,
+    first: Look,
+    look: Option<LookAnswer>,
+    call: Option<CallMade>,
+) -> List<Look>
+    requires { length room ≡ 3 }
+    ensures { result ≡ first ∷ (taken look ++ shown_behind call) }
+{
+    match look {
+        Some(LookAnswer::Is(shown)) => looks_after_two(room, first, shown, call),
+        Some(LookAnswer::Failed) => looks_after_one(room, first, call),
+        None => looks_after_one(room, first, call),
+    }
+}
+
+/// Two looks, and those that were shown behind them.
+fn looks_after_two(
+    mut room: List<Look>,
+    first: Look,
+    shown: Look,
+    call: Option<CallMade>,
+) -> List<Look>
+    requires { length room ≡ 3 }
+    ensures { result ≡ first ∷ shown ∷ shown_behind call }
+{
+    room.set(0, first);
+    room.set(1, shown);
+    if found_nothing(call) {
+        room.set(2, Look::Missing);
+    } else {
+        room.truncate(2);
+    }
+    room
+}
+
+/// A look, and those that were shown behind it.
+fn looks_after_one(mut room: List<Look>, first: Look, call: Option<CallMade>) -> List<Look>
+    requires { length room ≡ 3 }
+    ensures { result ≡ first ∷ shown_behind call }
+{
+    room.set(0, first);
+    if found_nothing(call) {
+        room.set(1, Look::Missing);
+        room.truncate(2);
+    } else {
+        room.truncate(1);
+    }
+    room
 }
 
 /// The looks that were shown.

@@ -1,3 +1,4 @@
 pub mod Fields
 pub mod Dirents
 pub mod Replies
+pub mod Rooms

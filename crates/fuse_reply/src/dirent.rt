@@ -1,8 +1,9 @@
 //! The entries of a folder, as FUSE_READDIR tells them.
 
-ghost use Rattle.std.specs.Prelude.{◌≡◌, ◌++◌, ◌+◌, ◌<◌, ◌≤◌, ◌^◌, length, replicate, MatchOption, IfOk, OnOk};
+ghost use Rattle.std.specs.Prelude.{◌≡◌, ◌++◌, ◌+◌, ◌<◌, ◌≤◌, ◌^◌, length, replicate, MatchOption, IfOk, IsOk, OnOk};
 ghost use Rattle.fuse_reply.specs.Dirents.{dirent, dirents, dirent_size as size_of_dirent, fuse_dirent, name_offset, padding_of, type_of};
 ghost use Rattle.fuse_reply.specs.Fields.{spelled};
+ghost use Rattle.fuse_reply.specs.Rooms.{HasRoom, TakesRoom};
 
 use crate::field::{Field, put, put_bytes};
 use portal_base::list::{ByteList, List};
@@ -41,7 +42,10 @@ pub fn put_dirents(
     offset: u64,
     size: u32,
 ) -> Result<(), WantOfMemory>
-    ensures { OnOk result (bytes.new.items ≡ bytes.old.items ++ dirents names.now offset size) }
+    ensures items { OnOk result (bytes.new.items
+        ≡ bytes.old.items ++ dirents names.now offset size) }
+    ensures room { HasRoom bytes.old (length (dirents names.now offset size)) → IsOk result }
+    ensures takes { TakesRoom bytes.old (length (dirents names.now offset size)) bytes.new }
 {
     let mut left = size;
     for place in offset as usize..names.len() {
@@ -90,7 +94,9 @@ fn fitting_size(name_len: usize, left: u32) -> Option<u32>
 /// Puts an entry at the end, whose off is this.
 fn put_dirent(bytes: &mut Vec<u8>, entry: &DirName, off: u64) -> Result<(), WantOfMemory>
     requires { length entry.now.name < 2 ^ 32 }
-    ensures { OnOk result (bytes.new.items ≡ bytes.old.items ++ dirent entry.now off) }
+    ensures items { OnOk result (bytes.new.items ≡ bytes.old.items ++ dirent entry.now off) }
+    ensures room { HasRoom bytes.old (length (dirent entry.now off)) → IsOk result }
+    ensures takes { TakesRoom bytes.old (length (dirent entry.now off)) bytes.new }
 {
     put_head(bytes, entry, off)?;
     put_bytes(bytes, entry.name.as_slice())?;
@@ -100,8 +106,10 @@ fn put_dirent(bytes: &mut Vec<u8>, entry: &DirName, off: u64) -> Result<(), Want
 /// Puts what stands ahead of an entry's name.
 fn put_head(bytes: &mut Vec<u8>, entry: &DirName, off: u64) -> Result<(), WantOfMemory>
     requires { length entry.now.name < 2 ^ 32 }
-    ensures { OnOk result (bytes.new.items ≡ bytes.old.items
+    ensures items { OnOk result (bytes.new.items ≡ bytes.old.items
         ++ spelled (fuse_dirent entry.now off)) }
+    ensures room { HasRoom bytes.old (length (spelled (fuse_dirent entry.now off))) → IsOk result }
+    ensures takes { TakesRoom bytes.old (length (spelled (fuse_dirent entry.now off))) bytes.new }
 {
     let fields = [
         Field::Eight(entry.node),
@@ -121,7 +129,10 @@ fn type_of(folder: bool) -> u32
 /// Puts the zeros behind a name of this length.
 fn put_padding(bytes: &mut Vec<u8>, name_len: usize) -> Result<(), WantOfMemory>
     requires { name_len < 2 ^ 32 }
-    ensures { OnOk result (bytes.new.items ≡ bytes.old.items ++ replicate (padding_of name_len) 0) }
+    ensures items { OnOk result (bytes.new.items ≡ bytes.old.items
+        ++ replicate (padding_of name_len) 0) }
+    ensures room { HasRoom bytes.old (padding_of name_len) → IsOk result }
+    ensures takes { TakesRoom bytes.old (padding_of name_len) bytes.new }
 {
     put_bytes(bytes, &[0; 7][..padding_len(name_len)])
 }

@@ -1,9 +1,10 @@
 //! The frame that carries an answer.
 
-ghost use Rattle.std.specs.Prelude.{◌≡◌, ◌++◌, ◌≤◌, ◌%◌, ◌^◌, length, drop, IfOk, OnOk};
+ghost use Rattle.std.specs.Prelude.{◌≡◌, ◌++◌, ◌+◌, ◌≤◌, ◌%◌, ◌^◌, length, drop, vec_capacity, IfOk, IsOk, OnOk};
 ghost use Rattle.byteorder.specs.Endian.{little_bytes};
 ghost use Rattle.fuse_reply.specs.Fields.{spelled};
-ghost use Rattle.fuse_reply.specs.Replies.{body_of, error_of, fuse_attr, fuse_attr_out, fuse_entry_out, fuse_kstatfs, fuse_open_out, fuse_out_header, init_rest, is_quiet, reply_of};
+ghost use Rattle.fuse_reply.specs.Replies.{body_of, error_of, fuse_attr, fuse_attr_out, fuse_entry_out, fuse_kstatfs, fuse_open_out, fuse_out_header, header_len, init_rest, is_quiet, reply_of};
+ghost use Rattle.fuse_reply.specs.Rooms.{HasRoom, TakesRoom};
 
 use crate::dirent::{fitting_len, put_dirents};
 use crate::field::{Field, put, put_bytes};
@@ -48,16 +49,30 @@ pub fn write_reply(
 ) -> Result<Option<ByteList>, WantOfMemory>
     ensures { IfOk result (λ frame. frame ≡ reply_of unique answer.now) }
 {
+    write_reply_in(Vec::new(alloc), unique, answer)
+}
+
+/// The same, in this buffer, whatever stands in it. Where it has room for the frame no memory is
+/// wanted.
+pub fn write_reply_in(
+    buffer: Vec<u8>,
+    unique: u64,
+    answer: &NodeAnswer,
+) -> Result<Option<ByteList>, WantOfMemory>
+    ensures frame { IfOk result (λ frame. frame ≡ reply_of unique answer.now) }
+    ensures room { header_len + length (body_of answer.now) ≤ vec_capacity buffer → IsOk result }
+{
     if is_quiet(answer) {
         return Ok(None);
     }
     // So the bytes that were read are copied into it once.
-    let mut frame = begun(alloc, error_of(answer), unique, body_len(answer))?;
+    let mut frame = begun(buffer, error_of(answer), unique, body_len(answer))?;
     put_body(&mut frame, answer)?;
     Ok(Some(sealed(frame)))
 }
 
-fn is_quiet(answer: &NodeAnswer) -> bool
+/// Whether there is no frame.
+pub fn is_quiet(answer: &NodeAnswer) -> bool
     ensures { result ≡ is_quiet answer.now }
 {
     matches!(answer, NodeAnswer::Quiet)
@@ -73,8 +88,8 @@ fn error_of(answer: &NodeAnswer) -> u32
     }
 }
 
-/// The length of the body, in bytes.
-fn body_len(answer: &NodeAnswer) -> usize
+/// The length of what stands behind the header, in bytes.
+pub fn body_len(answer: &NodeAnswer) -> usize
     ensures { result ≡ length (body_of answer.now) }
 {
     match answer {
@@ -95,12 +110,16 @@ fn body_len(answer: &NodeAnswer) -> usize
     }
 }
 
-/// A buffer with room for a header and a body of this length. The header
-/// stands in it, without the length of the frame.
-fn begun(alloc: Global, error: u32, unique: u64, body_len: usize) -> Result<Vec<u8>, WantOfMemory>
-    ensures { IfOk result (λ frame. frame.items ≡ spelled (fuse_out_header 0 error unique)) }
+/// The buffer with room for a header and a body of this length. The header
+/// alone stands in it, without the length of the frame.
+fn begun(buffer: Vec<u8>, error: u32, unique: u64, body_len: usize) -> Result<Vec<u8>, WantOfMemory>
+    ensures items { IfOk result (λ frame. frame.items ≡ spelled (fuse_out_header 0 error unique)) }
+    ensures ok { header_len + body_len ≤ vec_capacity buffer → IsOk result }
+    ensures room { IfOk result (λ frame. HasRoom frame body_len) }
 {
-    let mut frame = Vec::with_capacity(alloc, body_len.saturating_add(OUT_HEADER_LEN))?;
+    let mut frame = buffer;
+    frame.clear();
+    frame.reserve_exact(body_len.saturating_add(OUT_HEADER_LEN))?;
     let header = [Field::Four(0), Field::Four(error), Field::Eight(unique)];
     put(&mut frame, &header)?;
     Ok(frame)
@@ -120,7 +139,9 @@ fn sealed(mut frame: Vec<u8>) -> ByteList
 
 /// Puts the body of an answer at the end.
 fn put_body(frame: &mut Vec<u8>, answer: &NodeAnswer) -> Result<(), WantOfMemory>
-    ensures { OnOk result (frame.new.items ≡ frame.old.items ++ body_of answer.now) }
+    ensures items { OnOk result (frame.new.items ≡ frame.old.items ++ body_of answer.now) }
+    ensures room { HasRoom frame.old (length (body_of answer.now)) → IsOk result }
+    ensures takes { TakesRoom frame.old (length (body_of answer.now)) frame.new }
 {
     match answer {
         NodeAnswer::Entry(attr) => put_entry(frame, attr),
@@ -164,7 +185,10 @@ fn put_body(frame: &mut Vec<u8>, answer: &NodeAnswer) -> Result<(), WantOfMemory
 
 /// A `fuse_entry_out`.
 fn put_entry(frame: &mut Vec<u8>, attr: &Attr) -> Result<(), WantOfMemory>
-    ensures { OnOk result (frame.new.items ≡ frame.old.items ++ spelled (fuse_entry_out attr.now)) }
+    ensures items { OnOk result (frame.new.items
+        ≡ frame.old.items ++ spelled (fuse_entry_out attr.now)) }
+    ensures room { HasRoom frame.old (length (spelled (fuse_entry_out attr.now))) → IsOk result }
+    ensures takes { TakesRoom frame.old (length (spelled (fuse_entry_out attr.now))) frame.new }
 {
     let fields = [
         Field::Eight(attr.node),
@@ -180,8 +204,12 @@ fn put_entry(frame: &mut Vec<u8>, attr: &Attr) -> Result<(), WantOfMemory>
 
 /// A `fuse_entry_out` and a `fuse_open_out`.
 fn put_created(frame: &mut Vec<u8>, attr: &Attr, fh: u64) -> Result<(), WantOfMemory>
-    ensures { OnOk result (frame.new.items ≡ frame.old.items
+    ensures items { OnOk result (frame.new.items ≡ frame.old.items
         ++ (spelled (fuse_entry_out attr.now) ++ spelled (fuse_open_out fh))) }
+    ensures room { HasRoom frame.old (length (spelled (fuse_entry_out attr.now)
+        ++ spelled (fuse_open_out fh))) → IsOk result }
+    ensures takes { TakesRoom frame.old (length (spelled (fuse_entry_out attr.now)
+        ++ spelled (fuse_open_out fh))) frame.new }
 {
     put_entry(frame, attr)?;
     put_opened(frame, fh)
@@ -189,7 +217,10 @@ fn put_created(frame: &mut Vec<u8>, attr: &Attr, fh: u64) -> Result<(), WantOfMe
 
 /// A `fuse_attr_out`.
 fn put_attr_out(frame: &mut Vec<u8>, attr: &Attr) -> Result<(), WantOfMemory>
-    ensures { OnOk result (frame.new.items ≡ frame.old.items ++ spelled (fuse_attr_out attr.now)) }
+    ensures items { OnOk result (frame.new.items
+        ≡ frame.old.items ++ spelled (fuse_attr_out attr.now)) }
+    ensures room { HasRoom frame.old (length (spelled (fuse_attr_out attr.now))) → IsOk result }
+    ensures takes { TakesRoom frame.old (length (spelled (fuse_attr_out attr.now))) frame.new }
 {
     let fields = [Field::Eight(0), Field::Four(0), Field::Four(0)];
     put(frame, &fields)?;
@@ -198,7 +229,9 @@ fn put_attr_out(frame: &mut Vec<u8>, attr: &Attr) -> Result<(), WantOfMemory>
 
 /// A `fuse_attr`.
 fn put_attr(frame: &mut Vec<u8>, attr: &Attr) -> Result<(), WantOfMemory>
-    ensures { OnOk result (frame.new.items ≡ frame.old.items ++ spelled (fuse_attr attr.now)) }
+    ensures items { OnOk result (frame.new.items ≡ frame.old.items ++ spelled (fuse_attr attr.now)) }
+    ensures room { HasRoom frame.old (length (spelled (fuse_attr attr.now))) → IsOk result }
+    ensures takes { TakesRoom frame.old (length (spelled (fuse_attr attr.now))) frame.new }
 {
     let fields = [
         Field::Eight(attr.node),
@@ -223,14 +256,18 @@ fn put_attr(frame: &mut Vec<u8>, attr: &Attr) -> Result<(), WantOfMemory>
 
 /// A `fuse_open_out`.
 fn put_opened(frame: &mut Vec<u8>, fh: u64) -> Result<(), WantOfMemory>
-    ensures { OnOk result (frame.new.items ≡ frame.old.items ++ spelled (fuse_open_out fh)) }
+    ensures items { OnOk result (frame.new.items ≡ frame.old.items ++ spelled (fuse_open_out fh)) }
+    ensures room { HasRoom frame.old (length (spelled (fuse_open_out fh))) → IsOk result }
+    ensures takes { TakesRoom frame.old (length (spelled (fuse_open_out fh))) frame.new }
 {
     put(frame, &[Field::Eight(fh), Field::Four(0), Field::Four(0)])
 }
 
 /// A `fuse_kstatfs`.
 fn put_statfs(frame: &mut Vec<u8>) -> Result<(), WantOfMemory>
-    ensures { OnOk result (frame.new.items ≡ frame.old.items ++ spelled fuse_kstatfs) }
+    ensures items { OnOk result (frame.new.items ≡ frame.old.items ++ spelled fuse_kstatfs) }
+    ensures room { HasRoom frame.old (length (spelled fuse_kstatfs)) → IsOk result }
+    ensures takes { TakesRoom frame.old (length (spelled fuse_kstatfs)) frame.new }
 {
     let fields = [
         Field::Eight(BLOCKS),
@@ -250,7 +287,9 @@ fn put_statfs(frame: &mut Vec<u8>) -> Result<(), WantOfMemory>
 /// What stands in a `fuse_init_out` behind `time_gran`: `max_pages`,
 /// `map_alignment` and `unused`.
 fn put_init_rest(frame: &mut Vec<u8>) -> Result<(), WantOfMemory>
-    ensures { OnOk result (frame.new.items ≡ frame.old.items ++ spelled init_rest) }
+    ensures items { OnOk result (frame.new.items ≡ frame.old.items ++ spelled init_rest) }
+    ensures room { HasRoom frame.old (length (spelled init_rest)) → IsOk result }
+    ensures takes { TakesRoom frame.old (length (spelled init_rest)) frame.new }
 {
     put(frame, &[Field::Two(0), Field::Two(0)])?;
     put(frame, &[Field::Four(0); 8])

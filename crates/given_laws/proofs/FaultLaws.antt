@@ -2,6 +2,7 @@
 use Rattle.std.specs.Prelude.{◌≢◌}
 use Rattle.std.proofs.Common.{◌≡◌, ℕ, ◌≤◌, ◌==◌, List, [], ◌∷◌, length, Bool, true, false, cond, Option, Some, None, refl, ap, subst, ◌∙◌, arith}
 use Rattle.portal_base.specs.declared.files.File.{File}
+use Rattle.portal_base.specs.declared.files.ChildName.{ChildName}
 use Rattle.portal_base.specs.declared.files.Look.{Look}
 use Rattle.portal_model.specs.declared.entry.Fault.{Fault}
 use Rattle.portal_model.specs.declared.entry.Given.{Given}
@@ -22,7 +23,7 @@ use Rattle.portal_model.specs.State.{State, connection_of, is_mount}
 use Rattle.portal_model.specs.Step.{all_told, bus_of, bus_step, collect_step, mount_of, node_step, request_step, with_signals}
 use Rattle.portal_model.specs.Valid.{Valid}
 use Rattle.portal_model.specs.Verdict.{Verdict, Refuses, Does}
-use Rattle.portal_model.specs.Walk.{Walk, Answers, Looks, Ends, Gives, walked}
+use Rattle.portal_model.specs.Walk.{Walk, Answers, Looks, Ends, Lists, Gives, walked_with}
 use Rattle.portal_model.proofs.ListLookups.{found_passes, nat_is}
 use Rattle.portal_model.proofs.WhoWaits.{all_told-nothing, mount-quiet}
 use Rattle.given_laws.specs.Faulted.{FaultsChangeNothing, asks_no_device, collecting, failure_of}
@@ -34,12 +35,13 @@ none_failed : {X : Type 0} (given : Given) → given ≡ nothing_given → given
 none_failed given e f = absurd (f (ap (λ (g : Given). g.fault) e))
 
 -- where a call of the tree failed the walk comes to nothing
-failed_none : {X : Type 0} (tree : Option (List File)) (w : Walk X) (now : ℕ) (looks : List Look) → Gives tree w looks true → walked w now looks true ≡ None
-failed_none tree (Answers x) now looks g = cc
-failed_none tree (Looks target next) now [] g = refl
-failed_none tree (Looks target next) now (look ∷ looks) g = failed_none tree (next look) now looks g.1
-failed_none tree (Ends call done missing) now [] g = refl
-failed_none tree (Ends call done missing) now (look ∷ looks) g = cc
+failed_none : {X : Type 0} (tree : Option (List File)) (w : Walk X) (now : ℕ) (listed : Option (List ChildName)) (looks : List Look) → Gives tree w looks true → walked_with w now listed looks true ≡ None
+failed_none tree (Answers x) now listed looks g = cc
+failed_none tree (Looks target next) now listed [] g = refl
+failed_none tree (Looks target next) now listed (look ∷ looks) g = failed_none tree (next look) now listed looks g.1
+failed_none tree (Ends call done missing) now listed [] g = refl
+failed_none tree (Ends call done missing) now listed (look ∷ looks) g = cc
+failed_none tree (Lists path done missing) now listed looks g = refl
 
 -- ---- costs
 
@@ -54,8 +56,8 @@ module _ (s : State) (c : Connection) (r : NodeRequest) (given : Given) (l : Law
   by_fault Fault.Keeper e f = absurd (l.keeper e)
   by_fault Fault.Tree e f =
       let gives : Gives (files_told s) (walk_on_node s c r) given.looks true = subst (λ (x : Fault). Gives (files_told s) (walk_on_node s c r) given.looks (is_tree x)) e l.looks in
-      (λ i. settled_on_node s c (walked (walk_on_node s c r) (moment_given given.now) given.looks (is_tree (e i))))
-      ∙ ap (settled_on_node s c) (failed_none (files_told s) (walk_on_node s c r) (moment_given given.now) given.looks gives)
+      (λ i. settled_on_node s c (walked_with (walk_on_node s c r) (moment_given given.now) given.listed given.looks (is_tree (e i))))
+      ∙ ap (settled_on_node s c) (failed_none (files_told s) (walk_on_node s c r) (moment_given given.now) given.listed given.looks gives)
 
   node_failed : given.fault ≢ Fault.None → node_answer s c r given ≡ (s, Answer.Refused (Code.Errno eio))
   node_failed f = by_fault given.fault refl f
@@ -78,8 +80,8 @@ module _ (s : State) (c : Connection) (request : Request) (given : Given) (l : L
   bus_by_fault Fault.Tree e f =
       let walk = bus_walk s c request given.numbers in
       let gives : Gives (files_told s) walk given.looks true = subst (λ (x : Fault). Gives (files_told s) walk given.looks (is_tree x)) e l.looks in
-      (λ i. settled s refused given (walked walk (moment_given given.now) given.looks (is_tree (e i))))
-      ∙ ap (settled s refused given) (failed_none (files_told s) walk (moment_given given.now) given.looks gives)
+      (λ i. settled s refused given (walked_with walk (moment_given given.now) None given.looks (is_tree (e i))))
+      ∙ ap (settled s refused given) (failed_none (files_told s) walk (moment_given given.now) None given.looks gives)
 
   bus_failed : given.fault ≢ Fault.None → bus_answer s c request given ≡ (s, Answer.Refused Code.Failed)
   bus_failed f = bus_by_fault given.fault refl f

@@ -1,7 +1,8 @@
 -- Over a tree that tells its files, a request has one lawful entry in which no device failed.
 use Rattle.std.specs.Prelude.{IfSome}
-use Rattle.std.proofs.Common.{◌≡◌, ℕ, List, Option, Some, None, is_some, refl, sym, ap, subst, ◌∙◌}
+use Rattle.std.proofs.Common.{◌≡◌, ℕ, List, Option, Some, None, true, is_some, refl, sym, ap, subst, ◌∙◌}
 use Rattle.portal_model.specs.declared.entry.Entry.{Entry}
+use Rattle.portal_model.specs.declared.entry.Fault.{Fault}
 use Rattle.portal_model.specs.declared.entry.Given.{Given}
 use Rattle.portal_model.specs.declared.request.NodeRequest.{NodeRequest}
 use Rattle.portal_model.specs.declared.request.Request.{Request}
@@ -13,7 +14,7 @@ use Rattle.portal_model.specs.Outside.{AreDrawn, meets_limit, verdict_of, words_
 use Rattle.portal_model.specs.State.{State, connection_of}
 use Rattle.portal_model.specs.Step.{all_told, bus_of, mount_of}
 use Rattle.portal_model.specs.Walk.{reads_clock, walked}
-use Rattle.portal_model.proofs.LooksTaken.{looks-are-taken}
+use Rattle.portal_model.proofs.LooksTaken.{looks-are-taken, walk_listed}
 use Rattle.given_laws.specs.OneGiven.{AreFirst, LawfulEntriesAreOne}
 use Rattle.given_laws.proofs.DrawnAlike.{bus-draws}
 use Rattle.given_laws.proofs.OneNumbers.{numbers-one, words-one}
@@ -32,12 +33,18 @@ moment_is (Some now) (Some other) e m = ap Some m
 
 -- ---- on a node and on a bus
 
-module _ (s : State) (g h : Given) (looks : h.looks ≡ g.looks) (moment : IfSome h.now (λ now. now ≡ moment_given g.now)) (fault : h.fault ≡ g.fault) where
+module _ (s : State) (g h : Given) (looks : h.looks ≡ g.looks) (moment : IfSome h.now (λ now. now ≡ moment_given g.now)) (tells : s.told ≡ true) (whole : g.fault ≡ Fault.None) (also : h.fault ≡ Fault.None) where
+  fault : h.fault ≡ g.fault
+  fault = also ∙ sym whole
+
   node_one : (r : NodeRequest) (o : Option Connection) → LawfulOnNode s r g o → LawfulOnNode s r h o → h ≡ g
   node_one r None l k = k ∙ sym l
   node_one r (Some c) l k =
-      let read : is_some h.now ≡ is_some g.now = k.clock ∙ (ap (reads_clock (walk_on_node (all_told c.seat s) c r)) looks ∙ sym l.clock) in
-      given_is h g (moment_is g.now h.now read moment) (k.words ∙ sym l.words) (k.numbers ∙ sym l.numbers) looks (k.listed ∙ sym l.listed) (k.generation ∙ sym l.generation) (k.full ∙ sym l.full) fault
+      let at : State = all_told c.seat s in
+      let walk = walk_on_node at c r in
+      let read : is_some h.now ≡ is_some g.now = k.clock ∙ (ap (reads_clock walk) looks ∙ sym l.clock) in
+      let names : h.listed ≡ g.listed = walk_listed at walk h tells also k.looks k.listed ∙ sym (walk_listed at walk g tells whole l.looks l.listed) in
+      given_is h g (moment_is g.now h.now read moment) (k.words ∙ sym l.words) (k.numbers ∙ sym l.numbers) looks names (k.generation ∙ sym l.generation) (k.full ∙ sym l.full) fault
 
   bus_one : (request : Request) (o : Option Connection) → AreFirst g.words h.words → LawfulOnBus s request g o → LawfulOnBus s request h o → h ≡ g
   bus_one request None first l k = k ∙ sym l
@@ -76,5 +83,5 @@ entry-one s e again told l k seat request whole also moment first =
     let same : again ≡ record again { seat = e.seat; request = e.request } = λ i. record again { seat = seat i; request = request i } in
     let here : Lawful s (record again { seat = e.seat; request = e.request }) = subst (λ (x : Entry). Lawful s x) same k in
     let looks : again.given.looks ≡ e.given.looks = looks-are-taken s (record again { seat = e.seat; request = e.request }) told here also ∙ sym (looks-are-taken s e told l whole) in
-    let given : again.given ≡ e.given = given_one s e.given again.given looks moment (also ∙ sym whole) e.seat e.request first l.given here.given in
+    let given : again.given ≡ e.given = given_one s e.given again.given looks moment told whole also e.seat e.request first l.given here.given in
     λ i. record { seat = seat i; request = request i; given = given i }

@@ -6,12 +6,14 @@ use Rattle.open_handles.specs.Opened.{Opened}
 use Rattle.portal_model.specs.declared.entry.Entry.{Entry}
 use Rattle.portal_model.specs.declared.entry.Given.{Given}
 use Rattle.portal_model.specs.declared.handle.OpenHandle.{OpenHandle}
+use Rattle.portal_model.specs.declared.naming.Naming.{Naming}
 use Rattle.portal_model.specs.declared.request.NodeRequest.{NodeRequest}
 use Rattle.portal_model.specs.declared.request.Request.{Request}
 use Rattle.portal_model.specs.declared.state.Connection.{Connection}
 use Rattle.portal_model.specs.Leave.{handles_left}
-use Rattle.portal_model.specs.Node.{connections_after, counted, handles_after, new_handle, node_given, settled_on_node, walk_on_node}
-use Rattle.portal_model.specs.NodeVerdict.{NodeVerdict, Errs, HandleChange, HandlesStay, Opens, Closes, Yields}
+use Rattle.portal_model.specs.Node.{connections_after, connections_named, counted, handles_after, named_on, new_handle, node_given, settled_on_node, walk_on_node}
+use Rattle.portal_model.specs.NodeVerdict.{NodeVerdict, Errs, HandleChange, HandlesStay, Opens, Closes, NameChange, NamesStay, Names, Yields}
+use Rattle.portal_model.specs.SeatNames.{with_naming}
 use Rattle.portal_model.specs.State.{State, connection_of, is_handle, is_mount}
 use Rattle.portal_model.specs.Step.{after, all_told, bus_of, bus_step, collect_step, mount_of, node_step, request_step, told_of}
 use Rattle.portal_model.proofs.ListLookups.{found_passes, nat_is}
@@ -64,7 +66,7 @@ told-found n (x ∷ xs) d e = step (x.seat == n) refl e (told-found n xs d)
     step false f h more =
         ap (λ (k : Bool). cond k (Some x) (connection_of (map (told_of n) xs) n)) f ∙ more h
 
--- of a connection but for what it waits for the last number is the same
+-- of a connection but for what it waits for and has named the last number is the same
 pub silent-last : (cs : List Connection) (n : ℕ) →
     last_opened (connection_of (map silent cs) n) ≡ last_opened (connection_of cs n)
 silent-last [] n = refl
@@ -76,6 +78,38 @@ silent-last (c ∷ cs) n = step (c.seat == n) (silent-last cs n)
         ≡ last_opened (cond b (Some c) (connection_of cs n))
     step true e = refl
     step false e = e
+
+-- a path that is named on it leaves the last number
+all-named : (seat : ℕ) (naming : Naming) (cs : List Connection) (n : ℕ) →
+    last_opened (connection_of (map (named_on seat naming) cs) n)
+    ≡ last_opened (connection_of cs n)
+all-named seat naming [] n = refl
+all-named seat naming (x ∷ xs) n = step (x.seat == seat) (all-named seat naming xs n)
+  where
+    named : Connection
+    named = record x { namings = with_naming x.namings naming }
+
+    here : (b : Bool) (y : Connection) (o : Option Connection) → y.opens ≡ x.opens →
+        last_opened o ≡ last_opened (connection_of xs n) →
+        last_opened (cond b (Some y) o) ≡ last_opened (cond b (Some x) (connection_of xs n))
+    here true y o f e = f
+    here false y o f e = e
+
+    step : (b : Bool) →
+        last_opened (connection_of (map (named_on seat naming) xs) n)
+        ≡ last_opened (connection_of xs n) →
+        last_opened (cond ((cond b (record x { namings = with_naming x.namings naming }) x).seat
+        == n) (Some (cond b (record x { namings = with_naming x.namings naming }) x))
+        (connection_of (map (named_on seat naming) xs) n))
+        ≡ last_opened (cond (x.seat == n) (Some x) (connection_of xs n))
+    step true e = here (x.seat == n) named (connection_of (map (named_on seat naming) xs) n) refl e
+    step false e = here (x.seat == n) x (connection_of (map (named_on seat naming) xs) n) refl e
+
+names-last : (c : Connection) (change : NameChange) (cs : List Connection) (n : ℕ) →
+    last_opened (connection_of (connections_named c change cs) n)
+    ≡ last_opened (connection_of cs n)
+names-last c NamesStay cs n = refl
+names-last c (Names naming) cs n = all-named c.seat naming cs n
 
 -- the open mount of a seat has its number
 mount-seat : (cs : List Connection) (n : ℕ) (o : Option Connection) → connection_of cs n ≡ o →
@@ -155,7 +189,9 @@ module _ (seat number : ℕ) where
     settled-was s None d e p h = was-same s.handles n _ h
     settled-was s (Some (Errs errno)) d e p h = was-same s.handles n _ h
     settled-was s (Some (Yields doing)) d e p h =
-        change-was doing.handle s.handles s.connections d e p h
+        (λ i. opens s.handles || (n == seat && names-last c doing.names
+        (connections_after c doing.handle s.connections) n i == number))
+        ∙ change-was doing.handle s.handles s.connections d e p h
 
   mount-was : (s : State) (n : ℕ) (r : NodeRequest) (given : Given) (o : Option Connection) →
       ((c : Connection) → o ≡ Some c →

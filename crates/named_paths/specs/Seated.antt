@@ -6,9 +6,9 @@ use Rattle.portal_model.specs.declared.state.Connection.{Connection}
 use Rattle.portal_model.specs.State.{State, handles_of}
 use Rattle.open_handles.specs.Opened.{Opened}
 
--- a connection but for what it waits for
+-- a connection but for what it waits for and what it has named
 abbrev pub silent : Connection → Connection
-silent c = record c { unsent = [] }
+silent c = record c { unsent = []; namings = [] }
 
 abbrev pub numbered : OpenHandle → ℕ × Handle
 numbered h = (h.fh, h.handle)

@@ -1,6 +1,6 @@
 -- What an open file may do now, by the rights that were looked up for it.
 use Rattle.std.proofs.Common.{◌≡◌, Bool, true, false, not, ◌&&◌, ◌||◌, refl, sym, ap, ◌∙◌}
-use Rattle.portal_model.specs.Reach.{OpenFile, Reach, Reaching, may_read_now, may_write_now, reach_of, reaches}
+use Rattle.portal_model.specs.Reach.{OpenFile, Reach, Reaching, reach_of, reaches}
 use Rattle.app_view.specs.Reached.{reach_told}
 use Rattle.app_view.specs.declared.rights_now.Reach.{Reach as ReachTold}
 use Rattle.node_looks.specs.Opened.{IsAllowed}

@@ -9,17 +9,19 @@ use Rattle.host_tree.specs.Trees.{TreeIs}
 use Rattle.open_handles.specs.Opened.{Both, HandleTable, Keeps, Opened, handle_of as handle_in, opened_on}
 use Rattle.portal_model.specs.declared.handle.Handle.{Handle}
 use Rattle.portal_model.specs.declared.handle.OpenHandle.{OpenHandle}
+use Rattle.portal_model.specs.declared.naming.Naming.{Naming}
 use Rattle.portal_model.specs.declared.reply.Answer.{Answer}
 use Rattle.portal_model.specs.declared.request.NodeOp.{NodeOp}
 use Rattle.portal_model.specs.declared.request.NodeRequest.{NodeRequest}
 use Rattle.portal_model.specs.declared.state.Connection.{Connection}
 use Rattle.portal_model.specs.Bus.{is_tree, moment_given}
-use Rattle.portal_model.specs.Node.{facts_of, files_after, node_answer, node_walk, room_of, settled_on_node, walk_on_node}
-use Rattle.portal_model.specs.NodeVerdict.{FileChange, FilesStay, HandlesStay, HandleChange, NodeVerdict, Errs, Yields, Opens, Closes}
+use Rattle.portal_model.specs.Node.{connections_after, connections_named, facts_of, files_after, named_on, node_answer, node_walk, room_of, settled_on_node, walk_on_node}
+use Rattle.portal_model.specs.NodeVerdict.{FileChange, FilesStay, HandlesStay, HandleChange, NameChange, Names, NamesStay, NodeVerdict, Errs, Yields, Opens, Closes}
 use Rattle.portal_model.specs.Outside.{files_told}
+use Rattle.portal_model.specs.SeatNames.{with_naming}
 use Rattle.portal_model.specs.State.{State, connection_of, handle_of, handles_of, is_handle}
-use Rattle.portal_model.specs.Walk.{Answers, Gives, Walk, reads_clock, walked}
-use Rattle.node_looks.specs.Done.{Does, DoneBy, DoneIn, IsAnswer, IsCalled, answer_of, file_change, handle_change, room_in, room_on, unasked}
+use Rattle.portal_model.specs.Walk.{Answers, Gives, GivesNames, Walk, reads_clock, walked_with}
+use Rattle.node_looks.specs.Done.{Does, DoesAt, DoneBy, DoneIn, IsAnswer, IsCalled, answer_of, file_change, handle_change, room_in, room_on, unasked}
 use Rattle.node_looks.specs.OpenHandles.{AreOpen, AreOpened, Handled, SeatHandled, numbered, open_on}
 use Rattle.node_looks.specs.Served.{Tells, Told, given_to}
 use Rattle.node_looks.specs.TreeCalls.{Calling, calls_of}
@@ -48,6 +50,36 @@ settled-files s c None = sym (told-still (files_told s))
 settled-files s c (Some (Errs errno)) = sym (told-still (files_told s))
 settled-files s c (Some (Yields d)) = told_after s.told d.file s.files
 
+-- ---- what is named leaves what is open
+
+pub named-seat : (n : ℕ) (naming : Naming) (c : Connection) → (named_on n naming c).seat ≡ c.seat
+named-seat n naming c = elim (c.seat == n) as (λ b. (cond b (record c { namings = with_naming c.namings naming }) c).seat ≡ c.seat) [ true ↦ refl | false ↦ refl ]
+
+named-opens : (n : ℕ) (naming : Naming) (c : Connection) → (named_on n naming c).opens ≡ c.opens
+named-opens n naming c = elim (c.seat == n) as (λ b. (cond b (record c { namings = with_naming c.namings naming }) c).opens ≡ c.opens) [ true ↦ refl | false ↦ refl ]
+
+pub named-found : (n seat : ℕ) (naming : Naming) (cs : List Connection) → connection_of (map (named_on n naming) cs) seat ≡ option_map (named_on n naming) (connection_of cs seat)
+named-found n seat naming [] = refl
+named-found n seat naming (c ∷ cs) =
+    ap (λ (m : ℕ). cond (m == seat) (Some (named_on n naming c)) (connection_of (map (named_on n naming) cs) seat)) (named-seat n naming c)
+    ∙ by (c.seat == seat) (named-found n seat naming cs)
+  where
+    by : (b : Bool) → connection_of (map (named_on n naming) cs) seat ≡ option_map (named_on n naming) (connection_of cs seat) →
+        cond b (Some (named_on n naming c)) (connection_of (map (named_on n naming) cs) seat) ≡ option_map (named_on n naming) (cond b (Some c) (connection_of cs seat))
+    by true h = refl
+    by false h = h
+
+named-opened : (n : ℕ) (naming : Naming) (there : List (ℕ × Handle)) (o : Option Connection) (p : Option Opened) → AreOpened there o p → AreOpened there (option_map (named_on n naming) o) p
+named-opened n naming there None None h = h
+named-opened n naming there None (Some p) h = h
+named-opened n naming there (Some c) None h = h
+named-opened n naming there (Some c) (Some p) h = record { last = h.last ∙ sym (named-opens n naming c); handles = h.handles }
+
+still-opened : (c : Connection) (change : NameChange) (seat : ℕ) (there : List (ℕ × Handle)) (cs : List Connection) (p : Option Opened) → AreOpened there (connection_of cs seat) p → AreOpened there (connection_of (connections_named c change cs) seat) p
+still-opened c NamesStay seat there cs p h = h
+still-opened c (Names naming) seat there cs p h =
+    subst (λ (o : Option Connection). AreOpened there o p) (sym (named-found c.seat seat naming cs)) (named-opened c.seat naming there (connection_of cs seat) p h)
+
 module _ (s : State) (c : Connection) (book : FileBook) (call : NodeCall) (table after : HandleTable) (told : Option (List File)) (a : IsCalled s c book call table told) where
   seat-is : c.seat ≡ call.seat
   seat-is = seat-of s.connections call.seat c a.here
@@ -60,8 +92,9 @@ module _ (s : State) (c : Connection) (book : FileBook) (call : NodeCall) (table
   settled-open (Some (Errs errno)) h = stay-open s call.seat table after a.handles h
   settled-open (Some (Yields d)) h = record {
     limit = h.limit ∙ a.handles.limit;
-    each = each-open s c here a.valid.handles_differ table a.handles d.handle after
-        (subst (λ (seat : ℕ). Handled seat d.handle table after) (sym seat-is) h);
+    each = λ seat. still-opened c d.names seat _ (connections_after c d.handle s.connections) (opened_on after.seats seat)
+        (each-open s c here a.valid.handles_differ table a.handles d.handle after
+        (subst (λ (n : ℕ). Handled n d.handle table after) (sym seat-is) h) seat);
   }
 
 pub done-in : (s : State) (c : Connection) (book : FileBook) (call : NodeCall) (w : Walk NodeVerdict) (table : HandleTable) (old : TreeIs) (done : NodeDone) (after : HandleTable) (new : TreeIs) →
@@ -71,7 +104,8 @@ done-in s c book call w table old done after new a e d = record {
     looks = subst (λ (x : Walk NodeVerdict). Gives (files_told s) x done.looks (is_tree done.fault)) (sym e)
         (subst (λ (t : Option (List File)). Gives t w done.looks (is_tree done.fault)) (sym a.files) d.comes.gives);
     clock = d.comes.clock ∙ sym (ap (λ (x : Walk NodeVerdict). reads_clock x done.looks) e);
-    listed = refl;
+    listed = subst (λ (x : Walk NodeVerdict). GivesNames (files_told s) x done.looks done.listed (is_tree done.fault)) (sym e)
+        (subst (λ (t : Option (List File)). GivesNames t w done.looks done.listed (is_tree done.fault)) (sym a.files) d.comes.lists);
     generation = refl;
     words = refl;
     numbers = refl;
@@ -87,7 +121,7 @@ done-in s c book call w table old done after new a e d = record {
 }
   where
     step : node_answer s c call.request.now (given_to done) ≡ settled_on_node s c d.verdict
-    step = ap (λ (x : Walk NodeVerdict). settled_on_node s c (walked x (moment_given done.now) done.looks (is_tree done.fault))) e ∙ ap (settled_on_node s c) d.comes.comes
+    step = ap (λ (x : Walk NodeVerdict). settled_on_node s c (walked_with x (moment_given done.now) done.listed done.looks (is_tree done.fault))) e ∙ ap (settled_on_node s c) d.comes.comes
 
 -- ---- the answer of a request that reads no file
 
@@ -167,6 +201,7 @@ unasked-by v op seat table after tree x f h = record {
   verdict = Some v;
   comes = record {
     gives = (refl, refl);
+    lists = refl;
     clock = refl;
     keeper = λ e. cc;
     comes = refl;
@@ -252,6 +287,6 @@ told-done s c book call table old done new x a told =
       calls = subst (λ (f : Option (List File)). Calling old (calls_of (walk_on_node s c r) done.looks (is_tree done.fault)) f new) (sym a.files ∙ stays) told.calls;
     }
 
-pub tells-does : (book : FileBook) (call : NodeCall) (table : HandleTable) (old : TreeIs) (done : NodeDone) (new : TreeIs) → IsExact call.request.now.op → Tells book.view call.who.now call.request.now old done new → Does book call table old done table new
-tells-does book call table old done new x t = λ s c a.
-    told-done s c book call table old done new x a (t s c (record { valid = a.valid; lists = a.lists; caller = a.caller; files = a.files }))
+pub tells-does-at : (naming : Option Naming) (book : FileBook) (call : NodeCall) (table : HandleTable) (old : TreeIs) (done : NodeDone) (new : TreeIs) → IsExact call.request.now.op → Tells naming book.view call.who.now call.request.now old done new → DoesAt naming book call table old done table new
+tells-does-at naming book call table old done new x t = λ s c a n.
+    told-done s c book call table old done new x a (t s c (record { valid = a.valid; lists = a.lists; caller = a.caller; files = a.files }) n)

@@ -1,5 +1,5 @@
 -- How the answer to a request follows its walk, and serves the request.
-use Rattle.std.proofs.Common.{◌≡◌, ℕ, List, [], ◌∷◌, length, Bool, true, false, cond, Option, Some, None, refl, sym, ap, subst, ◌∙◌, arith}
+use Rattle.std.proofs.Common.{◌≡◌, ◌&&◌, ℕ, List, [], ◌∷◌, length, Bool, true, false, not, cond, Option, Some, None, refl, sym, ap, subst, ◌∙◌, arith}
 use Rattle.std.specs.List.{list_all, slice_set}
 use Rattle.std.specs.Option.{option_map}
 use Rattle.portal_base.specs.declared.files.Look.{Look}
@@ -10,22 +10,23 @@ use Rattle.host_tree.specs.declared.tree.LookAnswer.TheVariants as look
 use Rattle.portal_model.specs.declared.entry.Fault.{Fault}
 use Rattle.portal_model.specs.declared.reply.Attr.{Attr}
 use Rattle.portal_model.specs.declared.reply.NodeAnswer.TheVariants as NodeAnswer
+use Rattle.portal_model.specs.declared.naming.Naming.{Naming}
 use Rattle.portal_model.specs.declared.request.NodeOp.{NodeOp}
 use Rattle.portal_model.specs.declared.request.NodeRequest.{NodeRequest}
 use Rattle.portal_model.specs.declared.state.Connection.{Connection}
 use Rattle.portal_model.specs.declared.state.Document.{Document}
 use Rattle.portal_model.specs.Access.{access}
-use Rattle.portal_model.specs.Attributes.{attr_of_folder, on_node}
+use Rattle.portal_model.specs.Attributes.{attr_of_folder, is_writable, on_node}
 use Rattle.portal_model.specs.Bus.{is_tree}
 use Rattle.portal_model.specs.Errno.{enoent}
-use Rattle.portal_model.specs.Lookup.{entry_of_file, found_folder, lookup}
+use Rattle.portal_model.specs.Lookup.{found_document, found_folder, lookup}
 use Rattle.portal_model.specs.Node.{facts_of, node_walk, settled_on_node, walk_on_node}
-use Rattle.portal_model.specs.NodeVerdict.{NodeVerdict, OnFile, at_file, by_place, errs, told}
+use Rattle.portal_model.specs.NodeVerdict.{NodeVerdict, OnFile, Spot, by_place, errs, told}
 use Rattle.portal_model.specs.Outside.{files_told}
-use Rattle.portal_model.specs.Place.{Folder, Sight, SightOfFolder, place_of}
+use Rattle.portal_model.specs.Place.{Folder, Sight, SightOfFolder, naming_on, place_of}
 use Rattle.portal_model.specs.State.{State}
 use Rattle.portal_model.specs.Valid.{has_identifier}
-use Rattle.portal_model.specs.Walk.{Gives, Walk, reads_clock, walked}
+use Rattle.portal_model.specs.Walk.{AtPath, Gives, GivesNames, Looks, Walk, reads_clock, walked}
 use Rattle.app_view.specs.Books.{Lends}
 use Rattle.app_view.specs.declared.book.ViewBook.{ViewBook}
 use Rattle.node_looks.specs.Served.{Tells, Told}
@@ -51,33 +52,39 @@ chosen b r x y old asked new e t f = subst (λ (c : Bool). Follows (cond c x y) 
 pub not-chosen : (b r : Bool) (x y : Walk NodeVerdict) (old : TreeIs) (asked : Asked) (new : TreeIs) → r ≡ b → r ≡ false → Follows y old asked new → Follows (cond b x y) old asked new
 not-chosen b r x y old asked new e t f = subst (λ (c : Bool). Follows (cond c x y) old asked new) (sym t ∙ e) f
 
-pub nothing-there : (sight : Option Sight) (o : Option SeenPlace) (b : ViewBook) (who : Who) (file : Document → Bool → OnFile) (folder : Folder → Walk NodeVerdict) (old : TreeIs) (asked : Asked) (new : TreeIs) →
+pub nothing-there : (sight : Option Sight) (o : Option SeenPlace) (b : ViewBook) (who : Who) (file : Spot → OnFile) (folder : Folder → Walk NodeVerdict) (old : TreeIs) (asked : Asked) (new : TreeIs) →
     sight ≡ option_map (sight_of b who) o → o ≡ None → Follows (errs enoent) old asked new → Follows (by_place sight file folder) old asked new
 nothing-there sight o b who file folder old asked new e n f =
     subst (λ (x : Option Sight). Follows (by_place x file folder) old asked new) (sym (e ∙ ap (option_map (sight_of b who)) n)) f
 
-pub something-there : (sight : Option Sight) (o : Option SeenPlace) (place : SeenPlace) (b : ViewBook) (who : Who) (file : Document → Bool → OnFile) (folder : Folder → Walk NodeVerdict) (old : TreeIs) (asked : Asked) (new : TreeIs) →
+pub something-there : (sight : Option Sight) (o : Option SeenPlace) (place : SeenPlace) (b : ViewBook) (who : Who) (file : Spot → OnFile) (folder : Folder → Walk NodeVerdict) (old : TreeIs) (asked : Asked) (new : TreeIs) →
     sight ≡ option_map (sight_of b who) o → o ≡ Some place → Follows (by_place (Some (sight_of b who place)) file folder) old asked new → Follows (by_place sight file folder) old asked new
 something-there sight o place b who file folder old asked new e n f =
     subst (λ (x : Option Sight). Follows (by_place x file folder) old asked new) (sym (e ∙ ap (option_map (sight_of b who)) n)) f
 
-pub at-place : (p q : SeenPlace) (b : ViewBook) (who : Who) (file : Document → Bool → OnFile) (folder : Folder → Walk NodeVerdict) (old : TreeIs) (asked : Asked) (new : TreeIs) →
+pub at-place : (p q : SeenPlace) (b : ViewBook) (who : Who) (file : Spot → OnFile) (folder : Folder → Walk NodeVerdict) (old : TreeIs) (asked : Asked) (new : TreeIs) →
     p ≡ q → Follows (by_place (Some (sight_of b who q)) file folder) old asked new → Follows (by_place (Some (sight_of b who p)) file folder) old asked new
 at-place p q b who file folder old asked new e f = subst (λ (x : SeenPlace). Follows (by_place (Some (sight_of b who x)) file folder) old asked new) (sym e) f
 
 -- a folder is answered the same, whichever it is
-pub at-folder : (p q : SeenPlace) (b : ViewBook) (who : Who) (file : Document → Bool → OnFile) (folder : Folder → Walk NodeVerdict) (old : TreeIs) (asked : Asked) → p ≡ q → (f : Folder) → sight_of b who q ≡ SightOfFolder f →
-    ((x : Folder) → Follows (folder x) old asked old) → Follows (by_place (Some (sight_of b who p)) file folder) old asked old
-at-folder p q b who file folder old asked e f s g =
-    subst (λ (x : Sight). Follows (by_place (Some x) file folder) old asked old) (sym (ap (sight_of b who) e ∙ s)) (g f)
+pub at-folder : (p q : SeenPlace) (b : ViewBook) (who : Who) (file : Spot → OnFile) (folder : Folder → Walk NodeVerdict) (old : TreeIs) (asked : Asked) → p ≡ q → (f : Folder) → sight_of b who q ≡ SightOfFolder f → is_writable f ≡ false →
+    ((x : Folder) → is_writable x ≡ false → Follows (folder x) old asked old) → Follows (by_place (Some (sight_of b who p)) file folder) old asked old
+at-folder p q b who file folder old asked e f s w g =
+    subst (λ (x : Sight). Follows (by_place (Some x) file folder) old asked old) (sym (ap (sight_of b who) e ∙ s)) (g f w)
 
-pub entered : (r : NodeRequest) (path : List ℕ) (n m : ℕ) (w : Bool) (old : TreeIs) (asked : Asked) (new : TreeIs) → n ≡ m → Follows (at_file path (entry_of_file r n w)) old asked new → Follows (at_file path (entry_of_file r m w)) old asked new
-entered r path n m w old asked new e f = subst (λ (k : ℕ). Follows (at_file path (entry_of_file r k w)) old asked new) e f
+pub entered : (r : NodeRequest) (d : Document) (n m : ℕ) (w : Bool) (old : TreeIs) (asked : Asked) (new : TreeIs) → n ≡ m → Follows (Looks (AtPath d.path) (found_document r n d w)) old asked new → Follows (Looks (AtPath d.path) (found_document r m d w)) old asked new
+entered r d n m w old asked new e f = subst (λ (k : ℕ). Follows (Looks (AtPath d.path) (found_document r k d w)) old asked new) e f
+
+-- a folder in which no names are made
+pub and-not : (a w : Bool) → w ≡ false → a ≡ (a && not w)
+and-not true true e = cc
+and-not true false e = refl
+and-not false w e = refl
 
 pub no-folder : (r : NodeRequest) (o : Option ℕ) (asked : Asked) → o ≡ None → ((t : TreeIs) → Follows (errs enoent) t asked t) → (t : TreeIs) → Follows (found_folder r o) t asked t
 no-folder r o asked e f t = subst (λ (x : Option ℕ). Follows (found_folder r x) t asked t) (sym e) (f t)
 
-pub the-folder : (r : NodeRequest) (o : Option ℕ) (node : ℕ) (a : Attr) (asked : Asked) → o ≡ Some node → a ≡ attr_of_folder (on_node r node) → ((t : TreeIs) → Follows (told (NodeAnswer.Entry a)) t asked t) → (t : TreeIs) → Follows (found_folder r o) t asked t
+pub the-folder : (r : NodeRequest) (o : Option ℕ) (node : ℕ) (a : Attr) (asked : Asked) → o ≡ Some node → a ≡ attr_of_folder (on_node r node) false → ((t : TreeIs) → Follows (told (NodeAnswer.Entry a)) t asked t) → (t : TreeIs) → Follows (found_folder r o) t asked t
 the-folder r o node a asked e s f t =
     subst (λ (x : Option ℕ). Follows (found_folder r x) t asked t) (sym e) (subst (λ (y : Attr). Follows (told (NodeAnswer.Entry y)) t asked t) s (f t))
 
@@ -92,7 +99,7 @@ not-kept (Some (look.Is shown)) e = cc
 not-kept (Some look.Failed) e = cc
 
 abbrev pub done_with : Asked → NodeDone
-done_with asked = record { answer = asked.answer; looks = taken asked.look; now = None; fault = fault_of asked.look }
+done_with asked = record { answer = asked.answer; looks = taken asked.look; listed = None; now = None; fault = fault_of asked.look }
 
 pub follows-serves : (s : State) (c : Connection) (r : NodeRequest) (w : Walk NodeVerdict) (old : TreeIs) (asked : Asked) (new : TreeIs) → walk_on_node s c r ≡ w → files_told s ≡ old.told → Follows w old asked new →
     Told s c r old (done_with asked) new
@@ -102,7 +109,8 @@ follows-serves s c r w old asked new e t f = record {
       looks = subst (λ (x : Walk NodeVerdict). Gives (files_told s) x (taken asked.look) (is_tree (fault_of asked.look))) (sym e)
           (subst (λ x. Gives x w (taken asked.look) (is_tree (fault_of asked.look))) (sym t) f.gives);
       clock = sym (ap (λ (x : Walk NodeVerdict). reads_clock x (taken asked.look)) e ∙ f.clock);
-      listed = refl;
+      listed = subst (λ (x : Walk NodeVerdict). GivesNames (files_told s) x (taken asked.look) None (is_tree (fault_of asked.look))) (sym e)
+          (subst (λ x. GivesNames x w (taken asked.look) None (is_tree (fault_of asked.look))) (sym t) f.lists);
       generation = refl;
       words = refl;
       numbers = refl;
@@ -117,18 +125,24 @@ follows-serves s c r w old asked new e t f = record {
 walk-is : (s : State) (c : Connection) (r : NodeRequest) (op : NodeOp) → r.op ≡ op → walk_on_node s c r ≡ node_walk (facts_of s c r.node) r op
 walk-is s c r op e = ap (node_walk (facts_of s c r.node) r) e
 
-pub lookup-tells : (b : ViewBook) (who : Who) (r : NodeRequest) (name : List ℕ) (old : TreeIs) (asked : Asked) (done : NodeDone) (new : TreeIs) → done ≡ done_with asked → r.op ≡ NodeOp.Lookup name →
-    ((s : State) → list_all has_identifier s.documents ≡ true → Lends b s → Follows (lookup r name (place_of s who r.node)) old asked new) → Tells b who r old done new
-lookup-tells b who r name old asked done new e op f = λ s c a.
+pub lookup-tells : (b : ViewBook) (who : Who) (r : NodeRequest) (name : List ℕ) (place : Option SeenPlace) (old : TreeIs) (asked : Asked) (done : NodeDone) (new : TreeIs) → done ≡ done_with asked →
+    ((namings : List Naming) → list_all has_identifier b.documents.now.live ≡ true → Follows (lookup r namings name (option_map (sight_of b who) place)) old asked new) → (naming : Option Naming) →
+    ((s : State) → Lends b s → place_of s who naming r.node ≡ option_map (sight_of b who) place) → r.op ≡ NodeOp.Lookup name → Tells naming b who r old done new
+lookup-tells b who r name place old asked done new e f naming seen op = λ s c a n.
     subst (λ (x : NodeDone). Told s c r old x new) (sym e)
-    (follows-serves s c r (lookup r name (place_of s who r.node)) old asked new
-    (walk-is s c r (NodeOp.Lookup name) op ∙ ap (λ (w : Who). lookup r name (place_of s w r.node)) a.caller)
-    a.files (f s a.valid.identifiers a.lists))
+    (follows-serves s c r (lookup r c.namings name (option_map (sight_of b who) place)) old asked new
+    (walk-is s c r (NodeOp.Lookup name) op
+    ∙ (ap (λ (w : Who). lookup r c.namings name (place_of s w (naming_on c r.node) r.node)) a.caller
+    ∙ (ap (λ (o : Option Naming). lookup r c.namings name (place_of s who o r.node)) n
+    ∙ ap (lookup r c.namings name) (seen s a.lists))))
+    a.files (f c.namings (ap (λ (ds : List Document). list_all has_identifier ds) (sym a.lists.documents) ∙ a.valid.identifiers)))
 
-pub access-tells : (b : ViewBook) (who : Who) (r : NodeRequest) (mask : ℕ) (old : TreeIs) (asked : Asked) (done : NodeDone) (new : TreeIs) → done ≡ done_with asked → r.op ≡ NodeOp.Access mask →
-    ((s : State) → Lends b s → Follows (access mask (place_of s who r.node)) old asked new) → Tells b who r old done new
-access-tells b who r mask old asked done new e op f = λ s c a.
+pub access-tells : (b : ViewBook) (who : Who) (r : NodeRequest) (mask : ℕ) (naming : Option Naming) (old : TreeIs) (asked : Asked) (done : NodeDone) (new : TreeIs) → done ≡ done_with asked → r.op ≡ NodeOp.Access mask →
+    ((s : State) → Lends b s → Follows (access mask (place_of s who naming r.node)) old asked new) → Tells naming b who r old done new
+access-tells b who r mask naming old asked done new e op f = λ s c a n.
     subst (λ (x : NodeDone). Told s c r old x new) (sym e)
-    (follows-serves s c r (access mask (place_of s who r.node)) old asked new
-    (walk-is s c r (NodeOp.Access mask) op ∙ ap (λ (w : Who). access mask (place_of s w r.node)) a.caller)
+    (follows-serves s c r (access mask (place_of s who naming r.node)) old asked new
+    (walk-is s c r (NodeOp.Access mask) op
+    ∙ (ap (λ (w : Who). access mask (place_of s w (naming_on c r.node) r.node)) a.caller
+    ∙ ap (λ (o : Option Naming). access mask (place_of s who o r.node)) n))
     a.files (f s a.lists))

@@ -46,6 +46,7 @@ finds-by fh offset size seat table w old asked new f =
       verdict = f.verdict;
       comes = record {
         gives = f.gives;
+        lists = f.lists;
         clock = sym f.clock;
         keeper = not-kept asked.look;
         comes = f.comes;

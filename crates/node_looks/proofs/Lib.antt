@@ -6,3 +6,4 @@ pub mod DoneLemmas
 pub mod OpenFiles
 pub mod FoundBytes
 pub mod AllowedNow
+pub mod LowKinds

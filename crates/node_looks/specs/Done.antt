@@ -5,6 +5,7 @@ use Rattle.host_tree.specs.Trees.{TreeIs}
 use Rattle.open_handles.specs.Opened.{HandleTable, Opened, opened_on}
 use Rattle.portal_model.specs.declared.entry.Fault.{Fault}
 use Rattle.portal_model.specs.declared.handle.Handle.{Handle}
+use Rattle.portal_model.specs.declared.naming.Naming.{Naming}
 use Rattle.portal_model.specs.declared.reply.Answer.{Answer}
 use Rattle.portal_model.specs.declared.reply.Code.TheVariants as Code
 use Rattle.portal_model.specs.declared.request.NodeOp.{NodeOp}
@@ -15,11 +16,12 @@ use Rattle.portal_model.specs.Bus.{is_tree, moment_given}
 use Rattle.portal_model.specs.Errno.{eio}
 use Rattle.portal_model.specs.Node.{files_after, node_answer, walk_on_node}
 use Rattle.portal_model.specs.NodeOutside.{LawfulNode}
-use Rattle.portal_model.specs.NodeVerdict.{NodeVerdict, Errs, Yields, FileChange, FilesStay, HandleChange, HandlesStay, Room}
+use Rattle.portal_model.specs.NodeVerdict.{NodeVerdict, Errs, Yields, FileChange, FilesStay, HandleChange, HandlesStay, NameChange, NamesStay, Room}
 use Rattle.portal_model.specs.Outside.{files_told}
+use Rattle.portal_model.specs.Place.{naming_on}
 use Rattle.portal_model.specs.State.{State, connection_of}
 use Rattle.portal_model.specs.Valid.{Valid}
-use Rattle.portal_model.specs.Walk.{Gives, Walk, reads_clock, walked}
+use Rattle.portal_model.specs.Walk.{Gives, GivesNames, Walk, reads_clock, walked_with}
 use Rattle.app_view.specs.Books.{Lends}
 use Rattle.node_looks.specs.OpenHandles.{AreOpen, Handled}
 use Rattle.node_looks.specs.Served.{given_to}
@@ -68,6 +70,13 @@ abbrev pub Does : FileBook → NodeCall → HandleTable → TreeIs → NodeDone 
 Does book call table old done after new = (s : State) (c : Connection) →
     IsCalled s c book call table old.told → DoneIn s c call.request.now old done after new
 
+-- the same, by a connection that has named this by the number in the node
+abbrev pub DoesAt : Option Naming → FileBook → NodeCall → HandleTable → TreeIs → NodeDone
+    → HandleTable → TreeIs → Type 0
+DoesAt naming book call table old done after new = (s : State) (c : Connection) →
+    IsCalled s c book call table old.told → naming_on c call.request.now.node ≡ naming →
+    DoneIn s c call.request.now old done after new
+
 -- A request that wanted memory: the open handles stay, and the tree was called so often at most,
 -- without a failure or a change.
 pub record Wants (most : ℕ) (table : HandleTable) (old : TreeIs) (after : HandleTable)
@@ -101,14 +110,22 @@ handle_change None = HandlesStay
 handle_change (Some (Errs errno)) = HandlesStay
 handle_change (Some (Yields d)) = d.handle
 
+abbrev pub name_change : Option NodeVerdict → NameChange
+name_change None = NamesStay
+name_change (Some (Errs errno)) = NamesStay
+name_change (Some (Yields d)) = d.names
+
 -- What the walk looks at was given, and comes to this verdict; so is the answer, and so the tree
 -- has changed.
 pub record ComesBy (walk : Walk NodeVerdict) (op : NodeOp) (old : TreeIs) (done : NodeDone)
     (verdict : Option NodeVerdict) (new : TreeIs) : Type 0 where
   pub gives : Gives old.told walk done.looks (is_tree done.fault)
+  pub lists : GivesNames old.told walk done.looks done.listed (is_tree done.fault)
   pub clock : is_some done.now ≡ reads_clock walk done.looks
   pub keeper : done.fault ≡ Fault.Keeper → ⊥
-  pub comes : walked walk (moment_given done.now) done.looks (is_tree done.fault) ≡ verdict
+  pub comes :
+      walked_with walk (moment_given done.now) done.listed done.looks (is_tree done.fault)
+      ≡ verdict
   pub answer : IsAnswer old.told op (answer_of verdict) done.answer
   pub files : new.told ≡ option_map (files_after true (file_change verdict)) old.told
   pub calls : Calling old (calls_of walk done.looks (is_tree done.fault)) new.told new
@@ -136,13 +153,20 @@ abbrev pub done_with : Asked → NodeDone
 done_with asked = record {
   answer = asked.answer;
   looks = taken asked.look;
+  listed = None;
   now = None;
   fault = fault_of asked.look;
 }
 
 -- an answer for which neither the tree nor the clock was asked
 abbrev pub unasked : Answer → NodeDone
-unasked answer = record { answer = answer; looks = []; now = None; fault = Fault.None }
+unasked answer = record {
+  answer = answer;
+  looks = [];
+  listed = None;
+  now = None;
+  fault = Fault.None;
+}
 
 abbrev pub is_file : Option Handle → Bool
 is_file None = false

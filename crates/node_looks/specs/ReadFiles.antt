@@ -9,7 +9,7 @@ use Rattle.portal_model.specs.Alike.{ReadsAlike}
 use Rattle.portal_model.specs.Bus.{is_tree}
 use Rattle.portal_model.specs.Node.{bytes_named}
 use Rattle.portal_model.specs.NodeVerdict.{NodeVerdict, FilesStay, HandlesStay}
-use Rattle.portal_model.specs.Walk.{Gives, Walk, reads_clock, walked}
+use Rattle.portal_model.specs.Walk.{Gives, GivesNames, Walk, reads_clock, walked}
 use Rattle.node_looks.specs.Done.{answer_of, file_change, handle_change}
 use Rattle.node_looks.specs.TreeCalls.{Calling, calls_of}
 use Rattle.node_looks.specs.Walks.{fault_of, taken}
@@ -30,6 +30,8 @@ pub record Finds (size : ℕ) (walk : Walk NodeVerdict) (old : TreeIs) (asked : 
     (new : TreeIs) : Type 0 where
   pub verdict : Option NodeVerdict
   pub gives : Gives old.told walk (taken asked.look) (is_tree (fault_of asked.look))
+  pub lists :
+      GivesNames old.told walk (taken asked.look) None (is_tree (fault_of asked.look))
   pub comes : walked walk 0 (taken asked.look) (is_tree (fault_of asked.look)) ≡ verdict
   pub files : file_change verdict ≡ FilesStay
   pub handles : handle_change verdict ≡ HandlesStay

@@ -4,6 +4,7 @@ use Rattle.portal_base.specs.declared.files.File.{File}
 use Rattle.portal_base.specs.declared.who.Who.{Who}
 use Rattle.host_tree.specs.Trees.{TreeIs}
 use Rattle.portal_model.specs.declared.entry.Given.{Given}
+use Rattle.portal_model.specs.declared.naming.Naming.{Naming}
 use Rattle.portal_model.specs.declared.reply.Answer.{Answer}
 use Rattle.portal_model.specs.declared.request.NodeRequest.{NodeRequest}
 use Rattle.portal_model.specs.declared.state.Connection.{Connection}
@@ -11,6 +12,7 @@ use Rattle.portal_model.specs.Bus.{is_tree}
 use Rattle.portal_model.specs.Node.{node_answer, walk_on_node}
 use Rattle.portal_model.specs.NodeOutside.{LawfulNode}
 use Rattle.portal_model.specs.Outside.{files_told}
+use Rattle.portal_model.specs.Place.{naming_on}
 use Rattle.portal_model.specs.State.{State}
 use Rattle.portal_model.specs.Valid.{Valid}
 use Rattle.app_view.specs.Books.{Lends}
@@ -38,7 +40,7 @@ given_to done = record {
   words = [];
   numbers = [];
   looks = done.looks;
-  listed = None;
+  listed = done.listed;
   generation = None;
   full = false;
   fault = done.fault;
@@ -57,7 +59,9 @@ pub record Told (s : State) (c : Connection) (r : NodeRequest) (old : TreeIs) (d
   pub calls :
       Calling old (calls_of (walk_on_node s c r) done.looks (is_tree done.fault)) old.told new
 
--- a request that changes nothing, in every state in which it may be asked
-abbrev pub Tells : ViewBook → Who → NodeRequest → TreeIs → NodeDone → TreeIs → Type 0
-Tells book who r old done new = (s : State) (c : Connection) → IsAsked s c book who old.told →
-    Told s c r old done new
+-- a request that changes nothing, in every state in which it may be asked by a connection that has
+-- named this by the number in the node
+abbrev pub Tells : Option Naming → ViewBook → Who → NodeRequest → TreeIs → NodeDone → TreeIs
+    → Type 0
+Tells naming book who r old done new = (s : State) (c : Connection) →
+    IsAsked s c book who old.told → naming_on c r.node ≡ naming → Told s c r old done new

@@ -1,19 +1,20 @@
 -- What a caller sees at a node, as it is told.
-use Rattle.std.specs.Prelude.{ℕ, ◌&&◌, List, Bool, is_some}
+use Rattle.std.specs.Prelude.{ℕ, ◌&&◌, List, Bool, false, is_some, true}
 use Rattle.portal_base.specs.declared.who.Who.{Who}
 use Rattle.portal_model.specs.declared.rights.Right.TheVariants.{Read}
 use Rattle.portal_model.specs.declared.state.Document.{Document}
 use Rattle.portal_model.specs.declared.state.Triple.{Triple}
 use Rattle.portal_model.specs.State.{document_of, who_has}
-use Rattle.portal_model.specs.Place.{RootOf, Sight, SightOfFolder, Views, has_views, numbers_seen}
+use Rattle.portal_model.specs.Place.{RootOf, Sight, SightOfFile, SightOfFolder, Views, has_views, numbers_seen}
 use Rattle.app_view.specs.Books.{who_is}
-use Rattle.app_view.specs.Sights.{file_sight, folder_sight}
+use Rattle.app_view.specs.Sights.{below_sight, folder_sight}
 use Rattle.app_view.specs.declared.book.ViewBook.{ViewBook}
 use Rattle.node_looks.specs.declared.sight.SeenPlace.{SeenPlace}
 
 -- the sight of the model, over the lists of a book
 abbrev pub sight_of : ViewBook → Who → SeenPlace → Sight
-sight_of book caller (SeenPlace.File view seen) = file_sight seen
+sight_of book caller (SeenPlace.File view seen) = SightOfFile seen.document.now seen.may_write
+sight_of book caller (SeenPlace.Below view below) = below_sight view below
 sight_of book caller (SeenPlace.Folder view seen) = folder_sight view seen
 sight_of book caller (SeenPlace.Root view subject) =
     SightOfFolder (RootOf view
@@ -24,9 +25,18 @@ sight_of book caller SeenPlace.Views = SightOfFolder (Views book.applications.no
 -- the view that it is seen in
 abbrev pub view_of : SeenPlace → ℕ
 view_of (SeenPlace.File view seen) = view
+view_of (SeenPlace.Below view below) = view
 view_of (SeenPlace.Folder view seen) = view
 view_of (SeenPlace.Root view subject) = view
 view_of SeenPlace.Views = 0
+
+-- what is there only a look tells
+abbrev pub is_below : SeenPlace → Bool
+is_below (SeenPlace.File view seen) = false
+is_below (SeenPlace.Below view below) = true
+is_below (SeenPlace.Folder view seen) = false
+is_below (SeenPlace.Root view subject) = false
+is_below SeenPlace.Views = false
 
 -- the document of the number is live, and a subject may read it
 abbrev pub sees : List Triple → Who → List Document → ℕ → Bool

@@ -8,7 +8,7 @@ use Rattle.host_tree.specs.Trees.{TreeIs, after_call}
 use Rattle.host_tree.specs.declared.tree.TreeCall.{TreeCall}
 use Rattle.portal_model.specs.declared.reply.NodeAnswer.{NodeAnswer}
 use Rattle.portal_model.specs.NodeVerdict.{NodeVerdict, Errs, Yields, FileChange, FilesStay, Writes, Resizes, Creates}
-use Rattle.portal_model.specs.Walk.{Walk, Answers, Ends, Looks, Target, AtPath, Named}
+use Rattle.portal_model.specs.Walk.{Walk, Answers, Ends, Lists, Looks, Target, AtPath, Named}
 
 -- a call: its kind, and whether it failed
 abbrev pub Call : Type 0
@@ -50,6 +50,7 @@ calls_by last (Looks target next) [] failed = (call_at target, failed) ∷ []
 calls_by last (Looks target next) (look ∷ looks) failed =
     unfailed (call_at target) ∷ calls_by last (next look) looks failed
 calls_by last (Ends call done missing) looks failed = (last (done 0), failed) ∷ []
+calls_by last (Lists path done missing) looks failed = (TreeCall.List, failed) ∷ []
 
 -- those of a request on a node, in order
 abbrev pub calls_of : Walk NodeVerdict → List Look → Bool → List Call

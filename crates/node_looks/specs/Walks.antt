@@ -15,9 +15,9 @@ use Rattle.portal_model.specs.declared.state.Connection.{Connection}
 use Rattle.portal_model.specs.Bus.{is_tree}
 use Rattle.portal_model.specs.Errno.{eacces, eio, enoent}
 use Rattle.portal_model.specs.Node.{settled_on_node}
-use Rattle.portal_model.specs.NodeVerdict.{NodeVerdict, FilesStay, HandlesStay, Errs, OnFile, Yields, errs_if, if_file, tells, told}
+use Rattle.portal_model.specs.NodeVerdict.{NodeVerdict, FilesStay, HandlesStay, NamesStay, Errs, OnFile, Yields, errs_if, if_file, tells, told}
 use Rattle.portal_model.specs.State.{State}
-use Rattle.portal_model.specs.Walk.{Walk, Answers, Ends, Gives, Looks, Uses, reads_clock, walked}
+use Rattle.portal_model.specs.Walk.{Walk, Answers, Ends, Gives, GivesNames, Lists, Looks, Uses, reads_clock, walked}
 use Rattle.node_looks.specs.TreeCalls.{Calling, calls_of}
 use Rattle.node_looks.specs.declared.asked.Asked.{Asked}
 
@@ -40,13 +40,19 @@ abbrev pub ComesTo : Walk NodeVerdict → Answer → Type 0
 ComesTo (Answers (Errs errno)) answer = answer ≡ Answer.Refused (Code.Errno errno)
 ComesTo (Answers (Yields d)) answer =
     (d.file ≡ FilesStay) × (d.handle ≡ HandlesStay) × (answer ≡ Answer.Node d.answer)
+    × (d.names ≡ NamesStay)
 ComesTo (Looks target next) answer = ⊥
 ComesTo (Ends call done missing) answer = ⊥
+ComesTo (Lists path done missing) answer = ⊥
+
+-- a look was answered so
+abbrev pub ComesToLook : (Look → Walk NodeVerdict) → LookAnswer → Answer → Type 0
+ComesToLook next (look.Is shown) answer = ComesTo (next shown) answer
+ComesToLook next look.Failed answer = answer ≡ Answer.Refused (Code.Errno eio)
 
 -- a look for a file was answered so
 abbrev pub ComesToBehind : OnFile → LookAnswer → Answer → Type 0
-ComesToBehind next (look.Is shown) answer = ComesTo (if_file next shown) answer
-ComesToBehind next look.Failed answer = answer ≡ Answer.Refused (Code.Errno eio)
+ComesToBehind next looked answer = ComesToLook (if_file next) looked answer
 
 -- what an open file's attributes show at its name
 abbrev pub look_of_attr : FileName → AttrAnswer → LookAnswer
@@ -67,6 +73,8 @@ used name answer = Ends (Uses name) (λ now. tells answer) (Errs enoent)
 pub record Follows (walk : Walk NodeVerdict) (old : TreeIs) (asked : Asked) (new : TreeIs)
     : Type 0 where
   pub gives : Gives old.told walk (taken asked.look) (is_tree (fault_of asked.look))
+  pub lists :
+      GivesNames old.told walk (taken asked.look) None (is_tree (fault_of asked.look))
   pub settles : (s : State) (c : Connection) →
       settled_on_node s c (walked walk 0 (taken asked.look) (is_tree (fault_of asked.look)))
       ≡ (s, asked.answer)

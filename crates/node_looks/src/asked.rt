@@ -108,6 +108,7 @@ pub fn done(room: List<Look>, asked: Asked) -> NodeDone
     ensures { result ≡ record {
       answer = asked.answer;
       looks = taken asked.look;
+      listed = None;
       now = None;
       fault = fault_of asked.look;
     } }
@@ -116,6 +117,7 @@ pub fn done(room: List<Look>, asked: Asked) -> NodeDone
     NodeDone {
         answer,
         looks: looks_in(room, look),
+        listed: None,
         now: None,
         fault: fault_of(look),
     }

@@ -12,6 +12,8 @@ const FILE_MODE: u32 = 0o100400;
 const WRITABLE_FILE_MODE: u32 = 0o100600;
 /// A folder that its owner may read and go through.
 const FOLDER_MODE: u32 = 0o040500;
+/// A folder in which its owner may make names too.
+const WRITABLE_FOLDER_MODE: u32 = 0o040700;
 
 /// The unit in which `blocks` counts, in bytes.
 const BLOCK: u64 = 512;
@@ -48,15 +50,19 @@ pub fn attr_of_file(
 }
 
 /// The attributes of a folder.
-pub fn attr_of_folder(request: &NodeRequest, node: u64) -> Attr
-    ensures { result ≡ attr_of_folder (on_node request.now node) }
+pub fn attr_of_folder(request: &NodeRequest, node: u64, may_write: bool) -> Attr
+    ensures { result ≡ attr_of_folder (on_node request.now node) may_write }
 {
     Attr {
         node,
         size: 0,
         blocks: 0,
         moment: 0,
-        mode: FOLDER_MODE,
+        mode: if may_write {
+            WRITABLE_FOLDER_MODE
+        } else {
+            FOLDER_MODE
+        },
         links: 2,
         uid: request.uid,
         gid: request.gid,

@@ -1,16 +1,19 @@
 //! FUSE_ACCESS: what the caller may do at a node, with the mask of access(2).
 
-ghost use Rattle.std.specs.Prelude.{◌≡◌, ◌&&◌, ◌||◌, ◌+◌, ◌<◌, ◌≤◌, IfOk, OnErr, Some, nat_lt, not, None, IsOk};
+ghost use Rattle.std.specs.Prelude.{ℕ, List, ◌≡◌, ◌&&◌, ◌||◌, ◌+◌, ◌<◌, ◌≤◌, IfOk, OnErr, Some, false, nat_lt, not, None, IsOk, option_copied};
 ghost use Rattle.portal_model.specs.declared.request.NodeOp.TheVariants as NodeOp;
 ghost use Rattle.portal_model.specs.Access.{access, access_file, access_folder, executes, writes_to};
-ghost use Rattle.portal_model.specs.NodeVerdict.{at_file, by_place};
+ghost use Rattle.portal_model.specs.declared.state.Document.{Document};
+ghost use Rattle.portal_model.specs.Attributes.{is_writable};
+ghost use Rattle.portal_model.specs.NodeVerdict.{at_file, by_look, by_place, spot};
 ghost use Rattle.portal_model.specs.Place.{Folder, place_of};
+ghost use Rattle.portal_model.specs.Walk.{AtPath, Looks};
 ghost use Rattle.portal_model.specs.State.{State};
 ghost use Rattle.host_tree.specs.Trees.{TreeIs};
 ghost use Rattle.app_view.specs.Books.{Lends};
 ghost use Rattle.node_looks.specs.Served.{Tells};
 ghost use Rattle.node_looks.specs.Sights.{sight_of};
-ghost use Rattle.node_looks.specs.Walks.{ComesToBehind, Follows, by_denial};
+ghost use Rattle.node_looks.specs.Walks.{ComesToBehind, ComesToLook, Follows, by_denial};
 
 use crate::asked::{Asked, done, refusal, refused, told};
 use crate::rooms::LookRooms;
@@ -23,6 +26,7 @@ use portal_base::memory::WantOfMemory;
 use portal_base::names::HostPath;
 use portal_base::who::Who;
 use portal_model::errno::{EACCES, EINVAL, EIO, ENOENT};
+use portal_model::naming::Naming;
 use portal_model::reply::{Answer, NodeAnswer};
 use portal_model::request::NodeRequest;
 use std::alloc::Global;
@@ -33,9 +37,11 @@ const ALL_BITS: u32 = 7;
 /// Answers a caller's ACCESS of a node with this mask.
 ///
 /// Each place may be read, a file may be written by who may write the document,
-/// and a folder may be gone through. A file takes one look at the tree. Of n
-/// documents it takes about n steps, and no memory but the room for that look, for which
-/// one of `rooms` serves where there is none.
+/// and a folder may be gone through; one that is a document or lies below one may be
+/// written by who may write the document. A file takes one look at the tree, and so does
+/// what is at or below a document that is a folder. `naming` is what the connection
+/// has named by the number in the node. Of n documents it takes about n steps, and no memory
+/// but the room for that look, for which one of `rooms` serves where there is none.
 pub fn access<T: HostTree>(
     alloc: Global,
     rooms: &mut LookRooms,
@@ -43,17 +49,19 @@ pub fn access<T: HostTree>(
     tree: &mut T,
     who: &Who,
     request: &NodeRequest,
+    naming: Option<&Naming>,
     mask: u32,
 ) -> Result<NodeDone, WantOfMemory>
     ensures ok { request.now.op ≡ NodeOp.Access mask → IfOk result (λ done.
-        Tells book.now who.now request.now (T.is tree.old) done (T.is tree.new)) }
+        Tells (option_copied naming.entry) book.now who.now request.now (T.is tree.old) done
+        (T.is tree.new)) }
     ensures unclocked { IfOk result (λ done. done.now ≡ None) }
     ensures err { OnErr result (tree.new ≡ tree.old) }
     ensures reserved { 0 < rooms.old → IsOk result }
     ensures rooms { rooms.old ≤ rooms.new + 1 }
 {
     let room = rooms.take(alloc)?;
-    let asked = checked(book, tree, who, request, mask);
+    let asked = checked(book, tree, who, request, naming, mask);
     Ok(done(room, asked))
 }
 
@@ -63,15 +71,17 @@ fn checked<T: HostTree>(
     tree: &mut T,
     who: &Who,
     request: &NodeRequest,
+    naming: Option<&Naming>,
     mask: u32,
 ) -> Asked
     ensures { (s : State) → Lends book.now s → Follows (access mask
-        (place_of s who.now request.now.node)) (T.is tree.old) result (T.is tree.new) }
+        (place_of s who.now (option_copied naming.entry) request.now.node)) (T.is tree.old)
+        result (T.is tree.new) }
 {
     if has_other_bits(mask) {
         return refused(EINVAL);
     }
-    match seen_place(book, who, request.node) {
+    match seen_place(book, who, request.node, naming) {
         None => refused(ENOENT),
         Some(place) => at_place(book, tree, who, place, mask),
     }
@@ -111,15 +121,16 @@ fn at_place<T: HostTree>(
 {
     match place {
         SeenPlace::File { seen, .. } => { in_file(tree, &seen.document.path, seen.may_write, mask) }
+        SeenPlace::Below { below, .. } => { in_below(tree, below.path, below.seen.may_write, mask) }
         SeenPlace::Folder { .. } => in_folder(mask),
         SeenPlace::Root { .. } => in_folder(mask),
         SeenPlace::Views => in_folder(mask),
     }
 }
 
-/// The answer for a folder.
+/// The answer for a folder in which no names are made.
 fn in_folder(mask: u32) -> Asked
-    ensures { (tree : TreeIs) (folder : Folder) →
+    ensures { (tree : TreeIs) (folder : Folder) → is_writable folder ≡ false →
         Follows (access_folder mask folder) tree result tree }
 {
     // ACCESS asks what a later request would: a folder may be listed and searched where it is
@@ -128,6 +139,34 @@ fn in_folder(mask: u32) -> Asked
         refused(EACCES)
     } else {
         told(NodeAnswer::Empty)
+    }
+}
+
+/// The answer for what is at or below a document that is a folder.
+fn in_below<T: HostTree>(tree: &mut T, path: &HostPath, may_write: bool, mask: u32) -> Asked
+    ensures { (view : ℕ) (d : Document) → Follows
+        (Looks (AtPath path.now) (by_look view (spot d path.now may_write)
+        (access_file mask) (access_folder mask))) (T.is tree.old) result (T.is tree.new) }
+{
+    let look = tree.look(path);
+    Asked {
+        answer: answer_below(look, may_write, mask),
+        look: Some(look),
+    }
+}
+
+/// The answer by the look there.
+fn answer_below(look: LookAnswer, may_write: bool, mask: u32) -> Answer
+    ensures { (view : ℕ) (d : Document) (path : List ℕ) → ComesToLook
+        (by_look view (spot d path may_write) (access_file mask) (access_folder mask)) look
+        result }
+{
+    match look {
+        LookAnswer::Is(Look::File { .. }) if is_denied(may_write, mask) => refusal(EACCES),
+        LookAnswer::Is(Look::Folder) if writes(mask) && !may_write => refusal(EACCES),
+        LookAnswer::Is(Look::File { .. } | Look::Folder) => Answer::Node(NodeAnswer::Empty),
+        LookAnswer::Is(Look::Missing) => refusal(ENOENT),
+        LookAnswer::Failed => refusal(EIO),
     }
 }
 

@@ -1,19 +1,21 @@
 //! FUSE_GETATTR: the attributes of a node, or of an open file.
 
-ghost use Rattle.std.specs.Prelude.{◌≡◌, ◌+◌, ◌<◌, ◌≤◌, IfOk, OnErr, Some, not, option_copied, None, IsOk};
+ghost use Rattle.std.specs.Prelude.{◌≡◌, ℕ, List, ◌+◌, ◌<◌, ◌≤◌, IfOk, OnErr, Some, false, not, option_copied, None, IsOk};
 ghost use Rattle.host_tree.specs.Trees.{TreeIs};
 ghost use Rattle.portal_model.specs.declared.request.NodeOp.TheVariants as NodeOp;
-ghost use Rattle.portal_model.specs.Attributes.{on_node};
+ghost use Rattle.portal_model.specs.declared.state.Document.{Document};
+ghost use Rattle.portal_model.specs.Attributes.{is_writable, on_node};
 ghost use Rattle.portal_model.specs.Errno.{eacces};
 ghost use Rattle.portal_model.specs.GetAttr.{get_attr, get_attr_by_handle, get_attr_by_place, get_attr_open, tells_file, tells_folder};
-ghost use Rattle.portal_model.specs.NodeVerdict.{at_file, at_name, by_place, errs_if};
+ghost use Rattle.portal_model.specs.NodeVerdict.{at_file, at_name, by_look, by_place, errs_if, spot};
 ghost use Rattle.portal_model.specs.Place.{Folder, place_of, reach_at};
 ghost use Rattle.portal_model.specs.State.{State};
+ghost use Rattle.portal_model.specs.Walk.{AtPath, Looks};
 ghost use Rattle.app_view.specs.Books.{Lends};
-ghost use Rattle.node_looks.specs.Done.{Does};
+ghost use Rattle.node_looks.specs.Done.{DoesAt};
 ghost use Rattle.node_looks.specs.Opened.{file_of};
 ghost use Rattle.node_looks.specs.Sights.{sight_of};
-ghost use Rattle.node_looks.specs.Walks.{ComesToBehind, Follows};
+ghost use Rattle.node_looks.specs.Walks.{ComesToBehind, ComesToLook, Follows};
 
 use crate::asked::{Asked, done, look_of_attr, refusal, refused, told};
 use crate::attributes::{attr_of_file, attr_of_folder};
@@ -29,6 +31,7 @@ use portal_base::memory::WantOfMemory;
 use portal_base::names::HostPath;
 use portal_base::who::Who;
 use portal_model::errno::{EACCES, EBADF, EIO, ENOENT};
+use portal_model::naming::Naming;
 use portal_model::reply::{Answer, NodeAnswer};
 use portal_model::request::{NodeRequest, names_handle};
 use std::alloc::Global;
@@ -40,7 +43,9 @@ use std::alloc::Global;
 /// written, whatever its document and the rights in it have become; but that of a
 /// strict document is EACCES where the subject of the node's view may not read the
 /// document now, and goes by its right to write it. An open folder leaves the request
-/// to the node. A number of no handle is EBADF. A file takes one look at the tree. Of n
+/// to the node. A number of no handle is EBADF. A file takes one look at the tree, and so
+/// does what is at or below a document that is a folder; `naming` is what the connection
+/// has named by the number in the node. Of n
 /// documents it takes about n steps, and no memory but the room for that look, for which
 /// one of `rooms` serves where there is none.
 pub fn get_attr<T: HostTree>(
@@ -50,11 +55,13 @@ pub fn get_attr<T: HostTree>(
     handles: &Handles,
     tree: &mut T,
     call: &NodeCall,
+    naming: Option<&Naming>,
     flags: u32,
     fh: u64,
 ) -> Result<NodeDone, WantOfMemory>
     ensures ok { call.now.request.now.op ≡ NodeOp.GetAttr flags fh → IfOk result (λ done.
-        Does book.now call.now handles.now (T.is tree.old) done handles.now (T.is tree.new)) }
+        DoesAt (option_copied naming.entry) book.now call.now handles.now (T.is tree.old) done
+        handles.now (T.is tree.new)) }
     ensures unclocked { IfOk result (λ done. done.now ≡ None) }
     ensures err { OnErr result (tree.new ≡ tree.old) }
     ensures reserved { 0 < rooms.old → IsOk result }
@@ -62,7 +69,15 @@ pub fn get_attr<T: HostTree>(
 {
     let room = rooms.take(alloc)?;
     let handle = handles.get(call.seat, fh);
-    let asked = described(&book.view, tree, call.who, call.request, flags, handle);
+    let asked = described(
+        &book.view,
+        tree,
+        call.who,
+        call.request,
+        naming,
+        flags,
+        handle,
+    );
     Ok(done(room, asked))
 }
 
@@ -72,18 +87,19 @@ fn described<T: HostTree>(
     tree: &mut T,
     who: &Who,
     request: &NodeRequest,
+    naming: Option<&Naming>,
     flags: u32,
     handle: Option<&Handle>,
 ) -> Asked
     ensures { (s : State) → Lends book.now s → Follows (get_attr (reach_at s who.now) request.now
-        flags (place_of s who.now request.now.node) (option_copied handle.entry)) (T.is tree.old)
-        result (T.is tree.new) }
+        flags (place_of s who.now (option_copied naming.entry) request.now.node)
+        (option_copied handle.entry)) (T.is tree.old) result (T.is tree.new) }
 {
     // By the handle the node of the header isn't looked at.
     if names_handle(flags) {
-        of_handle(book, tree, who, request, handle)
+        of_handle(book, tree, who, request, naming, handle)
     } else {
-        of_node(book, tree, who, request)
+        of_node(book, tree, who, request, naming)
     }
 }
 
@@ -93,15 +109,16 @@ fn of_handle<T: HostTree>(
     tree: &mut T,
     who: &Who,
     request: &NodeRequest,
+    naming: Option<&Naming>,
     handle: Option<&Handle>,
 ) -> Asked
     ensures { (s : State) → Lends book.now s → Follows (get_attr_by_handle (reach_at s who.now)
-        request.now (place_of s who.now request.now.node) (option_copied handle.entry))
-        (T.is tree.old) result (T.is tree.new) }
+        request.now (place_of s who.now (option_copied naming.entry) request.now.node)
+        (option_copied handle.entry)) (T.is tree.old) result (T.is tree.new) }
 {
     match handle {
         None => refused(EBADF),
-        Some(handle) => of_open(book, tree, who, request, handle),
+        Some(handle) => of_open(book, tree, who, request, naming, handle),
     }
 }
 
@@ -111,11 +128,12 @@ fn of_open<T: HostTree>(
     tree: &mut T,
     who: &Who,
     request: &NodeRequest,
+    naming: Option<&Naming>,
     handle: &Handle,
 ) -> Asked
     ensures { (s : State) → Lends book.now s → Follows (get_attr_by_handle (reach_at s who.now)
-        request.now (place_of s who.now request.now.node) (Some handle.now)) (T.is tree.old)
-        result (T.is tree.new) }
+        request.now (place_of s who.now (option_copied naming.entry) request.now.node)
+        (Some handle.now)) (T.is tree.old) result (T.is tree.new) }
 {
     match handle {
         Handle::File {
@@ -136,16 +154,23 @@ fn of_open<T: HostTree>(
             };
             of_open_file(book, tree, who, request, file)
         }
-        Handle::Folder { .. } => of_node(book, tree, who, request),
+        Handle::Folder { .. } => of_node(book, tree, who, request, naming),
     }
 }
 
 /// The answer to a request on a node.
-fn of_node<T: HostTree>(book: &ViewBook, tree: &mut T, who: &Who, request: &NodeRequest) -> Asked
+fn of_node<T: HostTree>(
+    book: &ViewBook,
+    tree: &mut T,
+    who: &Who,
+    request: &NodeRequest,
+    naming: Option<&Naming>,
+) -> Asked
     ensures { (s : State) → Lends book.now s → Follows (get_attr_by_place request.now
-        (place_of s who.now request.now.node)) (T.is tree.old) result (T.is tree.new) }
+        (place_of s who.now (option_copied naming.entry) request.now.node)) (T.is tree.old)
+        result (T.is tree.new) }
 {
-    match seen_place(book, who, request.node) {
+    match seen_place(book, who, request.node, naming) {
         None => refused(ENOENT),
         Some(place) => at_place(book, tree, who, request, place),
     }
@@ -160,12 +185,15 @@ fn at_place<T: HostTree>(
     place: SeenPlace,
 ) -> Asked
     ensures { Follows (by_place (Some (sight_of book.now who.now place.entry))
-        (λ d may_write. tells_file request.now may_write) (tells_folder request.now))
+        (λ at. tells_file request.now at.may_write) (tells_folder request.now))
         (T.is tree.old) result (T.is tree.new) }
 {
     match place {
         SeenPlace::File { seen, .. } => {
             of_file(tree, request, &seen.document.path, seen.may_write)
+        }
+        SeenPlace::Below { below, .. } => {
+            of_below(tree, request, below.path, below.seen.may_write)
         }
         SeenPlace::Folder { .. } => of_folder(request),
         SeenPlace::Root { .. } => of_folder(request),
@@ -173,12 +201,51 @@ fn at_place<T: HostTree>(
     }
 }
 
-/// The answer for a folder.
+/// The answer for a folder in which no names are made.
 fn of_folder(request: &NodeRequest) -> Asked
-    ensures { (tree : TreeIs) (folder : Folder) →
+    ensures { (tree : TreeIs) (folder : Folder) → is_writable folder ≡ false →
         Follows (tells_folder request.now folder) tree result tree }
 {
-    told(NodeAnswer::Attr(attr_of_folder(request, request.node)))
+    told(NodeAnswer::Attr(attr_of_folder(request, request.node, false)))
+}
+
+/// The answer for what is at or below a document that is a folder.
+fn of_below<T: HostTree>(
+    tree: &mut T,
+    request: &NodeRequest,
+    path: &HostPath,
+    may_write: bool,
+) -> Asked
+    ensures { (view : ℕ) (d : Document) → Follows
+        (Looks (AtPath path.now) (by_look view (spot d path.now may_write)
+        (λ at. tells_file request.now at.may_write) (tells_folder request.now)))
+        (T.is tree.old) result (T.is tree.new) }
+{
+    let look = tree.look(path);
+    Asked {
+        answer: attr_below(request, may_write, look),
+        look: Some(look),
+    }
+}
+
+/// The attributes of a file or a folder, by the look for it.
+fn attr_below(request: &NodeRequest, may_write: bool, look: LookAnswer) -> Answer
+    ensures { (view : ℕ) (d : Document) (path : List ℕ) → ComesToLook
+        (by_look view (spot d path may_write) (λ at. tells_file request.now at.may_write)
+        (tells_folder request.now)) look result }
+{
+    match look {
+        LookAnswer::Is(Look::File { size, moment, .. }) => Answer::Node(NodeAnswer::Attr(
+            attr_of_file(request, request.node, may_write, size, moment),
+        )),
+        LookAnswer::Is(Look::Folder) => Answer::Node(NodeAnswer::Attr(attr_of_folder(
+            request,
+            request.node,
+            may_write,
+        ))),
+        LookAnswer::Is(Look::Missing) => refusal(ENOENT),
+        LookAnswer::Failed => refusal(EIO),
+    }
 }
 
 /// The answer for the file of a path.

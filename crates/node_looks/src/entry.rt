@@ -1,28 +1,31 @@
 //! FUSE_LOOKUP: a name in a folder.
 
-ghost use Rattle.std.specs.Prelude.{◌≡◌, ◌<◌, ◌^◌, ◌&&◌, ◌+◌, ◌≤◌, IfOk, OnErr, Some, true, option_map, None, IsOk};
+ghost use Rattle.std.specs.Prelude.{◌≡◌, ◌<◌, ◌^◌, ◌&&◌, ◌+◌, ◌≤◌, IfOk, IfSome, List, OnErr, Option, Some, false, true, option_map, None, IsOk};
 ghost use Rattle.std.specs.List.{list_all};
 ghost use Rattle.host_tree.specs.Trees.{TreeIs};
 ghost use Rattle.portal_base.specs.Names.{is_same, name_of};
+ghost use Rattle.portal_model.specs.declared.naming.Naming.{Naming as NamingNow};
+ghost use Rattle.portal_model.specs.declared.state.Document.{Document as DocumentNow};
 ghost use Rattle.portal_model.specs.declared.request.NodeOp.TheVariants as NodeOp;
 ghost use Rattle.portal_model.specs.Errno.{enotdir};
-ghost use Rattle.portal_model.specs.Lookup.{by_app, entry_of_file, folder_in_root, found_folder, lookup, lookup_in, named_in_root, named_in_views};
+ghost use Rattle.portal_model.specs.Lookup.{by_app, folder_in_root, found_document, found_folder, lookup, lookup_in, named_in_root, named_in_views};
 ghost use Rattle.portal_model.specs.NodeVerdict.{at_file, by_place, errs_on_file, is_too_long, no_file};
+ghost use Rattle.portal_model.specs.Walk.{AtPath, Looks};
 ghost use Rattle.portal_model.specs.Place.{FolderOf, folder_node, has_views, numbers_seen, place_of};
 ghost use Rattle.portal_model.specs.State.{State};
 ghost use Rattle.portal_model.specs.Valid.{has_identifier};
 ghost use Rattle.app_view.specs.Books.{Lends, who_is};
 ghost use Rattle.node_looks.specs.Names.{where_seen};
 ghost use Rattle.node_looks.specs.Served.{Tells};
-ghost use Rattle.node_looks.specs.Sights.{sees, sight_of, view_of};
-ghost use Rattle.node_looks.specs.Walks.{ComesToBehind, Follows};
+ghost use Rattle.node_looks.specs.Sights.{is_below, sees, sight_of, view_of};
+ghost use Rattle.node_looks.specs.Walks.{ComesToLook, Follows};
 
 use crate::asked::{Asked, done, refusal, refusal_on_file, refused, told};
 use crate::attributes::{attr_of_file, attr_of_folder};
 use crate::names::{id_named, number_named};
 use crate::rooms::LookRooms;
 use crate::served::NodeDone;
-use crate::sight::{SeenPlace, seen_place};
+use crate::sight::SeenPlace;
 use app_view::{Subject, ViewBook, may_read, node_of};
 use document_records::{Applications, Document};
 use host_tree::{HostTree, LookAnswer};
@@ -45,10 +48,11 @@ const BY_APP: &[u8] = b"by-app";
 ///
 /// A root has the folders of the documents that are seen in it, by identifier,
 /// and the host's own root the folder of all views; that one has the views of the
-/// numbered applications, by name; a document's folder has the document's file,
-/// for which one look at the tree is taken. Of n documents or applications it
-/// takes about n steps, and no memory but the room for that look, for which one of
-/// `rooms` serves where there is none.
+/// numbered applications, by name; a document's folder has the document's file, or the
+/// folder that it is, for which one look at the tree is taken. `place` is what the caller
+/// sees at the node, and doesn't lie at or below a document that is a folder: names there
+/// are numbered. Of n documents or applications it takes about n steps, and no memory but
+/// the room for that look, for which one of `rooms` serves where there is none.
 pub fn lookup<T: HostTree>(
     alloc: Global,
     rooms: &mut LookRooms,
@@ -56,17 +60,23 @@ pub fn lookup<T: HostTree>(
     tree: &mut T,
     who: &Who,
     request: &NodeRequest,
+    place: Option<SeenPlace>,
     name: &[u8],
 ) -> Result<NodeDone, WantOfMemory>
-    ensures ok { request.now.op ≡ NodeOp.Lookup name.now → IfOk result (λ done.
-        Tells book.now who.now request.now (T.is tree.old) done (T.is tree.new)) }
+    requires plain { IfSome place (λ seen. is_below seen ≡ false) }
+    requires small { IfSome place (λ seen. view_of seen < 2 ^ 28) }
+    ensures ok { (naming : Option NamingNow) → ((s : State) → Lends book.now s →
+        place_of s who.now naming request.now.node
+        ≡ option_map (sight_of book.now who.now) place.entry) →
+        request.now.op ≡ NodeOp.Lookup name.now → IfOk result (λ done.
+        Tells naming book.now who.now request.now (T.is tree.old) done (T.is tree.new)) }
     ensures unclocked { IfOk result (λ done. done.now ≡ None) }
     ensures err { OnErr result (tree.new ≡ tree.old) }
     ensures reserved { 0 < rooms.old → IsOk result }
     ensures rooms { rooms.old ≤ rooms.new + 1 }
 {
     let room = rooms.take(alloc)?;
-    let asked = found(book, tree, who, request, name);
+    let asked = found(book, tree, who, request, place, name);
     Ok(done(room, asked))
 }
 
@@ -76,16 +86,21 @@ fn found<T: HostTree>(
     tree: &mut T,
     who: &Who,
     request: &NodeRequest,
+    place: Option<SeenPlace>,
     name: &[u8],
 ) -> Asked
-    ensures { (s : State) → list_all has_identifier s.documents ≡ true → Lends book.now s →
-        Follows (lookup request.now name.now (place_of s who.now request.now.node))
-        (T.is tree.old) result (T.is tree.new) }
+    requires plain { IfSome place (λ seen. is_below seen ≡ false) }
+    requires small { IfSome place (λ seen. view_of seen < 2 ^ 28) }
+    ensures { (namings : List NamingNow) →
+        list_all has_identifier book.now.documents.now.live ≡ true →
+        Follows (lookup request.now namings name.now
+        (option_map (sight_of book.now who.now) place.entry)) (T.is tree.old) result
+        (T.is tree.new) }
 {
     if is_too_long(name) {
         return refused(ENAMETOOLONG);
     }
-    match seen_place(book, who, request.node) {
+    match place {
         None => refused(ENOENT),
         Some(place) => in_place(book, tree, who, request, place, name),
     }
@@ -107,14 +122,17 @@ fn in_place<T: HostTree>(
     place: SeenPlace,
     name: &[u8],
 ) -> Asked
-    requires { view_of place < 2 ^ 28 }
-    ensures { list_all has_identifier book.now.documents.now.live ≡ true →
+    requires view { view_of place < 2 ^ 28 }
+    requires plain { is_below place ≡ false }
+    ensures { (namings : List NamingNow) →
+        list_all has_identifier book.now.documents.now.live ≡ true →
         Follows (by_place (Some (sight_of book.now who.now place.entry)) (no_file enotdir)
-        (lookup_in request.now name.now)) (T.is tree.old) result (T.is tree.new) }
+        (lookup_in request.now namings name.now)) (T.is tree.old) result (T.is tree.new) }
 {
     match place {
         // A request on a file's node takes its look ahead of every check of what is there.
         SeenPlace::File { seen, .. } => in_file(tree, &seen.document.path),
+        SeenPlace::Below { .. } => unreachable!(),
         SeenPlace::Folder { view, seen } => {
             in_folder(tree, request, view, seen.document, seen.may_write, name)
         }
@@ -137,7 +155,7 @@ fn in_file<T: HostTree>(tree: &mut T, path: &HostPath) -> Asked
     }
 }
 
-/// The answer for the folder of a document, which has the document's file alone.
+/// The answer for the folder of a document, which has the document's name alone.
 fn in_folder<T: HostTree>(
     tree: &mut T,
     request: &NodeRequest,
@@ -147,7 +165,7 @@ fn in_folder<T: HostTree>(
     name: &[u8],
 ) -> Asked
     requires { view < 2 ^ 28 }
-    ensures { Follows (lookup_in request.now name.now
+    ensures { (namings : List NamingNow) → Follows (lookup_in request.now namings name.now
         (FolderOf view document.now may_write)) (T.is tree.old) result (T.is tree.new) }
 {
     if is_name_of(&document.path, name) {
@@ -155,7 +173,7 @@ fn in_folder<T: HostTree>(
             view,
             id: document.id,
         });
-        file_entry(tree, request, &document.path, node, may_write)
+        own_entry(tree, request, document, node, may_write)
     } else {
         refused(ENOENT)
     }
@@ -168,32 +186,44 @@ pub fn is_name_of(path: &HostPath, name: &[u8]) -> bool
     name == path.name()
 }
 
-/// The answer for the file of a document.
-fn file_entry<T: HostTree>(
+/// The answer for the name of a document in its folder.
+fn own_entry<T: HostTree>(
     tree: &mut T,
     request: &NodeRequest,
-    path: &HostPath,
+    document: &Document,
     node: u64,
     may_write: bool,
 ) -> Asked
-    ensures { Follows (at_file path.now (entry_of_file request.now node may_write))
-        (T.is tree.old) result (T.is tree.new) }
+    ensures { Follows (Looks (AtPath document.now.path)
+        (found_document request.now node document.now may_write)) (T.is tree.old) result
+        (T.is tree.new) }
 {
-    let look = tree.look(path);
+    let look = tree.look(&document.path);
     Asked {
-        answer: entry_by_look(request, node, may_write, look),
+        answer: entry_by_look(request, node, document.folder, may_write, look),
         look: Some(look),
     }
 }
 
-/// The entry of a file, by the look for it.
-fn entry_by_look(request: &NodeRequest, node: u64, may_write: bool, look: LookAnswer) -> Answer
-    ensures { ComesToBehind (entry_of_file request.now node may_write) look result }
+/// The entry of a document's name, by the look for it: a file, or of a document that is
+/// a folder that folder too.
+fn entry_by_look(
+    request: &NodeRequest,
+    node: u64,
+    is_folder: bool,
+    may_write: bool,
+    look: LookAnswer,
+) -> Answer
+    ensures { (d : DocumentNow) → d.folder ≡ is_folder →
+        ComesToLook (found_document request.now node d may_write) look result }
 {
     match look {
         LookAnswer::Is(Look::File { size, moment, .. }) => Answer::Node(NodeAnswer::Entry(
             attr_of_file(request, node, may_write, size, moment),
         )),
+        LookAnswer::Is(Look::Folder) if is_folder => Answer::Node(NodeAnswer::Entry(attr_of_folder(
+            request, node, may_write,
+        ))),
         LookAnswer::Is(Look::Folder | Look::Missing) => refusal(ENOENT),
         LookAnswer::Failed => refusal(EIO),
     }
@@ -205,7 +235,7 @@ fn found_folder(request: &NodeRequest, node: Option<u64>) -> Asked
 {
     match node {
         None => refused(ENOENT),
-        Some(node) => told(NodeAnswer::Entry(attr_of_folder(request, node))),
+        Some(node) => told(NodeAnswer::Entry(attr_of_folder(request, node, false))),
     }
 }
 

@@ -49,6 +49,7 @@ pub fn unasked(alloc: Global, answer: Answer) -> NodeDone
     NodeDone {
         answer,
         looks: List::new(alloc),
+        listed: None,
         now: None,
         fault: Fault::None,
     }

@@ -1,5 +1,5 @@
-//! The answers to requests on nodes of the file view that change no file and open none, over
-//! the lists that the portal lends and a tree of files.
+//! The answers to requests on nodes of the file view that change no file, open none and give no
+//! name a number, over the lists that the portal lends and a tree of files.
 //!
 //! **It promises** that a request is answered as the sequential portal answers it,
 //! in every valid state with these lists and over every connection of this caller;
@@ -16,7 +16,7 @@
 //!
 //! | Room | Holds |
 //! |---|---|
-//! | `entry` | [`lookup`]: a name in a folder |
+//! | `entry` | [`lookup`]: a name in a folder, but for those at and below documents that are folders |
 //! | `checked` | [`access`]: what the caller may do at a node |
 //! | `described` | [`get_attr`]: the attributes of a node, or of an open file |
 //! | `opened` | [`OpenFile`]: an open file, and what it may do now |
@@ -34,7 +34,8 @@
 //! | `served` | [`NodeCall`]: a request and who asks it; [`NodeDone`]: what it was given, and its answer |
 //!
 //! ```text
-//! let done = lookup(alloc, &mut rooms, &book, &mut tree, who, request, name)?;
+//! let place = seen_place(&book, who, request.node, None);
+//! let done = lookup(alloc, &mut rooms, &book, &mut tree, who, request, place, name)?;
 //! ```
 //!
 //! Source: `include/uapi/linux/fuse.h`.

@@ -1,7 +1,7 @@
 //! What a request on a node was given, and what it is answered.
 
 use app_view::ViewBook;
-use portal_base::files::Look;
+use portal_base::files::{ChildName, Look};
 use portal_base::list::List;
 use portal_base::who::Who;
 use portal_model::entry::Fault;
@@ -35,6 +35,8 @@ pub struct NodeDone {
     pub answer: Answer,
     /// What the tree showed, in the order of its calls.
     pub looks: List<Look>,
+    /// The names of a folder, where it was listed and is there.
+    pub listed: Option<List<ChildName>>,
     /// The moment that was read from the clock, where a file was to be changed
     /// or made.
     pub now: Option<u64>,

@@ -1,8 +1,11 @@
 -- A request of a seat is one step, whether it has an open mount or not.
 use Rattle.std.proofs.Common.{◌≡◌, ◌≢◌, ℕ, ◌+◌, ◌==◌, ◌≤◌, nat_eq, List, [], ◌∷◌, map, Bool, true, false, cond, Option, Some, None, refl, sym, ap, subst, ◌∙◌, arith}
+use Rattle.std.specs.Option.{option_map}
 use Rattle.std.specs.List.{AllByRecursion, IsDistinct, list_any}
 use Rattle.std.proofs.lemmas.Bool.Decides.{nat_tests}
-use Rattle.node_looks.specs.Done.{Does, DoneIn, IsAnswer}
+use Rattle.file_ops.specs.SeatNames.{AreNamed, DoesNaming, DoneNaming}
+use Rattle.folder_documents.specs.Named.{Named}
+use Rattle.node_looks.specs.Done.{DoneIn, IsAnswer}
 use Rattle.node_looks.specs.OpenHandles.{AreOpen}
 use Rattle.node_looks.specs.Served.{given_to}
 use Rattle.node_looks.specs.TreeCalls.{Call, Calling, after_calls, calls_of}
@@ -12,6 +15,7 @@ use Rattle.node_looks.specs.declared.served.NodeDone.{NodeDone}
 use Rattle.host_tree.specs.Trees.{TreeIs, after_call}
 use Rattle.open_handles.specs.Opened.{HandleTable}
 use Rattle.portal_base.specs.Outside.{HasRisen}
+use Rattle.portal_base.specs.declared.files.ChildName.{ChildName}
 use Rattle.portal_base.specs.declared.files.File.{File}
 use Rattle.portal_base.specs.declared.files.Look.{Look}
 use Rattle.portal_model.specs.declared.reply.Answer.{Answer}
@@ -26,18 +30,19 @@ use Rattle.portal_model.specs.Alike.{Alike, NodeAlike, ReadsAlike, TellsAlike}
 use Rattle.portal_model.specs.Bus.{is_tree, moment_given}
 use Rattle.portal_model.specs.Errno.{eio}
 use Rattle.portal_model.specs.Lawful.{LawfulOnNode}
-use Rattle.portal_model.specs.Node.{connections_after, counted, facts_of, node_answer, node_given, room_of, settled_on_node, walk_on_node}
+use Rattle.portal_model.specs.Node.{connections_after, connections_named, counted, facts_of, node_answer, node_given, room_of, settled_on_node, walk_on_node}
 use Rattle.portal_model.specs.NodeOutside.{LawfulNode}
-use Rattle.portal_model.specs.NodeVerdict.{NodeVerdict, HandleChange, HandlesStay, Opens, Closes, Errs, Yields, Room}
+use Rattle.portal_model.specs.NodeVerdict.{NodeVerdict, HandleChange, HandlesStay, NameChange, Names, NamesStay, Opens, Closes, Errs, Yields, Room}
 use Rattle.portal_model.specs.Outside.{files_told}
 use Rattle.portal_model.specs.RecordChanges.{change_first}
+use Rattle.portal_model.specs.SeatNames.{with_naming}
 use Rattle.portal_model.specs.State.{State, connection_of}
 use Rattle.portal_model.specs.Step.{all_told, is_mount, mount_of, node_step, reply_with, with_signals}
-use Rattle.portal_model.specs.Walk.{Walk, Answers, Looks, Ends, Gives, walked}
+use Rattle.portal_model.specs.Walk.{Walk, Answers, Looks, Ends, Lists, Gives, walked_with}
 use Rattle.portal_model.proofs.ListLookups.{found_passes, nat_is}
 use Rattle.portal_model.proofs.WhoWaits.{all_told-nothing, mount-quiet, node_step-quiet}
 use Rattle.node_serving.specs.Numbered.{handle_given, is_of, numbered, with_last}
-use Rattle.node_serving.specs.Seats.{IsServedIn, ServesSeat, calls_on, refused_here, seat_step}
+use Rattle.node_serving.specs.Seats.{IsServedIn, ServesSeat, calls_on, refused_here, seat_step, unnamed}
 use Rattle.node_serving.proofs.FairWalks.{IsFair, Fair, fair-walk, number_of}
 
 mount_found : (o : Option Connection) (c : Connection) → mount_of o ≡ Some c → o ≡ Some c
@@ -128,25 +133,30 @@ reply-alike false files old r stepped given e h = (refl, subst (λ (o : Option (
 -- ---- what a walk comes to
 
 -- no answer comes of a walk only where a call failed
-none-failed : (told : Option (List File)) (now : ℕ) (failed : Bool) (looks : List Look) (w : Walk NodeVerdict) → Gives told w looks failed → walked w now looks failed ≡ None → failed ≡ true
-none-failed told now failed looks (Answers x) k e = cc
-none-failed told now failed [] (Looks target next) k e = k
-none-failed told now failed (look ∷ looks) (Looks target next) k e = none-failed told now failed looks (next look) k.1 e
-none-failed told now true [] (Ends call done missing) k e = refl
-none-failed told now false [] (Ends call done missing) k e = cc
-none-failed told now failed (look ∷ looks) (Ends call done missing) k e = cc
+none-failed : (told : Option (List File)) (now : ℕ) (listed : Option (List ChildName)) (failed : Bool) (looks : List Look) (w : Walk NodeVerdict) → Gives told w looks failed → walked_with w now listed looks failed ≡ None → failed ≡ true
+none-failed told now listed failed looks (Answers x) k e = cc
+none-failed told now listed failed [] (Looks target next) k e = k
+none-failed told now listed failed (look ∷ looks) (Looks target next) k e = none-failed told now listed failed looks (next look) k.1 e
+none-failed told now listed true [] (Ends call done missing) k e = refl
+none-failed told now listed false [] (Ends call done missing) k e = cc
+none-failed told now listed failed (look ∷ looks) (Ends call done missing) k e = cc
+none-failed told now listed true looks (Lists path done missing) k e = refl
+none-failed told now listed false looks (Lists path done missing) k e = cc
 
 abbrev IfFair : Room → Option NodeVerdict → Type 0
 IfFair room None = Unit {0}
 IfFair room (Some v) = IsFair room v
 
-fair-walked : (room : Room) (w : Walk NodeVerdict) (now : ℕ) (looks : List Look) (failed : Bool) → Fair room w → IfFair room (walked w now looks failed)
-fair-walked room (Answers v) now looks failed h = h
-fair-walked room (Looks target next) now [] failed h = tt
-fair-walked room (Looks target next) now (look ∷ looks) failed h = fair-walked room (next look) now looks failed (h look)
-fair-walked room (Ends call done missing) now [] true h = tt
-fair-walked room (Ends call done missing) now [] false h = h.0 now
-fair-walked room (Ends call done missing) now (look ∷ looks) failed h = h.1
+fair-walked : (room : Room) (w : Walk NodeVerdict) (now : ℕ) (listed : Option (List ChildName)) (looks : List Look) (failed : Bool) → Fair room w → IfFair room (walked_with w now listed looks failed)
+fair-walked room (Answers v) now listed looks failed h = h
+fair-walked room (Looks target next) now listed [] failed h = tt
+fair-walked room (Looks target next) now listed (look ∷ looks) failed h = fair-walked room (next look) now listed looks failed (h look)
+fair-walked room (Ends call done missing) now listed [] true h = tt
+fair-walked room (Ends call done missing) now listed [] false h = h.0 now
+fair-walked room (Ends call done missing) now listed (look ∷ looks) failed h = h.1
+fair-walked room (Lists path done missing) now listed looks true h = tt
+fair-walked room (Lists path done missing) now None looks false h = h.1
+fair-walked room (Lists path done missing) now (Some names) looks false h = h.0 names
 
 abbrev errno_of : Answer → ℕ
 errno_of (Answer.Refused (Code.Errno n)) = n
@@ -173,6 +183,7 @@ failed-called told [] (Looks target next) k = refl
 failed-called told (look ∷ looks) (Looks target next) k = failed-called told looks (next look) k.1
 failed-called told [] (Ends call done missing) k = refl
 failed-called told (look ∷ looks) (Ends call done missing) k = let no : true ≡ false = k.2 in cc
+failed-called told looks (Lists path done missing) k = refl
 
 calls-grow : (calls : List Call) (old : TreeIs) → old.faults ≤ (after_calls old calls).faults
 calls-grow [] old = omega arith
@@ -219,25 +230,82 @@ module _ (s : State) (c : Connection) (differ : IsDistinct nat_eq (map (λ (x : 
   connections-are (Opens handle) given e = sym (counted-first c.seat s.connections c differ here) ∙ ap (λ (x : Option ℕ). numbered c.seat x s.connections) (sym e)
   connections-are (Closes fh) given e = ap (λ (x : Option ℕ). numbered c.seat x s.connections) (sym e)
 
-  abbrev stays_so : State → List Connection → State
-  stays_so t connections = record s { connections = connections; handles = t.handles; files = t.files }
+  -- what is named isn't kept with the connections
+  unnamed-named : (change : NameChange) (cs : List Connection) → map unnamed (connections_named c change cs) ≡ map unnamed cs
+  unnamed-named NamesStay cs = refl
+  unnamed-named (Names naming) [] = refl
+  unnamed-named (Names naming) (x ∷ cs) = λ i. one (x.seat == c.seat) i ∷ unnamed-named (Names naming) cs i
+    where
+      one : (b : Bool) → unnamed (cond b (record x { namings = with_naming x.namings naming }) x) ≡ unnamed x
+      one true = refl
+      one false = refl
 
-  settled-stays : (o : Option NodeVerdict) → IfFair (room_of s c) o → (settled_on_node s c o).0 ≡ stays_so (settled_on_node s c o).0 (numbered c.seat (handle_given (settled_on_node s c o).1) s.connections)
-  settled-stays None f = refl
-  settled-stays (Some (Errs errno)) f = refl
-  settled-stays (Some (Yields d)) f = λ i. stays_so (settled_on_node s c (Some (Yields d))).0 (connections-are d.handle (handle_given (Answer.Node d.answer)) f i)
+  unnamed-first : (seat last : ℕ) (cs : List Connection) → map unnamed (change_first (is_of seat) (with_last last) cs) ≡ change_first (is_of seat) (with_last last) (map unnamed cs)
+  unnamed-first seat last [] = refl
+  unnamed-first seat last (x ∷ cs) = step (x.seat == seat) (unnamed-first seat last cs)
+    where
+      step : (b : Bool) → map unnamed (change_first (is_of seat) (with_last last) cs) ≡ change_first (is_of seat) (with_last last) (map unnamed cs) →
+          map unnamed (cond b (with_last last x ∷ cs) (x ∷ change_first (is_of seat) (with_last last) cs)) ≡ cond b (with_last last (unnamed x) ∷ map unnamed cs) (unnamed x ∷ change_first (is_of seat) (with_last last) (map unnamed cs))
+      step true e = refl
+      step false e = ap (λ (ys : List Connection). unnamed x ∷ ys) e
+
+  unnamed-numbered : (seat : ℕ) (given : Option ℕ) (cs : List Connection) → map unnamed (numbered seat given cs) ≡ numbered seat given (map unnamed cs)
+  unnamed-numbered seat None cs = refl
+  unnamed-numbered seat (Some last) cs = unnamed-first seat last cs
+
+  abbrev stays_so : State → State
+  stays_so t = record s { connections = t.connections; handles = t.handles; files = t.files }
+
+  settled-stays : (o : Option NodeVerdict) → (settled_on_node s c o).0 ≡ stays_so (settled_on_node s c o).0
+  settled-stays None = refl
+  settled-stays (Some (Errs errno)) = refl
+  settled-stays (Some (Yields d)) = refl
+
+  settled-connected : (o : Option NodeVerdict) → IfFair (room_of s c) o → map unnamed (settled_on_node s c o).0.connections ≡ numbered c.seat (handle_given (settled_on_node s c o).1) (map unnamed s.connections)
+  settled-connected None f = refl
+  settled-connected (Some (Errs errno)) f = refl
+  settled-connected (Some (Yields d)) f =
+      unnamed-named d.names (connections_after c d.handle s.connections)
+      ∙ (ap (map unnamed) (connections-are d.handle (handle_given (Answer.Node d.answer)) f)
+      ∙ unnamed-numbered c.seat (handle_given (Answer.Node d.answer)) s.connections)
+
+-- what a seat has, and that but for what it has named
+unnamed-found : (cs : List Connection) (seat : ℕ) → connection_of (map unnamed cs) seat ≡ option_map unnamed (connection_of cs seat)
+unnamed-found [] seat = refl
+unnamed-found (x ∷ cs) seat = step (x.seat == seat) (unnamed-found cs seat)
+  where
+    step : (b : Bool) → connection_of (map unnamed cs) seat ≡ option_map unnamed (connection_of cs seat) → cond b (Some (unnamed x)) (connection_of (map unnamed cs) seat) ≡ option_map unnamed (cond b (Some x) (connection_of cs seat))
+    step true e = refl
+    step false e = e
+
+unnamed-nobody : (o : Option Connection) → mount_of (option_map unnamed o) ≡ None → mount_of o ≡ None
+unnamed-nobody None e = refl
+unnamed-nobody (Some d) e = elim (is_mount d.kind) as (λ b. cond b (Some (unnamed d)) None ≡ None → cond b (Some d) None ≡ None) [ true ↦ λ h. cc | false ↦ λ h. refl ] e
+
+named-mount : (o : Option Connection) (b : Connection) → mount_of (option_map unnamed o) ≡ Some b → (c : Connection) × (mount_of o ≡ Some c) × (c.who ≡ b.who)
+named-mount None b e = cc
+named-mount (Some d) b e = by (is_mount d.kind) e
+  where
+    by : (m : Bool) → cond m (Some (unnamed d)) None ≡ Some b → (c : Connection) × (cond m (Some d) None ≡ Some c) × (c.who ≡ b.who)
+    by true h = let same : unnamed d ≡ b = cc in (d, refl, ap (λ (x : Connection). x.who) same)
+    by false h = cc
 
 -- ---- a seat
 
-module _ (s : State) (book : FileBook) (cs : List Connection) (table : HandleTable) (old : TreeIs) (done : NodeDone) (x : IsServedIn s book cs table old.told) where
-  pub serves-nobody : (seat : ℕ) (r : NodeRequest) → mount_of (connection_of cs seat) ≡ None → done ≡ refused_here → ServesSeat s seat r old done cs table old
+module _ (s : State) (book : FileBook) (cs : List Connection) (table : HandleTable) (names : List (ℕ × Named)) (old : TreeIs) (done : NodeDone) (x : IsServedIn s book cs table names old.told) where
+  here-is : (seat : ℕ) → connection_of cs seat ≡ option_map unnamed (connection_of s.connections seat)
+  here-is seat = ap (λ (l : List Connection). connection_of l seat) (sym x.connected) ∙ unnamed-found s.connections seat
+
+  pub serves-nobody : (seat : ℕ) (r : NodeRequest) → mount_of (connection_of cs seat) ≡ None → done ≡ refused_here → ServesSeat s seat r old done cs table names old
   serves-nobody seat r e d =
-      let here : mount_of (connection_of s.connections seat) ≡ None = ap (λ (l : List Connection). mount_of (connection_of l seat)) x.connected ∙ e in
+      let here : mount_of (connection_of s.connections seat) ≡ None = unnamed-nobody (connection_of s.connections seat) (sym (ap mount_of (here-is seat)) ∙ e) in
       rw (d) (record {
         lawful = rw here refl;
         reply = rw here (alike s.told);
-        stays = rw here (λ i. record s { connections = x.connected i });
+        stays = rw here refl;
+        connected = rw here x.connected;
         handles = rw here x.handles;
+        names = rw here x.names;
         files = rw here x.files;
         calls = rw here (record { goes = refl; fails = tt });
         fault = λ h. cc;
@@ -266,12 +334,18 @@ module _ (s : State) (book : FileBook) (cs : List Connection) (table : HandleTab
           same (NodeOp.ReleaseDir fh) = refl
           same (NodeOp.Access mask) = refl
 
-  module _ (call : NodeCall) (after : HandleTable) (new : TreeIs) (c : Connection) (e : mount_of (connection_of cs call.seat) ≡ Some c) (who : c.who ≡ call.who.now) (does : Does book call table old done after new) where
+  module _ (call : NodeCall) (after : HandleTable) (named : List (ℕ × Named)) (new : TreeIs) (b : Connection) (e : mount_of (connection_of cs call.seat) ≡ Some b) (who : b.who ≡ call.who.now) (does : DoesNaming book call table names old done after named new) where
+    mounted : (c : Connection) × (mount_of (connection_of s.connections call.seat) ≡ Some c) × (c.who ≡ b.who)
+    mounted = named-mount (connection_of s.connections call.seat) b (sym (ap mount_of (here-is call.seat)) ∙ e)
+
+    abbrev c : Connection
+    c = mounted.0
+
     abbrev r : NodeRequest
     r = call.request.now
 
     mount-here : mount_of (connection_of s.connections call.seat) ≡ Some c
-    mount-here = ap (λ (l : List Connection). mount_of (connection_of l call.seat)) x.connected ∙ e
+    mount-here = mounted.1
 
     found-here : connection_of s.connections call.seat ≡ Some c
     found-here = mount_found (connection_of s.connections call.seat) c mount-here
@@ -284,14 +358,17 @@ module _ (s : State) (book : FileBook) (cs : List Connection) (table : HandleTab
         let own : c.seat ≡ call.seat = nat_is c.seat call.seat (found_passes (is_of call.seat) s.connections c found-here) in
         ap (λ (n : ℕ). all_told n s) own ∙ all_told-nothing s call.seat c x.valid found-here (mount-quiet s call.seat c x.valid found-here is-mount)
 
+    done-naming : DoneNaming s c call old done after named new
+    done-naming = does s c (record { valid = x.valid; lists = x.lists; limit = x.limit; handles = x.handles; files = x.files; here = found-here; caller = mounted.2 ∙ who }) x.names
+
     done-in : DoneIn s c r old done after new
-    done-in = does s c (record { valid = x.valid; lists = x.lists; limit = x.limit; handles = x.handles; files = x.files; here = found-here; caller = who })
+    done-in = done-naming.done
 
     abbrev verdict : Option NodeVerdict
     verdict = node_given (walk_on_node s c r) (given_to done)
 
     fair-here : IfFair (room_of s c) verdict
-    fair-here = fair-walked (room_of s c) (walk_on_node s c r) (moment_given done.now) done.looks (is_tree done.fault) (fair-walk (facts_of s c r.node) r r.op)
+    fair-here = fair-walked (room_of s c) (walk_on_node s c r) (moment_given done.now) done.listed done.looks (is_tree done.fault) (fair-walk (facts_of s c r.node) r r.op)
 
     step-is : seat_step s call.seat r (given_to done) ≡ with_signals [] (node_answer s c r (given_to done))
     step-is = ap (node_step s r (given_to done)) mount-here ∙ node_step-quiet s call.seat c r (given_to done) x.valid found-here is-mount
@@ -308,25 +385,24 @@ module _ (s : State) (book : FileBook) (cs : List Connection) (table : HandleTab
     here-own : connection_of s.connections c.seat ≡ Some c
     here-own = ap (connection_of s.connections) seat-is ∙ found-here
 
-    connected-is : numbered c.seat (handle_given (node_answer s c r (given_to done)).1) s.connections ≡ numbered call.seat (handle_given done.answer) cs
+    connected-is : numbered c.seat (handle_given (node_answer s c r (given_to done)).1) (map unnamed s.connections) ≡ numbered call.seat (handle_given done.answer) cs
     connected-is = λ i. numbered (seat-is i) (sym (same-handle done.answer (node_answer s c r (given_to done)).1 brief-is) i) (x.connected i)
 
-    stays-is : (node_answer s c r (given_to done)).0 ≡ stays_so s c x.valid.seats_differ here-own (node_answer s c r (given_to done)).0 (numbered call.seat (handle_given done.answer) cs)
-    stays-is = settled-stays s c x.valid.seats_differ here-own verdict fair-here ∙ ap (stays_so s c x.valid.seats_differ here-own (node_answer s c r (given_to done)).0) connected-is
-
-    pub serves-mount : ServesSeat s call.seat r old done (numbered call.seat (handle_given done.answer) cs) after new
+    pub serves-mount : ServesSeat s call.seat r old done (numbered call.seat (handle_given done.answer) cs) after named new
     serves-mount = record {
       lawful = subst (LawfulOnNode s r (given_to done)) (sym mount-here) (subst (λ (u : State). LawfulNode u c r (given_to done)) (sym told-as-it-is) done-in.lawful);
       reply = subst (λ (y : State × Reply). Alike s.told (Request.Node r) y.1 (reply_with [] done.answer)) (sym step-is)
           (reply-alike s.told s.files old.told r (node_answer s c r (given_to done)).1 done.answer x.files done-in.answer);
-      stays = subst (λ (y : State). y ≡ record s { connections = numbered call.seat (handle_given done.answer) cs; handles = y.handles; files = y.files }) (sym after-is) stays-is;
+      stays = subst (λ (y : State). y ≡ record s { connections = y.connections; handles = y.handles; files = y.files }) (sym after-is) (settled-stays s c x.valid.seats_differ here-own verdict);
+      connected = subst (λ (y : State). map unnamed y.connections ≡ numbered call.seat (handle_given done.answer) cs) (sym after-is) (settled-connected s c x.valid.seats_differ here-own verdict fair-here ∙ connected-is);
       handles = subst (λ (y : State). AreOpen y after) (sym after-is) done-in.handles;
+      names = subst (λ (y : State). AreNamed y named) (sym after-is) done-naming.names;
       files = ap files_told after-is ∙ done-in.files;
       calls = subst (λ (o : Option Connection). Calling old (calls_on s r (given_to done) o) new.told new) (sym mount-here)
           (subst (λ (u : State). Calling old (calls_of (walk_on_node u c r) done.looks (is_tree done.fault)) new.told new) (sym told-as-it-is) done-in.calls);
       fault = λ h. call-risen (files_told s) new.told done.looks (walk_on_node s c r) (is_tree done.fault) old new done-in.lawful.looks done-in.calls
           (eio-fails s c (room_of s c) verdict (is_tree done.fault)
-          (none-failed (files_told s) (moment_given done.now) (is_tree done.fault) done.looks (walk_on_node s c r) done-in.lawful.looks) fair-here
+          (none-failed (files_told s) (moment_given done.now) done.listed (is_tree done.fault) done.looks (walk_on_node s c r) done-in.lawful.looks) fair-here
           (same-refusal done.answer (node_answer s c r (given_to done)).1 (Code.Errno eio) brief-is h));
       failure = λ h. never-failed s c verdict (same-refusal done.answer (node_answer s c r (given_to done)).1 Code.Failed brief-is h);
     }

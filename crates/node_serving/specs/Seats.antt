@@ -1,6 +1,8 @@
 -- A request of a seat on a node that was served.
-use Rattle.std.specs.Prelude.{◌≡◌, ◌≢◌, ℕ, List, [], Option, Some, None, is_some}
+use Rattle.std.specs.Prelude.{◌≡◌, ◌≢◌, ℕ, List, [], map, Option, Some, None, is_some}
 use Rattle.app_view.specs.Books.{Lends}
+use Rattle.file_ops.specs.SeatNames.{AreNamed}
+use Rattle.folder_documents.specs.Named.{Named, named_on}
 use Rattle.node_looks.specs.OpenHandles.{AreOpen}
 use Rattle.node_looks.specs.Served.{given_to}
 use Rattle.node_looks.specs.TreeCalls.{Call, Calling, calls_of}
@@ -30,21 +32,27 @@ use Rattle.portal_model.specs.Valid.{Valid}
 
 -- ---- the state that a request is served in
 
--- A valid state has the lists and the limit of the book, these connections, and the open handles of
--- the table, and the tree tells what it has.
+-- a connection but for what it has named, which a table of its own keeps
+abbrev pub unnamed : Connection → Connection
+unnamed c = record c { namings = [] }
+
+-- A valid state has the lists and the limit of the book, these connections, and the open handles
+-- and the names of the tables, and the tree tells what it has.
 pub record IsServedIn (s : State) (book : FileBook) (connections : List Connection)
-    (table : HandleTable) (told : Option (List File)) : Type 0 where
+    (table : HandleTable) (named : List (ℕ × Named)) (told : Option (List File)) : Type 0 where
   pub valid : Valid s
   pub lists : Lends book.view s
   pub limit : s.limits.file_bytes ≡ book.file_limit
-  pub connected : s.connections ≡ connections
+  pub connected : map unnamed s.connections ≡ connections
   pub handles : AreOpen s table
+  pub names : AreNamed s named
   pub files : files_told s ≡ told
 
--- each connection stands in the table, and no other seat does
-abbrev pub AreEntered : List Connection → HandleTable → Type 0
-AreEntered connections table = (seat : ℕ) →
-    is_some (opened_on table.seats seat) ≡ is_some (connection_of connections seat)
+-- each connection stands in both tables, and no other seat does
+abbrev pub AreEntered : List Connection → HandleTable → List (ℕ × Named) → Type 0
+AreEntered connections table names = (seat : ℕ) →
+    (is_some (opened_on table.seats seat) ≡ is_some (connection_of connections seat))
+    × (is_some (named_on names seat) ≡ is_some (connection_of connections seat))
 
 -- ---- what is served
 
@@ -53,6 +61,7 @@ abbrev pub refused_here : NodeDone
 refused_here = record {
   answer = Answer.Refused Code.NotHere;
   looks = [];
+  listed = None;
   now = None;
   fault = Fault.None;
 }
@@ -71,21 +80,25 @@ calls_on s r given (Some c) =
 abbrev pub seat_calls : State → ℕ → NodeRequest → Given → List Call
 seat_calls s seat r given = calls_on s r given (mount_of (connection_of s.connections seat))
 
--- What was given is lawful; the step makes of it the state that the connections, the table and the
--- tree have then, of which all else stays, and a reply that is alike to this answer; and the tree
--- got just the calls of the request. EIO tells of a call that failed, and Failed is no answer to
--- such a request.
+-- What was given is lawful; the step makes of it the state that the connections, the tables and
+-- the tree have then, of which all else stays, and a reply that is alike to this answer; and the
+-- tree got just the calls of the request. EIO tells of a call that failed, and Failed is no answer
+-- to such a request.
 pub record ServesSeat (s : State) (seat : ℕ) (r : NodeRequest) (old : TreeIs) (done : NodeDone)
-    (connections : List Connection) (table : HandleTable) (new : TreeIs) : Type 0 where
+    (connections : List Connection) (table : HandleTable) (named : List (ℕ × Named))
+    (new : TreeIs) : Type 0 where
   pub lawful : LawfulOnNode s r (given_to done) (mount_of (connection_of s.connections seat))
   pub reply : Alike s.told (Request.Node r) (seat_step s seat r (given_to done)).1
       (reply_with [] done.answer)
   pub stays : (seat_step s seat r (given_to done)).0 ≡ record s {
-    connections = connections;
+    connections = (seat_step s seat r (given_to done)).0.connections;
     handles = (seat_step s seat r (given_to done)).0.handles;
     files = (seat_step s seat r (given_to done)).0.files;
   }
+  pub connected :
+      map unnamed (seat_step s seat r (given_to done)).0.connections ≡ connections
   pub handles : AreOpen (seat_step s seat r (given_to done)).0 table
+  pub names : AreNamed (seat_step s seat r (given_to done)).0 named
   pub files : files_told (seat_step s seat r (given_to done)).0 ≡ new.told
   pub calls : Calling old (seat_calls s seat r (given_to done)) new.told new
   pub fault : done.answer ≡ Answer.Refused (Code.Errno eio) → HasRisen old.faults new.faults

@@ -3,6 +3,7 @@ use Rattle.std.specs.Prelude.{IfSome, option_map}
 use Rattle.std.proofs.Common.{◌≡◌, ℕ, inl, inr, List, [], ◌∷◌, ◌++◌, map, cond, Option, Some, None, refl, sym, ap, subst, ◌∙◌, arith}
 use Rattle.std.specs.List.{IsDistinct}
 use Rattle.document_records.specs.Documents.{DocumentList}
+use Rattle.folder_documents.specs.Named.{Named, named_on}
 use Rattle.node_looks.specs.OpenHandles.{AreOpened, open_on}
 use Rattle.open_handles.specs.Opened.{HandleTable, Opened, opened_on}
 use Rattle.portal_base.specs.Content.{IsTree}
@@ -67,8 +68,11 @@ module _ (began : Option (List File)) (o : OpeningState) (ds : DocumentList) (rs
   nothing-open q None e = tt
   nothing-open q (Some n) e = absurd (cc)
 
-  pub stands_first : (limit : ℕ) (table : HandleTable) (told : Option (List File)) → Valid (opened_over None o) → IfSome began IsTree → limit ≡ o.limits.history → table.most ≡ o.limits.handles → table.seats ≡ [] → told ≡ began → Stands began o [] limit ds rs apps [] table told
-  stands_first limit table told v t l m e f = record {
+  nothing-named : (q : ℕ) (n : Option Named) → n ≡ None → option_map (λ (x : Named). x.namings) n ≡ None
+  nothing-named q n e = ap (λ (o : Option Named). option_map (λ (x : Named). x.namings) o) e
+
+  pub stands_first : (limit : ℕ) (table : HandleTable) (names : List (ℕ × Named)) (told : Option (List File)) → Valid (opened_over None o) → IfSome began IsTree → limit ≡ o.limits.history → table.most ≡ o.limits.handles → table.seats ≡ [] → names ≡ [] → told ≡ began → Stands began o [] limit ds rs apps [] table names told
+  stands_first limit table names told v t l m e n f = record {
     legal = record { opening = over_any o began v t; lawful = tt };
     limit_is = l;
     within = omega arith;
@@ -86,6 +90,7 @@ module _ (began : Option (List File)) (o : OpeningState) (ds : DocumentList) (rs
         connected = refl;
       };
       handles = record { limit = m; each = λ q. nothing-open q (opened_on table.seats q) (ap (λ (xs : List (ℕ × Opened)). opened_on xs q) e) };
+      names = λ q. nothing-named q (named_on names q) (ap (λ (xs : List (ℕ × Named)). named_on xs q) n);
       files = told_by began ∙ sym f;
     };
   }

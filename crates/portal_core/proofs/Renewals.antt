@@ -5,6 +5,7 @@ use Rattle.std.specs.List.{list_all, list_any}
 use Rattle.std.proofs.lemmas.Bool.Decides.{nat_tests}
 use Rattle.change_signals.specs.Unsent.{Boxes}
 use Rattle.document_records.specs.Documents.{DocumentList}
+use Rattle.folder_documents.specs.Named.{Named}
 use Rattle.open_handles.specs.Opened.{HandleTable}
 use Rattle.portal_base.specs.Content.{IsTree}
 use Rattle.portal_base.specs.declared.files.File.{File}
@@ -69,7 +70,7 @@ least-there (c ∷ cs) r e =
     let all : list_all (λ (x : Connection). nat_le r x.seat) cs ≡ true = k.all in
     record { there = k.some; least = grind (arith, nat_tests, first, all) }
 
--- whatever they wait for
+-- whatever they wait for and have named
 any-silent : (p : ℕ → Bool) (cs : List Connection) → list_any (λ (c : Connection). p c.seat) (map silent cs) ≡ list_any (λ (c : Connection). p c.seat) cs
 any-silent p [] = refl
 any-silent p (c ∷ cs) = ap (λ (b : Bool). p c.seat || b) (any-silent p cs)
@@ -102,8 +103,8 @@ tree_told : (told : Bool) (files : List File) (shown : Option (List File)) → c
 tree_told true files shown e t k = subst (λ (f : Option (List File)). IfSome f IsTree) (sym e) t
 tree_told false files shown e t k = absurd (cc)
 
-module _ (began : Option (List File)) (o : OpeningState) (h : List Entry) (limit : ℕ) (ds : DocumentList) (rs : List Triple) (apps : List (List ℕ)) (cs : List Connection) (table : HandleTable) (told : Option (List File))
-    (stands : Stands began o h limit ds rs apps cs table told) (closed : fold lesser None cs ≡ None) (ts : Entries) (boxes : Boxes) (stored : HasStore (run (opened_over began o) h) ts boxes)
+module _ (began : Option (List File)) (o : OpeningState) (h : List Entry) (limit : ℕ) (ds : DocumentList) (rs : List Triple) (apps : List (List ℕ)) (cs : List Connection) (table : HandleTable) (names : List (ℕ × Named)) (told : Option (List File))
+    (stands : Stands began o h limit ds rs apps cs table names told) (closed : fold lesser None cs ≡ None) (ts : Entries) (boxes : Boxes) (stored : HasStore (run (opened_over began o) h) ts boxes)
     (rows : list_all (λ e. are_rows e.rows) ts ≡ true) (tree : IfSome told IsTree) where
   abbrev now : State
   now = run (opened_over began o) h
@@ -131,12 +132,12 @@ module _ (began : Option (List File)) (o : OpeningState) (h : List Entry) (limit
       }) (stands.holds.lists.book.held i) (stands.holds.lists.book.numbered i) (stored.stored i)))
       ∙ opened_again now ds.most_live ds.most_made valid none_now open_state.handles
 
-  pub stands_again : Stands told next [] o.limits.history ds rs apps cs table told
+  pub stands_again : Stands told next [] o.limits.history ds rs apps cs table names told
   stands_again = record {
     legal = record { opening = subst Valid (sym same_state) valid; lawful = tt };
     limit_is = refl;
     within = omega arith;
-    holds = subst (λ (s : State). Holds s o.limits ds rs apps cs table told) (sym same_state) stands.holds;
+    holds = subst (λ (s : State). Holds s o.limits ds rs apps cs table names told) (sym same_state) stands.holds;
   }
 
   pub keeps_again : (records : Option Records) → KeepsState records now → KeepsState records (opened_over told next)

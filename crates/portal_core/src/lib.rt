@@ -19,8 +19,9 @@
 //!
 //! **Memory can be taken ahead** of requests by which what is held becomes free:
 //! [`portal::Portal::reserve`] takes it for so many, and [`portal::Portal::spare`] tells for
-//! how many it is there. Where it is there for one, a LOOKUP, GETATTR, ACCESS, FLUSH, RELEASE,
-//! RELEASEDIR, FORGET or BATCH_FORGET for which the history has room is answered, and takes
+//! how many it is there. Where it is there for one, a LOOKUP in a root, in the folder of all
+//! views or in a document's folder, a GETATTR, ACCESS, FLUSH, RELEASE, RELEASEDIR, FORGET or
+//! BATCH_FORGET for which the history has room is answered, and takes
 //! what is for one request at most; so as many of them in a row are answered. The Leave of an
 //! open connection takes none of it. A refusal leaves all of it, but at a request on a node,
 //! which may let go of what is for one request. After other answers nothing is promised of

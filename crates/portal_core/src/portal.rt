@@ -29,6 +29,7 @@ use file_laws::laws::{
     no_open_after_a_revocation, older_handles_keep_their_rights, strict_handles_follow_revocations,
 };
 use file_ops::{FileBook, LookRooms};
+use folder_documents::Namings;
 use host_tree::HostTree;
 use inode_table::InodeTable;
 use open_handles::Handles;
@@ -85,6 +86,7 @@ pub struct Portal<T: HostTree, K: Keeper, C: Clock, W: Words> {
     outboxes: Outboxes,
     connections: List<Connection>,
     handles: Handles,
+    namings: Namings,
     counts: InodeTable,
     history: History,
     rooms: LookRooms,
@@ -127,7 +129,7 @@ impl<T: HostTree, K: Keeper, C: Clock, W: Words> Model for Portal<T, K, C, W> {
 
     // Room is kept for a Leave of each open connection.
     ghost invariant = { λ p. Stands (T.is p.tree).began p.opening p.history.entries p.history.limit
-        p.documents p.rights p.applications p.connections p.handles (T.is p.tree).told
+        p.documents p.rights p.applications p.connections p.handles p.namings (T.is p.tree).told
         × (length p.connections ≤ p.history.spare)
         × KeepsState (K.is p.keeper).told
         (run (opened_over (T.is p.tree).began p.opening) p.history.entries)
@@ -211,6 +213,7 @@ impl<T: HostTree, K: Keeper, C: Clock, W: Words> Portal<T, K, C, W> {
             outboxes: Outboxes::new(alloc),
             connections: List::new(alloc),
             handles,
+            namings: Namings::new(alloc),
             counts: InodeTable::new(alloc),
             history,
             rooms: LookRooms::new(alloc),
@@ -246,7 +249,7 @@ impl<T: HostTree, K: Keeper, C: Clock, W: Words> Portal<T, K, C, W> {
         }
     }
 
-    /// The open connections, but for what they wait for.
+    /// The open connections, but for what they wait for and what they have named.
     pub fn connections(&self) -> &[Connection]
         ensures { result.now ≡ map silent (state_now self.now.story).connections }
     {
@@ -303,13 +306,15 @@ impl<T: HostTree, K: Keeper, C: Clock, W: Words> Portal<T, K, C, W> {
     /// request stays too; at a request on a node what is for one request may go. Such a refusal
     /// of a request that may change the records may have asked the keeper in vain; one of an
     /// Add may have asked the tree too, once for each of its files or twice where they are
-    /// named, and have drawn one word for each; one of a READ, WRITE, FSYNC or OPENDIR may have
-    /// asked the tree once, and one of a SETATTR, OPEN or CREATE twice; and of these SETATTR,
-    /// OPEN, CREATE and WRITE may have read the clock.
+    /// named, and have drawn one word for each; one of a READ, WRITE or FSYNC may have asked the
+    /// tree once, one of a SETATTR, OPEN or OPENDIR twice, as one of a LOOKUP at the node of a
+    /// document's file or of a name below a document that is a folder, and one of a CREATE
+    /// three times; and of these SETATTR, OPEN, CREATE and WRITE may have read the clock.
     ///
-    /// A LOOKUP, GETATTR, ACCESS, FLUSH, RELEASE, RELEASEDIR, FORGET or BATCH_FORGET finds
-    /// memory where some was taken ahead ([`Portal::reserve`]), of which each takes what is
-    /// for one request at most; the Leave of an open connection takes none of it.
+    /// A LOOKUP in a root, in the folder of all views or in a document's folder, a GETATTR,
+    /// ACCESS, FLUSH, RELEASE, RELEASEDIR, FORGET or BATCH_FORGET finds memory where some was
+    /// taken ahead ([`Portal::reserve`]), of which each takes what is for one request at most;
+    /// the Leave of an open connection takes none of it.
     pub fn ask(&mut self, alloc: Global, seat: u32, request: Request) -> Result<Reply, Refused>
         ensures began { self.new.story.began ≡ self.old.story.began }
         ensures opening { self.new.story.opening ≡ self.old.story.opening }
@@ -483,6 +488,7 @@ impl<T: HostTree, K: Keeper, C: Clock, W: Words> Portal<T, K, C, W> {
         seats::enter(
             &mut self.connections,
             &mut self.handles,
+            &mut self.namings,
             &mut self.outboxes,
             opened_connection(alloc, seat, who, kind),
         )?;
@@ -535,6 +541,7 @@ impl<T: HostTree, K: Keeper, C: Clock, W: Words> Portal<T, K, C, W> {
             &book,
             &mut self.connections,
             &mut self.handles,
+            &mut self.namings,
             &mut self.counts,
             &mut self.tree,
             &mut self.clock,
@@ -748,6 +755,7 @@ impl<T: HostTree, K: Keeper, C: Clock, W: Words> Portal<T, K, C, W> {
         let connections = mem::replace(&mut self.connections, List::new(alloc));
         self.connections = of_others(connections, seat);
         self.handles.leave(seat);
+        self.namings.leave(seat);
         self.counts.leave(seat);
         self.outboxes.leave(seat);
         let entry = entry_made(alloc, seat, Request::Leave);

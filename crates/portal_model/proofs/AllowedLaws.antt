@@ -43,7 +43,7 @@ use Rattle.portal_model.specs.State.{is_host, State, who_has}
 use Rattle.portal_model.specs.Store.{Entries, Outcome, becomes, becomes_if_told, can_be_told, change_of, entry_of, entry_to_set, has_row, store_call, with_entry, with_permissions, without_entry, without_permissions}
 use Rattle.portal_model.specs.StoreRequest.{are_store_arguments, has_entry_for, may_call, own_table, store_allowed, store_answered, store_request, store_too_long, store_verdict, table_of}
 use Rattle.portal_model.specs.Verdict.{Doing, Verdict, Refuses, Does, does, unless, walk_unless}
-use Rattle.portal_model.specs.Walk.{Walk, Answers, Ends, Gives, Looks, looks_at_all, walked}
+use Rattle.portal_model.specs.Walk.{Walk, Answers, Ends, Gives, Lists, Looks, looks_at_all, walked}
 use Rattle.portal_model.proofs.BusLaws.{HoldsGiven, bus_walk-holds, walked-holds}
 
 -- ---- refusals
@@ -121,6 +121,7 @@ abbrev NoFailureWalk : Walk Verdict → Type 0
 NoFailureWalk (Answers v) = NoFailure v
 NoFailureWalk (Looks target next) = (look : Look) → NoFailureWalk (next look)
 NoFailureWalk (Ends call done missing) = ((now : ℕ) → NoFailure (done now)) × NoFailure missing
+NoFailureWalk (Lists path done missing) = NoFailure missing
 
 unless_fails : (wrong : Bool) (code : Code) (v : Verdict) → code ≢ Code.Failed → NoFailure v → NoFailure (unless wrong code v)
 unless_fails true code v n h = n
@@ -141,6 +142,8 @@ walked_fails (Looks target next) now (look ∷ looks) failed h = walked_fails (n
 walked_fails (Ends call done missing) now [] true h = tt
 walked_fails (Ends call done missing) now [] false h = h.0 now
 walked_fails (Ends call done missing) now (look ∷ looks) failed h = h.1
+walked_fails (Lists path done missing) now looks true h = tt
+walked_fails (Lists path done missing) now looks false h = h
 
 add_fails : (s : State) (c : Connection) (a : AddRequest) (numbers : List DocId) → NoFailureWalk (add s c a numbers)
 add_fails s c a numbers =

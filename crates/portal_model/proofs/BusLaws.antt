@@ -39,7 +39,7 @@ use Rattle.portal_model.specs.Step.{all_told, bus_step}
 use Rattle.portal_model.specs.Store.{Entries, Outcome, change_of, entry_of, store_call}
 use Rattle.portal_model.specs.StoreRequest.{are_store_arguments, identifier_of, own_table, store_allowed, store_answered, store_request, store_verdict, table_of, tell_hosts, tell_kept}
 use Rattle.portal_model.specs.Verdict.{Doing, Verdict, Refuses, Does, does, unless, walk_unless}
-use Rattle.portal_model.specs.Walk.{Walk, Answers, Looks, Ends, looks_at_all, walked}
+use Rattle.portal_model.specs.Walk.{Walk, Answers, Looks, Ends, Lists, looks_at_all, walked}
 
 module _ (P : State → Type 0)
     (told : (s : State) (seat : ℕ) → P s → P (all_told seat s))
@@ -55,6 +55,7 @@ module _ (P : State → Type 0)
   HoldsWalk (Answers v) = Holds v
   HoldsWalk (Looks target next) = (look : Look) → HoldsWalk (next look)
   HoldsWalk (Ends call done missing) = ((now : ℕ) → Holds (done now)) × Holds missing
+  HoldsWalk (Lists path done missing) = Holds missing
 
   abbrev pub HoldsGiven : Option Verdict → Type 0
   HoldsGiven None = Unit {0}
@@ -79,6 +80,8 @@ module _ (P : State → Type 0)
   walked-holds (Ends call done missing) now [] true h = tt
   walked-holds (Ends call done missing) now [] false h = h.0 now
   walked-holds (Ends call done missing) now (look ∷ looks) failed h = h.1
+  walked-holds (Lists path done missing) now looks true h = tt
+  walked-holds (Lists path done missing) now looks false h = h
 
   -- ---- each kind
 

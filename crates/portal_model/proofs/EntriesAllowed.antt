@@ -82,7 +82,7 @@ on-bus s request given (Some c) t h k l e f =
 
 -- ---- a request on a node
 
-on-mount : (s : State) (r : NodeRequest) (given : Given) (o : Option Connection) → ToldForNode s r.op → allowed_on_mount s r o ≡ true → node_within s r.op o ≡ true → LawfulOnNode s r given o → given.fault ≡ Fault.None → is_refusal (node_step s r given o).1.answer ≡ false
+on-mount : (s : State) (r : NodeRequest) (given : Given) (o : Option Connection) → ToldForNode s r.op → allowed_on_mount s r o ≡ true → node_within s r o ≡ true → LawfulOnNode s r given o → given.fault ≡ Fault.None → is_refusal (node_step s r given o).1.answer ≡ false
 on-mount s r given None t h k l e = cc
 on-mount s r given (Some c) t h k l e = node-done (all_told c.seat s) c r given (node-told-for c.seat s r.op t) h k l e
 

@@ -15,7 +15,6 @@ pub mod FilesValid
 pub mod NodeWalks
 pub mod NodeValid
 pub mod NodeAllowed
-pub mod OwnFiles
 pub mod Queues
 pub mod WhoWaits
 pub mod EntriesKept
@@ -44,4 +43,5 @@ pub mod LooksTaken
 pub mod EntriesAllowed
 pub mod NodeLawsHold
 pub mod FileExampleProofs
+pub mod FolderExampleProofs
 pub mod StoreExampleProofs

@@ -1,5 +1,6 @@
 -- Over a tree that tells its files, the looks of a lawful entry without a fault are those that it takes.
 use Rattle.std.proofs.Common.{◌≡◌, ℕ, List, [], ◌∷◌, map, Bool, true, false, not, cond, Option, Some, None, refl, sym, ap, subst, ◌∙◌}
+use Rattle.portal_base.specs.declared.files.ChildName.{ChildName}
 use Rattle.portal_base.specs.declared.files.File.{File}
 use Rattle.portal_base.specs.declared.files.Look.{Look}
 use Rattle.portal_base.specs.declared.names.doc_id.DocId.{DocId}
@@ -21,7 +22,7 @@ use Rattle.portal_model.specs.Outside.{files_told}
 use Rattle.portal_model.specs.State.{State, connection_of}
 use Rattle.portal_model.specs.Step.{all_told, bus_looks, bus_of, looks_taken, mount_of, node_looks}
 use Rattle.portal_model.specs.Verdict.{Verdict, unless, walk_unless}
-use Rattle.portal_model.specs.Walk.{Walk, Answers, Looks, Ends, Gives, looks_at_all, looks_shown}
+use Rattle.portal_model.specs.Walk.{Walk, Answers, Looks, Ends, Lists, Gives, GivesNames, listed_shown, looks_at_all, looks_shown}
 
 -- ---- the looks of a walk
 
@@ -37,6 +38,17 @@ shown_given files (Looks target next) (look ∷ looks) g =
 shown_given files (Ends call done missing) [] g = ap (λ (found : Bool). cond found [] (Look.Missing ∷ [])) g
 shown_given files (Ends call done missing) (look ∷ looks) g =
     ap (λ (l : Look). l ∷ looks) g.0 ∙ (ap (λ (ls : List Look). Look.Missing ∷ ls) g.1 ∙ ap (λ (found : Bool). cond found [] (Look.Missing ∷ [])) g.3)
+shown_given files (Lists path done missing) looks g = g
+
+-- ---- and the names that it lists
+
+pub listed_given : {X : Type 0} (files : List File) (w : Walk X) (looks : List Look) (listed : Option (List ChildName)) → Gives (Some files) w looks false → GivesNames (Some files) w looks listed false → listed ≡ listed_shown files w
+listed_given files (Answers x) looks listed g n = n
+listed_given files (Looks target next) [] listed g n = cc
+listed_given files (Looks target next) (look ∷ looks) listed g n =
+    listed_given files (next look) looks listed g.1 n ∙ ap (λ (l : Look). listed_shown files (next l)) g.0
+listed_given files (Ends call done missing) looks listed g n = n
+listed_given files (Lists path done missing) looks listed g n = n
 
 -- ---- an Add's don't depend on the numbers of new documents
 
@@ -68,6 +80,15 @@ walk_taken s w given t f g =
     let told : files_told s ≡ Some s.files = ap (λ (b : Bool). cond b (Some s.files) None) t in
     shown_given s.files w given.looks
     (subst (λ (files : Option (List File)). Gives files w given.looks false) told (subst (λ (fault : Fault). Gives (files_told s) w given.looks (is_tree fault)) f g))
+
+-- and the names that it lists
+pub walk_listed : {X : Type 0} (s : State) (w : Walk X) (given : Given) → s.told ≡ true → given.fault ≡ Fault.None → Gives (files_told s) w given.looks (is_tree given.fault) → GivesNames (files_told s) w given.looks given.listed (is_tree given.fault) → given.listed ≡ listed_shown s.files w
+walk_listed s w given t f g n =
+    let told : files_told s ≡ Some s.files = ap (λ (b : Bool). cond b (Some s.files) None) t in
+    listed_given s.files w given.looks given.listed
+    (subst (λ (files : Option (List File)). Gives files w given.looks false) told (subst (λ (fault : Fault). Gives (files_told s) w given.looks (is_tree fault)) f g))
+    (subst (λ (files : Option (List File)). GivesNames files w given.looks given.listed false) told
+    (subst (λ (fault : Fault). GivesNames (files_told s) w given.looks given.listed (is_tree fault)) f n))
 
 bus_taken : (s : State) (request : Request) (given : Given) (o : Option Connection) → s.told ≡ true → given.fault ≡ Fault.None → LawfulOnBus s request given o → given.looks ≡ bus_looks s request o
 bus_taken s request given None t f l = ap (λ (g : Given). g.looks) l

@@ -3,61 +3,69 @@ use Rattle.std.proofs.Common.{◌≡◌, ℕ, ◌+◌, nat_lt, length, List, [],
 use Rattle.std.proofs.Common.{arith}
 use Rattle.std.proofs.lemmas.Bool.Decides.{nat_tests}
 use Rattle.portal_base.specs.Content.{content_of, file_at, file_named, has_room, is_folder, look_at, look_of}
-use Rattle.portal_base.specs.Names.{is_same, name_of}
+use Rattle.portal_base.specs.Names.{is_same, name_of, named_child}
+use Rattle.portal_base.specs.FolderNames.{names_in}
+use Rattle.portal_base.specs.declared.files.ChildName.{ChildName}
 use Rattle.portal_base.specs.declared.files.File.{File}
 use Rattle.portal_base.specs.declared.files.FileName.{FileName}
 use Rattle.portal_base.specs.declared.files.Look.{Look}
 use Rattle.portal_model.specs.declared.entry.Fault.{Fault}
 use Rattle.portal_model.specs.declared.entry.Given.{Given}
 use Rattle.portal_model.specs.declared.handle.Handle.{Handle}
+use Rattle.portal_model.specs.declared.naming.Naming.{Naming}
+use Rattle.portal_model.specs.declared.reply.Attr.{Attr}
 use Rattle.portal_model.specs.declared.reply.NodeAnswer.{NodeAnswer}
 use Rattle.portal_model.specs.declared.request.NodeOp.{NodeOp}
 use Rattle.portal_model.specs.declared.request.NodeRequest.{NodeRequest}
 use Rattle.portal_model.specs.declared.state.Connection.{Connection}
 use Rattle.portal_model.specs.declared.state.Document.{Document}
 use Rattle.portal_model.specs.Access.{access, access_file, access_folder, executes, writes_to}
-use Rattle.portal_model.specs.Add.{is_file}
-use Rattle.portal_model.specs.Allowed.{always, at_sight, has_child, has_file, has_named, is_file_handle, is_folder_handle, is_free, is_missing, is_refusal, may_access, may_ask_at, may_ask_node, may_create_in, may_get_attr, may_set_attr, may_set_open, may_write_to, never, on_handle, within}
-use Rattle.portal_model.specs.Attributes.{attr_of_file, attr_of_folder, on_node}
+use Rattle.portal_model.specs.Add.{is_file, is_folder_look}
+use Rattle.portal_model.specs.Allowed.{always, at_look, at_sight, folder_within, has_child, has_document, has_file, has_named, has_number, has_path, is_file_handle, is_folder_handle, is_free, is_free_child, is_missing, is_refusal, look_told, may_access, may_ask_at, may_ask_node, may_create_in, may_get_attr, may_list, may_set_attr, may_set_open, may_write_to, never, names_within, on_handle, within, within_at}
+use Rattle.portal_model.specs.Attributes.{attr_of_file, attr_of_folder, is_writable, on_node}
 use Rattle.portal_model.specs.Bus.{is_tree, moment_given}
-use Rattle.portal_model.specs.Create.{create, create_in, create_there}
+use Rattle.portal_model.specs.Create.{Made, child_made, create, create_at, create_child, create_in, create_there, own_made}
 use Rattle.portal_model.specs.Errno.{eacces, ebadf, efbig, einval, eisdir, emfile, enametoolong, enoent, enotdir, eperm}
 use Rattle.portal_model.specs.Fsync.{fsync, fsync_open}
 use Rattle.portal_model.specs.GetAttr.{get_attr_by_handle, get_attr_by_place, get_attr_open, names_handle, tells_file, tells_folder}
-use Rattle.portal_model.specs.Lookup.{entry_of_file, found_folder, lookup_in, named_in_root, named_in_views}
+use Rattle.portal_model.specs.Lookup.{entry_named, found_child, found_document, found_folder, lookup_child, lookup_in, naming_in, named_in_root, named_in_views, node_of_naming}
 use Rattle.portal_model.specs.Node.{NodeFacts, facts_of, node_answer, node_given, node_walk, settled_on_node, walk_on_node}
 use Rattle.portal_model.specs.NodeLaws.{ToldForNode}
 use Rattle.portal_model.specs.NodeOutside.{LawfulNode}
-use Rattle.portal_model.specs.NodeVerdict.{NodeVerdict, FilesStay, Resizes, Errs, Yields, OnFile, OnHandle, at_file, at_name, by_file_handle, by_place, errs, errs_if, if_file, is_too_long, no_file, told}
+use Rattle.portal_model.specs.NodeVerdict.{NodeVerdict, FilesStay, Resizes, Errs, Yields, OnFile, OnHandle, Spot, at_file, at_name, by_file_handle, by_look, by_place, errs, errs_if, if_file, is_too_long, name_at, no_file, spot, told}
 use Rattle.portal_model.specs.Open.{file_handle, has_no_mode, opened_file, open_file, open_folder, open_name, open_node, opens_to_write, truncates}
-use Rattle.portal_model.specs.OpenDir.{open_dir, open_dir_in, open_found}
+use Rattle.portal_model.specs.OpenDir.{names_of_children, open_dir, open_dir_in, open_found, opened_folder, parent_of_exported}
 use Rattle.portal_model.specs.Outside.{files_told}
-use Rattle.portal_model.specs.Place.{Folder, RootOf, Views, FolderOf, Sight, SightOfFile, SightOfFolder, file_node, place_of, reach_at}
+use Rattle.portal_model.specs.Place.{Folder, RootOf, Views, FolderOf, Exported, Sight, SightOfFile, SightBelow, SightOfFolder, file_node, reach_at, sight_on}
 use Rattle.portal_model.specs.Reach.{OpenFile, may_read_now, may_write_now, open_file_of, reaches}
 use Rattle.portal_model.specs.Read.{read, read_limit, read_open}
 use Rattle.portal_model.specs.ReadDir.{read_names}
 use Rattle.portal_model.specs.ReleaseDir.{release_dir}
+use Rattle.portal_model.specs.SeatNames.{lacks_number}
 use Rattle.portal_model.specs.SetAttr.{SetsAttr, resize, set_attr, set_attr_at, set_attr_of, set_attr_of_folder, set_attr_of_open, set_attr_open, sets_by_handle, sets_owner_or_mode, sets_size}
 use Rattle.portal_model.specs.State.{State, handle_of}
 use Rattle.portal_model.specs.Valid.{is_none}
-use Rattle.portal_model.specs.Walk.{Walk, Answers, Looks, Ends, AtPath, Changes, Gives, is_found, look_of_file, looks_shown, shown_at, walked}
+use Rattle.portal_model.specs.Walk.{Walk, Answers, Looks, Ends, Lists, AtPath, Changes, Gives, is_found, listed_by, listed_shown, look_of_file, looks_shown, names_listed, shown_at, walked_with}
 use Rattle.portal_model.specs.Write.{write, write_content, write_limit, write_open}
-use Rattle.portal_model.proofs.LooksTaken.{walk_taken}
+use Rattle.portal_model.proofs.DocumentChanges.{both}
+use Rattle.portal_model.proofs.LooksTaken.{walk_listed, walk_taken}
 
 -- what a walk comes to over a tree of these files, where nothing fails
 abbrev pub met : {X : Type 0} → List File → ℕ → Walk X → X
 met files now (Answers x) = x
 met files now (Looks target next) = met files now (next (shown_at files target))
 met files now (Ends call done missing) = cond (is_found files call) (done now) missing
+met files now (Lists path done missing) = listed_by done missing (names_listed files path)
 
-last_met : {X : Type 0} (b : Bool) (now : ℕ) (call : _) (done : ℕ → X) (missing : X) → walked (Ends call done missing) now (cond b [] (Look.Missing ∷ [])) false ≡ Some (cond b (done now) missing)
-last_met true now call done missing = refl
-last_met false now call done missing = refl
+last_met : {X : Type 0} (b : Bool) (now : ℕ) (listed : Option (List ChildName)) (call : _) (done : ℕ → X) (missing : X) → walked_with (Ends call done missing) now listed (cond b [] (Look.Missing ∷ [])) false ≡ Some (cond b (done now) missing)
+last_met true now listed call done missing = refl
+last_met false now listed call done missing = refl
 
-pub walked_met : {X : Type 0} (files : List File) (now : ℕ) (w : Walk X) → walked w now (looks_shown files w) false ≡ Some (met files now w)
+pub walked_met : {X : Type 0} (files : List File) (now : ℕ) (w : Walk X) → walked_with w now (listed_shown files w) (looks_shown files w) false ≡ Some (met files now w)
 walked_met files now (Answers x) = refl
 walked_met files now (Looks target next) = walked_met files now (next (shown_at files target))
-walked_met files now (Ends call done missing) = last_met (is_found files call) now call done missing
+walked_met files now (Ends call done missing) = last_met (is_found files call) now None call done missing
+walked_met files now (Lists path done missing) = refl
 
 abbrev pub is_done : NodeVerdict → Bool
 is_done (Errs errno) = false
@@ -119,6 +127,7 @@ abbrev EndsWell : Walk NodeVerdict → Type 0
 EndsWell (Answers x) = is_done x ≡ true
 EndsWell (Looks target next) = ⊥
 EndsWell (Ends call done missing) = ⊥
+EndsWell (Lists path done missing) = ⊥
 
 module _ (s : State) (none : s.told ≡ false → s.files ≡ []) (now : ℕ) where
   -- the walk ends well over these files; and where the tree doesn't tell, whatever it shows
@@ -126,6 +135,7 @@ module _ (s : State) (none : s.told ≡ false → s.files ≡ []) (now : ℕ) wh
   D (Answers x) = is_done x ≡ true
   D (Looks target next) = ((s.told ≡ true) ⊎ ((look : Look) → EndsWell (next look))) × D (next (shown_at s.files target))
   D (Ends call done missing) = (s.told ≡ true) × (is_done (cond (is_found s.files call) (done now) missing) ≡ true)
+  D (Lists path done missing) = (s.told ≡ true) × (is_done (listed_by done missing (names_listed s.files path)) ≡ true)
 
   -- a file that is there is one of a tree that tells
   file_told : (path : List ℕ) → has_file s path ≡ true → s.told ≡ true
@@ -163,13 +173,37 @@ module _ (s : State) (none : s.told ≡ false → s.files ≡ []) (now : ℕ) wh
   name_done : (name : FileName) (next : OnFile) → has_named s name ≡ true → ((generation size moment : ℕ) → D (next generation size moment)) → D (at_name name next)
   name_done name next e h = (inl (named_told name e), named_look next (file_named s.files name) e h)
 
-  place_done : (sight : Option Sight) (may_file : Bool → Bool) (may_folder : Folder → Bool) (file : Document → Bool → OnFile) (folder : Folder → Walk NodeVerdict) → at_sight s may_file may_folder sight ≡ true →
-      ((d : Document) (may_write : Bool) → may_file may_write ≡ true → (generation size moment : ℕ) → has_named s (record { path = d.path; generation = generation }) ≡ true → D (file d may_write generation size moment)) →
+  -- what a tree tells of a path
+  seen_told : (path : List ℕ) (look : Look) → look_told s path ≡ look → is_missing look ≡ false → (s.told ≡ true) × (look_at s.files path ≡ look)
+  seen_told path look e h = by_told s.told refl e
+    where
+      by_told : (b : Bool) → s.told ≡ b → cond b (look_at s.files path) Look.Missing ≡ look → (b ≡ true) × (look_at s.files path ≡ look)
+      by_told true t k = (refl, k)
+      by_told false t k = let no : true ≡ false = ap is_missing k ∙ h in cc
+
+  place_done : (sight : Option Sight) (may_file : Bool → Bool) (may_folder : Folder → Bool) (file : Spot → OnFile) (folder : Folder → Walk NodeVerdict) → at_sight s may_file may_folder sight ≡ true →
+      ((at : Spot) → may_file at.may_write ≡ true → (generation size moment : ℕ) → has_named s (name_at at generation) ≡ true → D (file at generation size moment)) →
       ((f : Folder) → may_folder f ≡ true → D (folder f)) → D (by_place sight file folder)
   place_done None may_file may_folder file folder e h k = cc
   place_done (Some (SightOfFile d may_write)) may_file may_folder file folder e h k =
       let parts = both_of (has_file s d.path) (may_file may_write) e in
-      file_done d.path (file d may_write) parts.0 (h d may_write parts.1)
+      file_done d.path (file (spot d d.path may_write)) parts.0 (h (spot d d.path may_write) parts.1)
+  place_done (Some (SightBelow view d path may_write)) may_file may_folder file folder e h k = step (look_told s path) refl e
+    where
+      here : Folder
+      here = Exported view d path may_write
+
+      at : Spot
+      at = spot d path may_write
+
+      step : (look : Look) → look_told s path ≡ look → at_look may_file may_folder may_write here look ≡ true → D (Looks (AtPath path) (by_look view at file folder))
+      step (Look.File g n m) l a =
+          let seen = seen_told path (Look.File g n m) l refl in
+          (inl seen.0, subst (λ (x : Look). D (by_look view at file folder x)) (sym seen.1) (h at a g n m (named_there s.files path g n m seen.1)))
+      step Look.Folder l a =
+          let seen = seen_told path Look.Folder l refl in
+          (inl seen.0, subst (λ (x : Look). D (by_look view at file folder x)) (sym seen.1) (k here a))
+      step Look.Missing l a = cc
   place_done (Some (SightOfFolder f)) may_file may_folder file folder e h k = k f e
 
   -- of a file that is there
@@ -197,17 +231,76 @@ module _ (s : State) (none : s.told ≡ false → s.files ≡ []) (now : ℕ) wh
     found_done None e = cc
     found_done (Some node) e = refl
 
-    lookup_done : (name : List ℕ) (folder : Folder) → has_child s name folder ≡ true → D (lookup_in r name folder)
-    lookup_done name (RootOf view numbers has_views) e = found_done (named_in_root view numbers has_views name) e
-    lookup_done name (Views applications) e = found_done (named_in_views applications name) e
-    lookup_done name (FolderOf view d may_write) e =
-        let parts = both_of (is_same name (name_of d.path)) (has_file s d.path) e in
-        let file = at_file d.path (entry_of_file r (file_node view d.id.number) may_write) in
-        subst (λ (b : Bool). D (cond b file (errs enoent))) (sym parts.0)
-        (file_done d.path (entry_of_file r (file_node view d.id.number) may_write) parts.1 (λ g n m there. refl))
+    document_done : (node : ℕ) (d : Document) (may_write : Bool) → has_document s d ≡ true → D (Looks (AtPath d.path) (found_document r node d may_write))
+    document_done node d may_write e = step (has_file s d.path) refl e
+      where
+        file_there : (look : Look) → look_at s.files d.path ≡ look → is_file look ≡ true → D (found_document r node d may_write look)
+        file_there (Look.File g n m) l f = refl
+        file_there Look.Folder l f = cc
+        file_there Look.Missing l f = cc
+
+        folder_there : (b : Bool) → d.folder ≡ b → b ≡ true → D (found_document r node d may_write Look.Folder)
+        folder_there true f t = subst (λ (b : Bool). D (cond b (told (NodeAnswer.Entry (attr_of_folder (on_node r node) may_write))) (errs enoent))) (sym f) refl
+        folder_there false f t = cc
+
+        shows_folder : (look : Look) → look_told s d.path ≡ look → (d.folder && is_folder_look look) ≡ true → D (Looks (AtPath d.path) (found_document r node d may_write))
+        shows_folder (Look.File g n m) l f = let no : false ≡ true = (both_of d.folder false f).1 in cc
+        shows_folder Look.Folder l f =
+            let seen = seen_told d.path Look.Folder l refl in
+            (inl seen.0, subst (λ (x : Look). D (found_document r node d may_write x)) (sym seen.1) (folder_there d.folder refl (both_of d.folder true f).0))
+        shows_folder Look.Missing l f = let no : false ≡ true = (both_of d.folder false f).1 in cc
+
+        step : (b : Bool) → has_file s d.path ≡ b → (b || (d.folder && is_folder_look (look_told s d.path))) ≡ true → D (Looks (AtPath d.path) (found_document r node d may_write))
+        step true f t = (inl (file_told d.path f), file_there (look_at s.files d.path) refl f)
+        step false f t = shows_folder (look_told s d.path) refl t
+
+    named_done : (naming : Naming) (attr : Attr) → not (lacks_number f.namings naming) ≡ true → D (entry_named f.namings naming attr)
+    named_done naming attr e = checked (lacks_number f.namings naming) emfile _ e refl
+
+    child_found : (naming : Naming) (may_write : Bool) (look : Look) → not (lacks_number f.namings naming) ≡ true → is_missing look ≡ false → D (found_child r f.namings naming may_write look)
+    child_found naming may_write (Look.File g n m) e h = named_done naming (attr_of_file (on_node r (node_of_naming f.namings naming)) may_write n m) e
+    child_found naming may_write Look.Folder e h = named_done naming (attr_of_folder (on_node r (node_of_naming f.namings naming)) may_write) e
+    child_found naming may_write Look.Missing e h = cc
+
+    not_true : (b : Bool) → not b ≡ true → b ≡ false
+    not_true true e = cc
+    not_true false e = refl
+
+    child_done : (view : ℕ) (d : Document) (may_write : Bool) (child : Option (List ℕ)) → has_path s child ≡ true → has_number f.namings view d child ≡ true → D (lookup_child r f.namings view d may_write child)
+    child_done view d may_write None e n = cc
+    child_done view d may_write (Some path) e n =
+        let there = not_true (is_missing (look_told s path)) e in
+        let seen = seen_told path (look_told s path) refl there in (
+          inl seen.0,
+          subst (λ (x : Look). D (found_child r f.namings (naming_in view d path) may_write x)) (sym seen.1)
+              (child_found (naming_in view d path) may_write (look_told s path) n there),
+        )
+
+    lookup_done : (name : List ℕ) (folder : Folder) → has_child s name folder ≡ true → folder_within f.namings name folder ≡ true → D (lookup_in r f.namings name folder)
+    lookup_done name (RootOf view numbers has_views) e n = found_done (named_in_root view numbers has_views name) e
+    lookup_done name (Views applications) e n = found_done (named_in_views applications name) e
+    lookup_done name (FolderOf view d may_write) e n =
+        let parts = both_of (is_same name (name_of d.path)) (has_document s d) e in
+        let there = Looks (AtPath d.path) (found_document r (file_node view d.id.number) d may_write) in
+        subst (λ (b : Bool). D (cond b there (errs enoent))) (sym parts.0) (document_done (file_node view d.id.number) d may_write parts.1)
+    lookup_done name (Exported view d path may_write) e n = child_done view d may_write (named_child path name) e n
+
+    -- where a name has a number, or there is one left for it
+    named_within : (name : List ℕ) (may_folder : Folder → Bool) (sight : Option Sight) → at_sight s never may_folder sight ≡ true → names_within f.namings name sight ≡ true →
+        at_sight s never (λ folder. may_folder folder && folder_within f.namings name folder) sight ≡ true
+    named_within name may_folder None e n = cc
+    named_within name may_folder (Some (SightOfFile d may_write)) e n = e
+    named_within name may_folder (Some (SightBelow view d path may_write)) e n = by_look_told (look_told s path) e
+      where
+        by_look_told : (look : Look) → at_look never may_folder may_write (Exported view d path may_write) look ≡ true →
+            at_look never (λ folder. may_folder folder && folder_within f.namings name folder) may_write (Exported view d path may_write) look ≡ true
+        by_look_told (Look.File g m k) a = a
+        by_look_told Look.Folder a = both (may_folder (Exported view d path may_write)) (folder_within f.namings name (Exported view d path may_write)) a n
+        by_look_told Look.Missing a = a
+    named_within name may_folder (Some (SightOfFolder g)) e n = both (may_folder g) (folder_within f.namings name g) e n
 
     attr_done : (sight : Option Sight) → at_sight s always always sight ≡ true → D (get_attr_by_place r sight)
-    attr_done sight e = place_done sight always always (λ d may_write. tells_file r may_write) (tells_folder r) e (λ d w k g n m there. refl) (λ folder k. refl)
+    attr_done sight e = place_done sight always always (λ at. tells_file r at.may_write) (tells_folder r) e (λ at k g n m there. refl) (λ folder k. refl)
 
     open_attr_done : (file : OpenFile) → reaches f.reach file ≡ true → has_named s file.name ≡ true → D (get_attr_open f.reach r file)
     open_attr_done file e there =
@@ -251,7 +344,7 @@ module _ (s : State) (none : s.told ≡ false → s.files ≡ []) (now : ℕ) wh
         (size_done (on_node r file.node) a file.name (may_write_now f.reach file) n m parts.1 l there)))
 
     folder_size_done : (a : SetsAttr) (folder : Folder) → not (sets_size a.valid) ≡ true → D (set_attr_of_folder r a folder)
-    folder_size_done a folder e = checked (sets_size a.valid) eisdir (told (NodeAnswer.Attr (attr_of_folder r))) e refl
+    folder_size_done a folder e = checked (sets_size a.valid) eisdir (told (NodeAnswer.Attr (attr_of_folder r (is_writable folder)))) e refl
 
     set_attr_done : (a : SetsAttr) (sight : Option Sight) (handle : Option Handle) → may_set_attr s f.reach a.valid sight handle ≡ true → (not (sets_size a.valid) || not (nat_lt a.limit a.size)) ≡ true → D (set_attr f.reach r a sight handle)
     set_attr_done a sight handle e l =
@@ -262,7 +355,7 @@ module _ (s : State) (none : s.told ≡ false → s.files ≡ []) (now : ℕ) wh
         (elim (sets_by_handle a.valid) as (λ b. cond b by_one by_other ≡ true → D (cond b (by_file_handle handle (set_attr_open f.reach r a)) (by_place sight (set_attr_at r a) (set_attr_of_folder r a)))) [
           | true ↦ λ k. handle_done handle (may_set_open f.reach a.valid) (set_attr_open f.reach r a) k (λ file w there. open_size_done a file w l there)
           | false ↦ λ k. place_done sight (λ may_write. not (sets_size a.valid) || may_write) (λ folder. not (sets_size a.valid)) (set_attr_at r a) (set_attr_of_folder r a) k
-              (λ d may_write w g n m there. size_done r a (record { path = d.path; generation = g }) may_write n m w l there) (λ folder w. folder_size_done a folder w)
+              (λ at w g n m there. size_done r a (name_at at g) at.may_write n m w l there) (λ folder w. folder_size_done a folder w)
         ] parts.1)
 
     open_name_done : (flags : ℕ) (d : Document) (name : FileName) → has_named s name ≡ true → D (open_name r flags f.room d name)
@@ -276,46 +369,90 @@ module _ (s : State) (none : s.told ≡ false → s.files ≡ []) (now : ℕ) wh
         let parts = both_of (not (has_no_mode flags)) (at_sight s (λ may_write. not (opens_to_write flags) || may_write) never sight) e in
         checked (has_no_mode flags) einval (by_place sight (open_file r flags f.room) open_folder) parts.0
         (place_done sight (λ may_write. not (opens_to_write flags) || may_write) never (open_file r flags f.room) open_folder parts.1
-        (λ d may_write w g n m there.
-        let name : FileName = record { path = d.path; generation = g } in
-        checked (opens_to_write flags && not may_write) eacces (errs_if f.room.full emfile (open_name r flags f.room d name)) (not_both (opens_to_write flags) may_write w)
-        (checked f.room.full emfile (open_name r flags f.room d name) room (open_name_done flags d name there)))
+        (λ at w g n m there.
+        let name : FileName = name_at at g in
+        checked (opens_to_write flags && not at.may_write) eacces (errs_if f.room.full emfile (open_name r flags f.room at.document name)) (not_both (opens_to_write flags) at.may_write w)
+        (checked f.room.full emfile (open_name r flags f.room at.document name) room (open_name_done flags at.document name there)))
         (λ folder k. cc))
 
-    there_done : (flags : ℕ) (d : Document) (node : ℕ) (look : Look) → s.told ≡ true → is_missing look ≡ true → has_room s.files d.path ≡ true → D (create_there r flags f.room d node look)
-    there_done flags d node (Look.File g n m) t e k = cc
-    there_done flags d node Look.Folder t e k = cc
-    there_done flags d node Look.Missing t e k = (t, ended (has_room s.files d.path) _ _ k refl)
+    there_done : (flags : ℕ) (made : Made) (look : Look) → s.told ≡ true → is_missing look ≡ true → has_room s.files made.path ≡ true → D (create_there r flags f.room made look)
+    there_done flags made (Look.File g n m) t e k = cc
+    there_done flags made Look.Folder t e k = cc
+    there_done flags made Look.Missing t e k = (t, ended (has_room s.files made.path) _ _ k refl)
 
-    create_in_done : (name : List ℕ) (flags : ℕ) (folder : Folder) → s.told ≡ true → may_create_in s name folder ≡ true → not f.room.full ≡ true → D (create_in r name flags f.room folder)
-    create_in_done name flags (RootOf view numbers has_views) t e room = cc
-    create_in_done name flags (Views applications) t e room = cc
-    create_in_done name flags (FolderOf view d may_write) t e room =
+    at_done : (flags : ℕ) (made : Made) → s.told ≡ true → is_free s made.path ≡ true → D (create_at r flags f.room made)
+    at_done flags made t e =
+        let free = both_of (is_missing (look_at s.files made.path)) (has_room s.files made.path) e in
+        (inl t, there_done flags made (look_at s.files made.path) t free.0 free.1)
+
+    neither : (a b : Bool) → not a ≡ true → not b ≡ true → not (a || b) ≡ true
+    neither true b e k = cc
+    neither false b e k = k
+
+    create_child_done : (flags view : ℕ) (d : Document) (may_write : Bool) (child : Option (List ℕ)) → s.told ≡ true → may_write ≡ true → is_free_child s child ≡ true → not f.room.full ≡ true → has_number f.namings view d child ≡ true →
+        D (create_child r flags f.room f.namings view d may_write child)
+    create_child_done flags view d may_write None t w e room n = cc
+    create_child_done flags view d may_write (Some path) t w e room n =
+        let naming : Naming = naming_in view d path in
+        let there = create_at r flags f.room (child_made f.namings d naming) in
+        checked (not may_write) eacces (errs_if (f.room.full || lacks_number f.namings naming) emfile there) (twice_not may_write w)
+        (checked (f.room.full || lacks_number f.namings naming) emfile there (neither f.room.full (lacks_number f.namings naming) room n) (at_done flags (child_made f.namings d naming) t e))
+
+    create_in_done : (name : List ℕ) (flags : ℕ) (folder : Folder) → s.told ≡ true → may_create_in s name folder ≡ true → not f.room.full ≡ true → folder_within f.namings name folder ≡ true → D (create_in r name flags f.room f.namings folder)
+    create_in_done name flags (RootOf view numbers has_views) t e room n = cc
+    create_in_done name flags (Views applications) t e room n = cc
+    create_in_done name flags (FolderOf view d may_write) t e room n =
         let first = both_of (is_same name (name_of d.path)) (may_write && is_free s d.path) e in
         let second = both_of may_write (is_free s d.path) first.1 in
-        let free = both_of (is_missing (look_at s.files d.path)) (has_room s.files d.path) second.1 in
-        let there = Looks (AtPath d.path) (create_there r flags f.room d (file_node view d.id.number)) in
+        let there = create_at r flags f.room (own_made view d) in
         checked (not (is_same name (name_of d.path))) eacces (errs_if (not may_write) eacces (errs_if f.room.full emfile there)) (twice_not (is_same name (name_of d.path)) first.0)
         (checked (not may_write) eacces (errs_if f.room.full emfile there) (twice_not may_write second.0)
-        (checked f.room.full emfile there room (inl t, there_done flags d (file_node view d.id.number) (look_at s.files d.path) t free.0 free.1)))
+        (checked f.room.full emfile there room (at_done flags (own_made view d) t second.1)))
+    create_in_done name flags (Exported view d path may_write) t e room n =
+        let parts = both_of may_write (is_free_child s (named_child path name)) e in
+        create_child_done flags view d may_write (named_child path name) t parts.0 parts.1 room n
 
-    create_done : (name : List ℕ) (flags : ℕ) (sight : Option Sight) → s.told ≡ true → (not (has_no_mode flags) && (not (is_too_long name) && at_sight s never (may_create_in s name) sight)) ≡ true → not f.room.full ≡ true → D (create r name flags sight f.room)
+    create_done : (name : List ℕ) (flags : ℕ) (sight : Option Sight) → s.told ≡ true → (not (has_no_mode flags) && (not (is_too_long name) && at_sight s never (may_create_in s name) sight)) ≡ true →
+        (not f.room.full && names_within f.namings name sight) ≡ true → D (create r name flags sight f.room f.namings)
     create_done name flags sight t e room =
         let first = both_of (not (has_no_mode flags)) (not (is_too_long name) && at_sight s never (may_create_in s name) sight) e in
         let second = both_of (not (is_too_long name)) (at_sight s never (may_create_in s name) sight) first.1 in
-        let place = by_place sight (no_file enotdir) (create_in r name flags f.room) in
+        let left = both_of (not f.room.full) (names_within f.namings name sight) room in
+        let place = by_place sight (no_file enotdir) (create_in r name flags f.room f.namings) in
+        let asked : Folder → Bool = λ folder. may_create_in s name folder && folder_within f.namings name folder in
         checked (has_no_mode flags) einval (errs_if (is_too_long name) enametoolong place) first.0
         (checked (is_too_long name) enametoolong place second.0
-        (place_done sight never (may_create_in s name) (no_file enotdir) (create_in r name flags f.room) second.1 (λ d w k g n m there. cc) (λ folder k. create_in_done name flags folder t k room)))
+        (place_done sight never asked (no_file enotdir) (create_in r name flags f.room f.namings) (named_within name (may_create_in s name) sight second.1 left.1) (λ at k g n m there. cc)
+        (λ folder k.
+        let parts = both_of (may_create_in s name folder) (folder_within f.namings name folder) k in
+        create_in_done name flags folder t parts.0 left.0 parts.1)))
 
-    found_dir_done : (folder : Folder) → D (open_found r f.room folder)
-    found_dir_done (RootOf view numbers has_views) = refl
-    found_dir_done (Views applications) = refl
-    found_dir_done (FolderOf view d may_write) = (inr (λ look. refl), refl)
+    folder_is : (files : List File) (path : List ℕ) → is_folder_look (look_at files path) ≡ true → is_folder files path ≡ true
+    folder_is files path e = by_parts (file_at files path) (is_folder files path) e
+      where
+        by_parts : (o : Option File) (b : Bool) → is_folder_look (look_of (content_of o b (has_room files path))) ≡ true → b ≡ true
+        by_parts (Some g) b k = cc
+        by_parts None true k = refl
+        by_parts None false k = cc
 
-    open_dir_done : (sight : Option Sight) → at_sight s never always sight ≡ true → not f.room.full ≡ true → D (open_dir r sight f.room)
-    open_dir_done sight e room = place_done sight never always (no_file enotdir) (open_dir_in r f.room) e (λ d w k g n m there. cc)
-        (λ folder k. checked f.room.full emfile (open_found r f.room folder) room (found_dir_done folder))
+    folder_told : (path : List ℕ) → is_folder_look (look_told s path) ≡ true → (s.told ≡ true) × (is_folder s.files path ≡ true)
+    folder_told path e = step s.told refl e
+      where
+        step : (b : Bool) → s.told ≡ b → is_folder_look (cond b (look_at s.files path) Look.Missing) ≡ true → (s.told ≡ true) × (is_folder s.files path ≡ true)
+        step true t k = (t, folder_is s.files path k)
+        step false t k = cc
+
+    found_dir_done : (folder : Folder) → may_list s folder ≡ true → D (open_found r f.room folder)
+    found_dir_done (RootOf view numbers has_views) e = refl
+    found_dir_done (Views applications) e = refl
+    found_dir_done (FolderOf view d may_write) e = (inr (λ look. refl), refl)
+    found_dir_done (Exported view d path may_write) e =
+        let there = folder_told path e in
+        (there.0, subst (λ (b : Bool). is_done (listed_by (λ children. opened_folder r f.room (parent_of_exported view d path) (names_of_children children)) (Errs enoent) (cond b (Some (names_in s.files path)) None)) ≡ true) (sym there.1) refl)
+
+    open_dir_done : (sight : Option Sight) → at_sight s never (may_list s) sight ≡ true → not f.room.full ≡ true → D (open_dir r sight f.room)
+    open_dir_done sight e room = place_done sight never (may_list s) (no_file enotdir) (open_dir_in r f.room) e (λ at k g n m there. cc)
+        (λ folder k. checked f.room.full emfile (open_found r f.room folder) room (found_dir_done folder k))
 
     read_done : (offset size : ℕ) (handle : Option Handle) → (not (nat_lt read_limit size) && on_handle s (may_read_now f.reach) handle) ≡ true → D (read f.reach f.bytes offset size handle)
     read_done offset size handle e =
@@ -362,40 +499,45 @@ module _ (s : State) (none : s.told ≡ false → s.files ≡ []) (now : ℕ) wh
     access_done : (mask : ℕ) (sight : Option Sight) → may_access s mask sight ≡ true → D (access mask sight)
     access_done mask sight e =
         let file : Bool → Bool = λ may_write. not (executes mask) && (not (writes_to mask) || may_write) in
-        let folder : Folder → Bool = λ f. not (writes_to mask) in
+        let folder : Folder → Bool = λ f. not (writes_to mask) || is_writable f in
         let parts = both_of (not (nat_lt 7 mask)) (at_sight s file folder sight) e in
         checked (nat_lt 7 mask) einval (by_place sight (access_file mask) (access_folder mask)) parts.0
         (place_done sight file folder (access_file mask) (access_folder mask) parts.1
-        (λ d may_write w g n m there. checked (executes mask || writes_to mask && not may_write) eacces (told NodeAnswer.Empty) (neither_of (executes mask) (writes_to mask) may_write w) refl)
-        (λ f w. checked (writes_to mask) eacces (told NodeAnswer.Empty) w refl))
+        (λ at w g n m there. checked (executes mask || writes_to mask && not at.may_write) eacces (told NodeAnswer.Empty) (neither_of (executes mask) (writes_to mask) at.may_write w) refl)
+        (λ f w. checked (writes_to mask && not (is_writable f)) eacces (told NodeAnswer.Empty) (not_both (writes_to mask) (is_writable f) w) refl))
 
     fsync_done : (handle : Option Handle) → on_handle s always handle ≡ true → D (fsync handle)
     fsync_done handle e = handle_done handle always fsync_open e (λ file w there. (named_told file.name there, ended (has_named s file.name) _ _ there refl))
 
   -- each request
-  walk_done : (c : Connection) (r : NodeRequest) (op : NodeOp) → ToldForNode s op → may_ask_at s (reach_at s c.who) op (place_of s c.who r.node) (handle_of s.handles c.seat) ≡ true → within s c op ≡ true → D (node_walk (facts_of s c r.node) r op)
+  walk_done : (c : Connection) (r : NodeRequest) (op : NodeOp) → ToldForNode s op → may_ask_at s (reach_at s c.who) op (sight_on s c r.node) (handle_of s.handles c.seat) ≡ true → within_at s c op (sight_on s c r.node) ≡ true → D (node_walk (facts_of s c r.node) r op)
   walk_done c r (NodeOp.Lookup name) t h k =
-      let sight = place_of s c.who r.node in
+      let sight = sight_on s c r.node in
+      let f = facts_of s c r.node in
       let parts = both_of (not (is_too_long name)) (at_sight s never (has_child s name) sight) h in
-      checked (is_too_long name) enametoolong (by_place sight (no_file enotdir) (lookup_in r name)) parts.0
-      (place_done sight never (has_child s name) (no_file enotdir) (lookup_in r name) parts.1 (λ d w k g n m there. cc) (λ folder k. lookup_done (facts_of s c r.node) r name folder k))
+      let asked : Folder → Bool = λ folder. has_child s name folder && folder_within c.namings name folder in
+      checked (is_too_long name) enametoolong (by_place sight (no_file enotdir) (lookup_in r c.namings name)) parts.0
+      (place_done sight never asked (no_file enotdir) (lookup_in r c.namings name) (named_within f r name (has_child s name) sight parts.1 k) (λ at k g n m there. cc)
+      (λ folder m.
+      let both_parts = both_of (has_child s name folder) (folder_within c.namings name folder) m in
+      lookup_done f r name folder both_parts.0 both_parts.1))
   walk_done c r (NodeOp.Forget count) t h k = refl
   walk_done c r (NodeOp.BatchForget nodes) t h k = refl
-  walk_done c r (NodeOp.GetAttr flags fh) t h k = get_attr_done (facts_of s c r.node) r (names_handle flags) (place_of s c.who r.node) (handle_of s.handles c.seat fh) h
-  walk_done c r (NodeOp.SetAttr valid fh size) t h k = set_attr_done (facts_of s c r.node) r (record { valid = valid; size = size; limit = s.limits.file_bytes }) (place_of s c.who r.node) (handle_of s.handles c.seat fh) h k
-  walk_done c r (NodeOp.Open flags) t h k = open_done (facts_of s c r.node) r flags (place_of s c.who r.node) h k
-  walk_done c r (NodeOp.Create name flags) t h k = create_done (facts_of s c r.node) r name flags (place_of s c.who r.node) t h k
+  walk_done c r (NodeOp.GetAttr flags fh) t h k = get_attr_done (facts_of s c r.node) r (names_handle flags) (sight_on s c r.node) (handle_of s.handles c.seat fh) h
+  walk_done c r (NodeOp.SetAttr valid fh size) t h k = set_attr_done (facts_of s c r.node) r (record { valid = valid; size = size; limit = s.limits.file_bytes }) (sight_on s c r.node) (handle_of s.handles c.seat fh) h k
+  walk_done c r (NodeOp.Open flags) t h k = open_done (facts_of s c r.node) r flags (sight_on s c r.node) h k
+  walk_done c r (NodeOp.Create name flags) t h k = create_done (facts_of s c r.node) r name flags (sight_on s c r.node) t h k
   walk_done c r (NodeOp.Read fh offset size) t h k = read_done (facts_of s c r.node) r offset size (handle_of s.handles c.seat fh) h
   walk_done c r (NodeOp.Write fh offset content) t h k = write_done (facts_of s c r.node) r offset content (handle_of s.handles c.seat fh) h k
   walk_done c r (NodeOp.Flush fh) t h k = any_handle_done (handle_of s.handles c.seat fh) _ h (λ file. refl)
   walk_done c r (NodeOp.Fsync fh) t h k = fsync_done (facts_of s c r.node) r (handle_of s.handles c.seat fh) h
   walk_done c r (NodeOp.Release fh) t h k = any_handle_done (handle_of s.handles c.seat fh) _ h (λ file. refl)
-  walk_done c r NodeOp.OpenDir t h k = open_dir_done (facts_of s c r.node) r (place_of s c.who r.node) h k
+  walk_done c r NodeOp.OpenDir t h k = open_dir_done (facts_of s c r.node) r (sight_on s c r.node) h k
   walk_done c r (NodeOp.ReadDir fh offset size) t h k =
       let parts = both_of (not (nat_lt read_limit size)) (is_folder_handle (handle_of s.handles c.seat fh)) h in
       checked (nat_lt read_limit size) einval (read_names offset size (handle_of s.handles c.seat fh)) parts.0 (names_done (facts_of s c r.node) r offset size (handle_of s.handles c.seat fh) parts.1)
   walk_done c r (NodeOp.ReleaseDir fh) t h k = release_dir_done (facts_of s c r.node) r fh (handle_of s.handles c.seat fh) h
-  walk_done c r (NodeOp.Access mask) t h k = access_done (facts_of s c r.node) r mask (place_of s c.who r.node) h
+  walk_done c r (NodeOp.Access mask) t h k = access_done (facts_of s c r.node) r mask (sight_on s c r.node) h
 
 abbrev DoneGiven : Option NodeVerdict → Type 0
 DoneGiven None = ⊥
@@ -411,19 +553,22 @@ told_met : (s : State) (none : s.told ≡ false → s.files ≡ []) (now : ℕ) 
 told_met s none now (Answers x) d = d
 told_met s none now (Looks target next) d = told_met s none now (next (shown_at s.files target)) d.1
 told_met s none now (Ends call done missing) d = d.1
+told_met s none now (Lists path done missing) d = d.1
 
 -- over one that doesn't
-answered_well : (w : Walk NodeVerdict) (now : ℕ) (looks : List Look) → EndsWell w → DoneGiven (walked w now looks false)
-answered_well (Answers x) now looks h = h
-answered_well (Looks target next) now looks h = absurd h
-answered_well (Ends call done missing) now looks h = absurd h
+answered_well : (w : Walk NodeVerdict) (now : ℕ) (listed : Option (List ChildName)) (looks : List Look) → EndsWell w → DoneGiven (walked_with w now listed looks false)
+answered_well (Answers x) now listed looks h = h
+answered_well (Looks target next) now listed looks h = absurd h
+answered_well (Ends call done missing) now listed looks h = absurd h
+answered_well (Lists path done missing) now listed looks h = absurd h
 
-untold_met : (s : State) (none : s.told ≡ false → s.files ≡ []) (now : ℕ) (w : Walk NodeVerdict) (looks : List Look) → s.told ≡ false → D s none now w → Gives None w looks false → DoneGiven (walked w now looks false)
-untold_met s none now (Answers x) looks u d g = d
-untold_met s none now (Looks target next) [] u d g = cc
-untold_met s none now (Looks target next) (look ∷ looks) u (inl t, d) g = not_both_told s.told t u
-untold_met s none now (Looks target next) (look ∷ looks) u (inr any, d) g = answered_well (next look) now looks (any look)
-untold_met s none now (Ends call done missing) looks u d g = not_both_told s.told d.0 u
+untold_met : (s : State) (none : s.told ≡ false → s.files ≡ []) (now : ℕ) (w : Walk NodeVerdict) (listed : Option (List ChildName)) (looks : List Look) → s.told ≡ false → D s none now w → Gives None w looks false → DoneGiven (walked_with w now listed looks false)
+untold_met s none now (Answers x) listed looks u d g = d
+untold_met s none now (Looks target next) listed [] u d g = cc
+untold_met s none now (Looks target next) listed (look ∷ looks) u (inl t, d) g = not_both_told s.told t u
+untold_met s none now (Looks target next) listed (look ∷ looks) u (inr any, d) g = answered_well (next look) now listed looks (any look)
+untold_met s none now (Ends call done missing) listed looks u d g = not_both_told s.told d.0 u
+untold_met s none now (Lists path done missing) listed looks u d g = not_both_told s.told d.0 u
 
 none-untold : (s : State) (op : NodeOp) → ToldForNode s op → s.told ≡ false → s.files ≡ []
 none-untold s (NodeOp.Create name flags) t u = not_both_told s.told t u
@@ -435,7 +580,8 @@ verdict-done s c r given none d l e true t =
     let w = walk_on_node s c r in
     let now = moment_given given.now in
     let looks : given.looks ≡ looks_shown s.files w = walk_taken s w given t e l.looks in
-    let verdict : node_given w given ≡ Some (met s.files now w) = (λ i. walked w now (looks i) (is_tree (e i))) ∙ walked_met s.files now w in
+    let listed : given.listed ≡ listed_shown s.files w = walk_listed s w given t e l.looks l.listed in
+    let verdict : node_given w given ≡ Some (met s.files now w) = (λ i. walked_with w now (listed i) (looks i) (is_tree (e i))) ∙ walked_met s.files now w in
     subst DoneGiven (sym verdict) (told_met s none now w d)
 verdict-done s c r given none d l e false u =
     let w = walk_on_node s c r in
@@ -443,9 +589,9 @@ verdict-done s c r given none d l e false u =
     let calm : is_tree given.fault ≡ false = ap is_tree e in
     let untold : files_told s ≡ None = ap (λ (b : Bool). cond b (Some s.files) None) u in
     let gives : Gives None w given.looks false = subst (λ (failed : Bool). Gives None w given.looks failed) calm (subst (λ (files : Option (List File)). Gives files w given.looks (is_tree given.fault)) untold l.looks) in
-    subst (λ (failed : Bool). DoneGiven (walked w now given.looks failed)) (sym calm) (untold_met s none now w given.looks u d gives)
+    subst (λ (failed : Bool). DoneGiven (walked_with w now given.listed given.looks failed)) (sym calm) (untold_met s none now w given.listed given.looks u d gives)
 
-pub node-done : (s : State) (c : Connection) (r : NodeRequest) (given : Given) → ToldForNode s r.op → may_ask_node s c r ≡ true → within s c r.op ≡ true → LawfulNode s c r given → given.fault ≡ Fault.None → is_refusal (node_answer s c r given).1 ≡ false
+pub node-done : (s : State) (c : Connection) (r : NodeRequest) (given : Given) → ToldForNode s r.op → may_ask_node s c r ≡ true → within s c r ≡ true → LawfulNode s c r given → given.fault ≡ Fault.None → is_refusal (node_answer s c r given).1 ≡ false
 node-done s c r given t h k l e =
     let none = none-untold s r.op t in
     let d = walk_done s none (moment_given given.now) c r r.op t h k in

@@ -10,14 +10,16 @@ use Rattle.portal_base.specs.declared.who.Who.{Who}
 use Rattle.portal_model.specs.declared.entry.Entry.{Entry}
 use Rattle.portal_model.specs.declared.entry.Given.{Given}
 use Rattle.portal_model.specs.declared.reply.Change.{Change}
+use Rattle.portal_model.specs.declared.naming.Naming.{Naming}
 use Rattle.portal_model.specs.declared.request.NodeRequest.{NodeRequest}
 use Rattle.portal_model.specs.declared.request.Request.{Request}
 use Rattle.portal_model.specs.declared.state.Connection.{Connection}
 use Rattle.portal_model.specs.Enter.{entered, new_connection}
 use Rattle.portal_model.specs.History.{run, of_seat}
 use Rattle.portal_model.specs.Leave.{left, of_others}
-use Rattle.portal_model.specs.Node.{connections_after, counted, node_given, settled_on_node, walk_on_node}
-use Rattle.portal_model.specs.NodeVerdict.{HandleChange, HandlesStay, Opens, Closes, NodeVerdict, Errs, Yields}
+use Rattle.portal_model.specs.Node.{connections_after, connections_named, counted, named_on, node_given, settled_on_node, walk_on_node}
+use Rattle.portal_model.specs.NodeVerdict.{HandleChange, HandlesStay, Opens, Closes, NameChange, Names, NamesStay, NodeVerdict, Errs, Yields}
+use Rattle.portal_model.specs.SeatNames.{with_naming}
 use Rattle.portal_model.specs.Present.{requeued}
 use Rattle.portal_model.specs.Seated.{BeginsWith, Binding, Exchange, binding_of, bound, bound_after, bound_by, exchange, exchanges, is_open}
 use Rattle.portal_model.specs.State.{State, connection_of}
@@ -176,10 +178,30 @@ changed_bound seat c HandlesStay cs = refl
 changed_bound seat c (Opens handle) cs = binding-counted seat c.seat cs
 changed_bound seat c (Closes fh) cs = refl
 
+named_first : (seat : ℕ) (naming : Naming) (c : Connection) (b : Bool) (o p : Option Connection) → option_map binding_of o ≡ option_map binding_of p →
+    option_map binding_of (cond ((cond b (record c { namings = with_naming c.namings naming }) c).seat == seat) (Some (cond b (record c { namings = with_naming c.namings naming }) c)) o) ≡ option_map binding_of (cond (c.seat == seat) (Some c) p)
+named_first seat naming c true o p h = elim (c.seat == seat) as (λ m. option_map binding_of (cond m (Some (record c { namings = with_naming c.namings naming })) o) ≡ option_map binding_of (cond m (Some c) p)) [
+  | true ↦ refl
+  | false ↦ h
+]
+named_first seat naming c false o p h = elim (c.seat == seat) as (λ m. option_map binding_of (cond m (Some c) o) ≡ option_map binding_of (cond m (Some c) p)) [
+  | true ↦ refl
+  | false ↦ h
+]
+
+-- nor does a path that is named
+binding-named : (seat other : ℕ) (naming : Naming) (cs : List Connection) → binding (map (named_on other naming) cs) seat ≡ binding cs seat
+binding-named seat other naming [] = refl
+binding-named seat other naming (c ∷ cs) = named_first seat naming c (c.seat == other) (connection_of (map (named_on other naming) cs) seat) (connection_of cs seat) (binding-named seat other naming cs)
+
+named_bound : (seat : ℕ) (c : Connection) (change : NameChange) (cs : List Connection) → binding (connections_named c change cs) seat ≡ binding cs seat
+named_bound seat c NamesStay cs = refl
+named_bound seat c (Names naming) cs = binding-named seat c.seat naming cs
+
 settled_bound : (s : State) (c : Connection) (v : Option NodeVerdict) (seat : ℕ) → bound (settled_on_node s c v).0 seat ≡ bound s seat
 settled_bound s c None seat = refl
 settled_bound s c (Some (Errs errno)) seat = refl
-settled_bound s c (Some (Yields d)) seat = changed_bound seat c d.handle s.connections
+settled_bound s c (Some (Yields d)) seat = named_bound seat c d.names (connections_after c d.handle s.connections) ∙ changed_bound seat c d.handle s.connections
 
 node_bound : (s : State) (r : NodeRequest) (given : Given) (o : Option Connection) (seat : ℕ) → bound (node_step s r given o).0 seat ≡ bound s seat
 node_bound s r given None seat = refl

@@ -30,7 +30,10 @@ use Rattle.portal_model.specs.Lawful.{Lawful, LawfulGiven, LawfulOnBus, LawfulOn
 use Rattle.portal_model.specs.Leave.{left, of_others}
 use Rattle.portal_model.specs.ListDocuments.{documents_listed, list_documents}
 use Rattle.portal_model.specs.LookupDocument.{lookup_document, text_of}
+use Rattle.portal_model.specs.Node.{node_given, walk_on_node}
+use Rattle.portal_model.specs.NodeOutside.{LawfulNode}
 use Rattle.portal_model.specs.Outside.{AreDrawn, LawfulBus, meets_limit, verdict_of, words_drawn}
+use Rattle.portal_model.specs.Place.{sight_on}
 use Rattle.portal_model.specs.Present.{with_queue}
 use Rattle.portal_model.specs.State.{State, connection_of}
 use Rattle.portal_model.specs.Step.{after, all_told, bus_of, bus_step, collect_step, is_mount, told_of, node_step, request_step, mount_of}
@@ -45,7 +48,7 @@ use Rattle.portal_model.proofs.ListLookups.{found_in_all, found_passes, nat_is}
 use Rattle.portal_model.proofs.GrantValid.{grant-valid}
 use Rattle.portal_model.proofs.PresentValid.{present-valid}
 use Rattle.portal_model.proofs.MadeHandles.{left-made}
-use Rattle.portal_model.proofs.NodeValid.{node-valid}
+use Rattle.portal_model.proofs.NodeValid.{IsSoundSight, NamesKept, names-kept, node-valid, place-sound, unnamed-connection}
 use Rattle.portal_model.proofs.OpenHandles.{entered-handles, left-handles, requeued-handles, told-handles}
 use Rattle.portal_model.proofs.Queues.{caller_sound, dropped-connections, found_told, seats}
 use Rattle.portal_model.proofs.RevokeValid.{revoke-valid}
@@ -224,7 +227,14 @@ node_step-Valid s seat r given (Some c) e v l =
     let there = mount_is (connection_of s.connections seat) c e in
     let own : c.seat ≡ seat = nat_is c.seat seat (found_passes (λ (x : Connection). x.seat == seat) s.connections c there.0) in
     let here : connection_of s.connections c.seat ≡ Some c = subst (λ (n : ℕ). connection_of s.connections n ≡ Some c) (sym own) there.0 in
-    node-valid (all_told c.seat s) c (record c { unsent = [] }) (found_told c.seat c s.connections here) refl refl there.1 (all_told-Valid s c.seat v) r given l
+    node-valid (all_told c.seat s) c (record c { unsent = [] }) (found_told c.seat c s.connections here) refl refl refl there.1 (all_told-Valid s c.seat v) r given l
+
+-- what the connection of a seat sees, and that nothing is named on it
+pub told-sight : (s : State) (seat : ℕ) (c : Connection) → connection_of s.connections seat ≡ Some c → Valid s → (node : ℕ) → IsSoundSight (record { who = c.who; made = s.made }) node (sight_on (all_told c.seat s) c node)
+told-sight s seat c e v node = place-sound (all_told c.seat s) (all_told-Valid s c.seat v) c node (unnamed-connection s seat c e v)
+
+pub told-kept : (s : State) (seat : ℕ) (c : Connection) → connection_of s.connections seat ≡ Some c → Valid s → (r : NodeRequest) (given : Given) → LawfulNode (all_told c.seat s) c r given → NamesKept (node_given (walk_on_node (all_told c.seat s) c r) given)
+told-kept s seat c e v r given l = names-kept (all_told c.seat s) c (unnamed-connection s seat c e v) (all_told-Valid s c.seat v) r given l
 
 request_step-Valid : (s : State) (seat : ℕ) (request : Request) (given : Given) → LawfulGiven s seat request given → Valid s → Valid (request_step s seat request given).0
 request_step-Valid s seat (Request.Enter who kind) given l v =

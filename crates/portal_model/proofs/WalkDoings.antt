@@ -3,7 +3,7 @@ use Rattle.std.proofs.Common.{◌≡◌, ℕ, List, [], ◌∷◌, Bool, true, f
 use Rattle.portal_base.specs.declared.files.Look.{Look}
 use Rattle.portal_model.specs.declared.reply.Code.{Code}
 use Rattle.portal_model.specs.Verdict.{Doing, Verdict, Refuses, Does, unless, walk_unless}
-use Rattle.portal_model.specs.Walk.{Walk, Answers, Looks, Ends, looks_at_all, walked}
+use Rattle.portal_model.specs.Walk.{Walk, Answers, Looks, Ends, Lists, looks_at_all, walked}
 
 module _ (P : Doing → Type 0) where
   abbrev pub IfDoes : Verdict → Type 0
@@ -14,6 +14,7 @@ module _ (P : Doing → Type 0) where
   OnWalk (Answers v) = IfDoes v
   OnWalk (Looks target next) = (look : Look) → OnWalk (next look)
   OnWalk (Ends call done missing) = ((now : ℕ) → IfDoes (done now)) × IfDoes missing
+  OnWalk (Lists path done missing) = IfDoes missing
 
   abbrev pub IfGiven : Option Verdict → Type 0
   IfGiven None = Unit {0}
@@ -39,3 +40,5 @@ module _ (P : Doing → Type 0) where
   on-walked (Ends call done missing) now [] true h = tt
   on-walked (Ends call done missing) now [] false h = h.0 now
   on-walked (Ends call done missing) now (look ∷ looks) failed h = h.1
+  on-walked (Lists path done missing) now looks true h = tt
+  on-walked (Lists path done missing) now looks false h = h

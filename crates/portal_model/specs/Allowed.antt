@@ -1,12 +1,13 @@
 -- What a seat may ask: what is allowed is done, where no device fails and no limit is met.
 use Rattle.std.specs.Prelude.{ℕ, ◌+◌, List, [], map, Bool, true, false, not, ◌&&◌, ◌||◌, length, nat_lt, Option, Some, None, is_some, cond}
 use Rattle.portal_base.specs.Content.{file_named, has_room}
-use Rattle.portal_base.specs.Names.{is_app_name, is_same, name_of}
+use Rattle.portal_base.specs.Names.{is_app_name, is_same, name_of, named_child}
 use Rattle.portal_base.specs.declared.files.FileName.{FileName}
 use Rattle.portal_base.specs.declared.files.Look.{Look}
 use Rattle.portal_base.specs.declared.who.Who.{Who}
 use Rattle.rights_rule.specs.Rights.{holds_any, rights_named}
 use Rattle.portal_model.specs.declared.handle.Handle.{Handle}
+use Rattle.portal_model.specs.declared.naming.Naming.{Naming}
 use Rattle.portal_model.specs.declared.reply.Answer.{Answer}
 use Rattle.portal_model.specs.declared.request.AddRequest.{AddRequest}
 use Rattle.portal_model.specs.declared.request.NodeOp.{NodeOp}
@@ -18,22 +19,24 @@ use Rattle.portal_model.specs.declared.state.Connection.{Connection}
 use Rattle.portal_model.specs.declared.state.Document.{Document}
 use Rattle.portal_model.specs.declared.store.StoreCall.{StoreCall}
 use Rattle.portal_model.specs.Access.{executes, writes_to}
-use Rattle.portal_model.specs.Add.{are_of_kind, is_file, may_list_all}
+use Rattle.portal_model.specs.Add.{are_of_kind, is_file, is_folder_look, may_list_all}
 use Rattle.portal_model.specs.AddArguments.{are_add_arguments, are_presented, document_paths, paths_shown}
 use Rattle.portal_model.specs.Arguments.{ahead_of_end, document_named, is_ended_path}
+use Rattle.portal_model.specs.Attributes.{is_writable}
 use Rattle.portal_model.specs.Content.{look_at}
 use Rattle.portal_model.specs.GetAttr.{names_handle}
 use Rattle.portal_model.specs.Grant.{are_rights_arguments, may_grant}
-use Rattle.portal_model.specs.Lookup.{named_in_root, named_in_views}
+use Rattle.portal_model.specs.Lookup.{naming_in, named_in_root, named_in_views}
 use Rattle.portal_model.specs.Node.{room_of}
 use Rattle.portal_model.specs.NodeVerdict.{is_too_long}
 use Rattle.portal_model.specs.Open.{has_no_mode, opens_to_write}
-use Rattle.portal_model.specs.Place.{Folder, RootOf, Views, FolderOf, Sight, SightOfFile, SightOfFolder, place_of, reach_at}
+use Rattle.portal_model.specs.Place.{Folder, RootOf, Views, FolderOf, Exported, Sight, SightOfFile, SightBelow, SightOfFolder, reach_at, sight_on}
 use Rattle.portal_model.specs.Present.{may_present}
 use Rattle.portal_model.specs.Reach.{OpenFile, Reaching, may_read_now, may_write_now, open_file_of, reaches}
 use Rattle.portal_model.specs.Read.{read_limit}
 use Rattle.portal_model.specs.Revoke.{names_itself}
 use Rattle.portal_model.specs.Rights.{held_by}
+use Rattle.portal_model.specs.SeatNames.{lacks_number}
 use Rattle.portal_model.specs.SetAttr.{sets_by_handle, sets_owner_or_mode, sets_size}
 use Rattle.portal_model.specs.State.{State, connection_of, handle_of, is_host, who_has}
 use Rattle.portal_model.specs.Store.{store_call}
@@ -128,10 +131,22 @@ has_file s path = is_file (look_at s.files path)
 abbrev pub has_named : State → FileName → Bool
 has_named s name = is_some (file_named s.files name)
 
+-- what is at a path, where the tree tells
+abbrev pub look_told : State → List ℕ → Look
+look_told s path = cond s.told (look_at s.files path) Look.Missing
+
+-- what a look shows at or below an exported folder
+abbrev pub at_look : (Bool → Bool) → (Folder → Bool) → Bool → Folder → Look → Bool
+at_look file folder may_write here (Look.File generation size moment) = file may_write
+at_look file folder may_write here Look.Folder = folder here
+at_look file folder may_write here Look.Missing = false
+
 -- a file of which this is asked of its right to be written, where it is there; or a folder
 abbrev pub at_sight : State → (Bool → Bool) → (Folder → Bool) → Option Sight → Bool
 at_sight s file folder None = false
 at_sight s file folder (Some (SightOfFile d may_write)) = has_file s d.path && file may_write
+at_sight s file folder (Some (SightBelow view d path may_write)) =
+    at_look file folder may_write (Exported view d path may_write) (look_told s path)
 at_sight s file folder (Some (SightOfFolder f)) = folder f
 
 -- what is asked of an open file, where it is there
@@ -151,28 +166,52 @@ is_folder_handle None = false
 is_folder_handle (Some (Handle.File name node document strict read write)) = false
 is_folder_handle (Some (Handle.Folder node names)) = true
 
+-- the document's name, of a file or of a folder that is exported
+abbrev pub has_document : State → Document → Bool
+has_document s d =
+    has_file s d.path || (d.folder && is_folder_look (look_told s d.path))
+
+-- something is at the path
+abbrev pub has_path : State → Option (List ℕ) → Bool
+has_path s None = false
+has_path s (Some path) = not (is_missing (look_told s path))
+
 abbrev pub has_child : State → List ℕ → Folder → Bool
 has_child s name (RootOf view numbers has_views) =
     is_some (named_in_root view numbers has_views name)
 has_child s name (Views applications) = is_some (named_in_views applications name)
 has_child s name (FolderOf view d may_write) =
-    is_same name (name_of d.path) && has_file s d.path
+    is_same name (name_of d.path) && has_document s d
+has_child s name (Exported view d path may_write) = has_path s (named_child path name)
 
 -- nothing is there, and the parent is a folder
 abbrev pub is_free : State → List ℕ → Bool
 is_free s path = is_missing (look_at s.files path) && has_room s.files path
+
+abbrev pub is_free_child : State → Option (List ℕ) → Bool
+is_free_child s None = false
+is_free_child s (Some path) = is_free s path
 
 abbrev pub may_create_in : State → List ℕ → Folder → Bool
 may_create_in s name (RootOf view numbers has_views) = false
 may_create_in s name (Views applications) = false
 may_create_in s name (FolderOf view d may_write) =
     is_same name (name_of d.path) && (may_write && is_free s d.path)
+may_create_in s name (Exported view d path may_write) =
+    may_write && is_free_child s (named_child path name)
 
 abbrev pub never : {X : Type 0} → X → Bool
 never x = false
 
 abbrev pub always : {X : Type 0} → X → Bool
 always x = true
+
+-- a folder that is there
+abbrev pub may_list : State → Folder → Bool
+may_list s (RootOf view numbers has_views) = true
+may_list s (Views applications) = true
+may_list s (FolderOf view d may_write) = true
+may_list s (Exported view d path may_write) = is_folder_look (look_told s path)
 
 -- a GETATTR of an open folder asks its node
 abbrev pub may_get_attr : State → Reaching → Bool → Option Sight → Option Handle → Bool
@@ -200,7 +239,7 @@ may_access s mask sight =
     not (nat_lt 7 mask)
     && at_sight s
     (λ may_write. not (executes mask) && (not (writes_to mask) || may_write))
-    (λ folder. not (writes_to mask)) sight
+    (λ folder. not (writes_to mask) || is_writable folder) sight
 
 -- a write of no bytes needs no file
 abbrev pub may_write_to : State → Reaching → List ℕ → Option Handle → Bool
@@ -210,7 +249,8 @@ may_write_to s reach content (Some (Handle.File name node document strict read w
     && (is_none content || has_named s name)
 may_write_to s reach content (Some (Handle.Folder node names)) = false
 
-abbrev pub may_ask_at : State → Reaching → NodeOp → Option Sight → (ℕ → Option Handle) → Bool
+abbrev pub may_ask_at :
+    State → Reaching → NodeOp → Option Sight → (ℕ → Option Handle) → Bool
 may_ask_at s reach (NodeOp.Lookup name) sight handle =
     not (is_too_long name) && at_sight s never (has_child s name) sight
 may_ask_at s reach (NodeOp.Forget count) sight handle = true
@@ -232,7 +272,7 @@ may_ask_at s reach (NodeOp.Write fh offset content) sight handle =
 may_ask_at s reach (NodeOp.Flush fh) sight handle = is_file_handle (handle fh)
 may_ask_at s reach (NodeOp.Fsync fh) sight handle = on_handle s always (handle fh)
 may_ask_at s reach (NodeOp.Release fh) sight handle = is_file_handle (handle fh)
-may_ask_at s reach NodeOp.OpenDir sight handle = at_sight s never always sight
+may_ask_at s reach NodeOp.OpenDir sight handle = at_sight s never (may_list s) sight
 may_ask_at s reach (NodeOp.ReadDir fh offset size) sight handle =
     not (nat_lt read_limit size) && is_folder_handle (handle fh)
 may_ask_at s reach (NodeOp.ReleaseDir fh) sight handle = is_folder_handle (handle fh)
@@ -241,28 +281,52 @@ may_ask_at s reach (NodeOp.Access mask) sight handle = may_access s mask sight
 -- A request on a node of this connection, which is a mount.
 abbrev pub may_ask_node : State → Connection → NodeRequest → Bool
 may_ask_node s c r =
-    may_ask_at s (reach_at s c.who) r.op (place_of s c.who r.node) (handle_of s.handles c.seat)
+    may_ask_at s (reach_at s c.who) r.op (sight_on s c r.node) (handle_of s.handles c.seat)
 
--- no limit is met: that of open handles, and that of a file's length
-abbrev pub within : State → Connection → NodeOp → Bool
-within s c (NodeOp.Open flags) = not (room_of s c).full
-within s c (NodeOp.Create name flags) = not (room_of s c).full
-within s c NodeOp.OpenDir = not (room_of s c).full
-within s c (NodeOp.SetAttr valid fh size) =
+-- a name below an exported folder has a number, or there is one left for it
+abbrev pub has_number : List Naming → ℕ → Document → Option (List ℕ) → Bool
+has_number namings view d None = true
+has_number namings view d (Some path) = not (lacks_number namings (naming_in view d path))
+
+abbrev pub folder_within : List Naming → List ℕ → Folder → Bool
+folder_within namings name (RootOf view numbers has_views) = true
+folder_within namings name (Views applications) = true
+folder_within namings name (FolderOf view d may_write) = true
+folder_within namings name (Exported view d path may_write) =
+    has_number namings view d (named_child path name)
+
+abbrev pub names_within : List Naming → List ℕ → Option Sight → Bool
+names_within namings name None = true
+names_within namings name (Some (SightOfFile d may_write)) = true
+names_within namings name (Some (SightBelow view d path may_write)) =
+    folder_within namings name (Exported view d path may_write)
+names_within namings name (Some (SightOfFolder f)) = folder_within namings name f
+
+-- no limit is met: those of open handles and of names below exported folders, and that of a file's
+-- length
+abbrev pub within_at : State → Connection → NodeOp → Option Sight → Bool
+within_at s c (NodeOp.Open flags) sight = not (room_of s c).full
+within_at s c (NodeOp.Create name flags) sight =
+    not (room_of s c).full && names_within c.namings name sight
+within_at s c (NodeOp.Lookup name) sight = names_within c.namings name sight
+within_at s c NodeOp.OpenDir sight = not (room_of s c).full
+within_at s c (NodeOp.SetAttr valid fh size) sight =
     not (sets_size valid) || not (nat_lt s.limits.file_bytes size)
-within s c (NodeOp.Write fh offset content) =
+within_at s c (NodeOp.Write fh offset content) sight =
     is_none content || not (nat_lt s.limits.file_bytes (offset + length content))
-within s c (NodeOp.Lookup name) = true
-within s c (NodeOp.Forget count) = true
-within s c (NodeOp.BatchForget nodes) = true
-within s c (NodeOp.GetAttr flags fh) = true
-within s c (NodeOp.Read fh offset size) = true
-within s c (NodeOp.Flush fh) = true
-within s c (NodeOp.Fsync fh) = true
-within s c (NodeOp.Release fh) = true
-within s c (NodeOp.ReadDir fh offset size) = true
-within s c (NodeOp.ReleaseDir fh) = true
-within s c (NodeOp.Access mask) = true
+within_at s c (NodeOp.Forget count) sight = true
+within_at s c (NodeOp.BatchForget nodes) sight = true
+within_at s c (NodeOp.GetAttr flags fh) sight = true
+within_at s c (NodeOp.Read fh offset size) sight = true
+within_at s c (NodeOp.Flush fh) sight = true
+within_at s c (NodeOp.Fsync fh) sight = true
+within_at s c (NodeOp.Release fh) sight = true
+within_at s c (NodeOp.ReadDir fh offset size) sight = true
+within_at s c (NodeOp.ReleaseDir fh) sight = true
+within_at s c (NodeOp.Access mask) sight = true
+
+abbrev pub within : State → Connection → NodeRequest → Bool
+within s c r = within_at s c r.op (sight_on s c r.node)
 
 -- ---- a request of a seat
 
@@ -308,12 +372,12 @@ place_on s request None = true
 place_on s request (Some c) = has_place s c request
 
 -- and a request on a node meets no limit
-abbrev pub node_within : State → NodeOp → Option Connection → Bool
-node_within s op None = true
-node_within s op (Some c) = within s c op
+abbrev pub node_within : State → NodeRequest → Option Connection → Bool
+node_within s r None = true
+node_within s r (Some c) = within s c r
 
 abbrev pub limits_kept : State → Request → Option Connection → Bool
-limits_kept s (Request.Node r) o = node_within s r.op (mount_of o)
+limits_kept s (Request.Node r) o = node_within s r (mount_of o)
 limits_kept s request o = place_on s request (bus_of o)
 
 abbrev pub place_left : State → ℕ → Request → Bool

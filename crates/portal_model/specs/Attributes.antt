@@ -1,7 +1,8 @@
 -- The attributes of a node (struct fuse_attr, include/uapi/linux/fuse.h).
-use Rattle.std.specs.Prelude.{ℕ, ◌+◌, ◌/◌, Bool, cond}
+use Rattle.std.specs.Prelude.{ℕ, ◌+◌, ◌/◌, Bool, false, cond}
 use Rattle.portal_model.specs.declared.reply.Attr.{Attr}
 use Rattle.portal_model.specs.declared.request.NodeRequest.{NodeRequest}
+use Rattle.portal_model.specs.Place.{Folder, RootOf, Views, FolderOf, Exported}
 
 -- of a file: the mode is 0o100600 where it may be written, and else 0o100400
 abbrev pub attr_of_file : NodeRequest → Bool → ℕ → ℕ → Attr
@@ -17,14 +18,21 @@ attr_of_file r may_write size moment = record {
   block_size = 4096;
 }
 
--- of a folder: the mode is 0o040500
-abbrev pub attr_of_folder : NodeRequest → Attr
-attr_of_folder r = record {
+-- whether names may be made in a folder: in an exported one and below it, by the right to write
+abbrev pub is_writable : Folder → Bool
+is_writable (RootOf view numbers has_views) = false
+is_writable (Views applications) = false
+is_writable (FolderOf view d may_write) = false
+is_writable (Exported view d path may_write) = may_write
+
+-- of a folder: the mode is 0o040700 where names may be made in it, and else 0o040500
+abbrev pub attr_of_folder : NodeRequest → Bool → Attr
+attr_of_folder r may_write = record {
   node = r.node;
   size = 0;
   blocks = 0;
   moment = 0;
-  mode = 16704;
+  mode = cond may_write 16832 16704;
   links = 2;
   uid = r.uid;
   gid = r.gid;

@@ -1,43 +1,101 @@
--- FUSE_CREATE (include/uapi/linux/fuse.h): the file of a document is made, and opened.
-use Rattle.std.specs.Prelude.{ℕ, List, true, not, Option}
-use Rattle.portal_base.specs.Names.{is_same, name_of}
+-- FUSE_CREATE (include/uapi/linux/fuse.h): a file is made, and opened: that of a document in its
+-- folder, or one in an exported folder or below it.
+use Rattle.std.specs.Prelude.{ℕ, ◌||◌, List, true, not, Bool, Option, Some, None}
+use Rattle.portal_base.specs.Names.{is_same, name_of, named_child}
 use Rattle.portal_base.specs.declared.files.Look.{Look}
+use Rattle.portal_model.specs.declared.naming.Naming.{Naming}
 use Rattle.portal_model.specs.declared.reply.NodeAnswer.TheVariants as NodeAnswer
 use Rattle.portal_model.specs.declared.request.NodeRequest.{NodeRequest}
 use Rattle.portal_model.specs.declared.state.Document.{Document}
 use Rattle.portal_model.specs.Attributes.{attr_of_file, on_node}
 use Rattle.portal_model.specs.Errno.{eacces, eexist, einval, emfile, enametoolong, enoent, enotdir, eperm}
-use Rattle.portal_model.specs.NodeVerdict.{NodeVerdict, Creates, Errs, Opens, Room, Yields, by_place, errs, errs_if, is_too_long, next_handle, no_file}
+use Rattle.portal_model.specs.Lookup.{naming_in, node_of_naming}
+use Rattle.portal_model.specs.NodeVerdict.{NodeVerdict, Creates, Errs, Names, NameChange, NamesStay, Opens, Room, Yields, by_place, errs, errs_if, is_too_long, next_handle, no_file}
 use Rattle.portal_model.specs.Open.{file_handle, has_no_mode}
-use Rattle.portal_model.specs.Place.{Folder, RootOf, Views, FolderOf, Sight, file_node}
+use Rattle.portal_model.specs.Place.{Folder, RootOf, Views, FolderOf, Exported, Sight, file_node}
+use Rattle.portal_model.specs.SeatNames.{lacks_number}
 use Rattle.portal_model.specs.Walk.{Walk, Looks, Ends, AtPath, Makes}
 
+-- ---- at a path
+
+-- what is made: the document, the path, the node, and what the seat has named then
+pub record Made : Type 0 where
+  pub document : Document
+  pub path : List ℕ
+  pub node : ℕ
+  pub names : NameChange
+
 -- an empty file with the moment of now, the first of its path
-abbrev pub created : NodeRequest → ℕ → Room → Document → ℕ → ℕ → NodeVerdict
-created r flags room d node now = Yields (record {
-  answer = NodeAnswer.Created (attr_of_file (on_node r node) true 0 now) (next_handle room);
-  file = Creates d.path now;
-  handle = Opens (file_handle d (record { path = d.path; generation = 0 }) node flags);
+abbrev pub created : NodeRequest → ℕ → Room → Made → ℕ → NodeVerdict
+created r flags room made now = Yields (record {
+  answer = NodeAnswer.Created (attr_of_file (on_node r made.node) true 0 now) (next_handle room);
+  file = Creates made.path now;
+  handle = Opens (file_handle made.document (record { path = made.path; generation = 0 })
+      made.node flags);
+  names = made.names;
 })
 
-abbrev pub create_there : NodeRequest → ℕ → Room → Document → ℕ → Look → Walk NodeVerdict
-create_there r flags room d node (Look.File generation size moment) = errs eexist
-create_there r flags room d node Look.Folder = errs eexist
-create_there r flags room d node Look.Missing =
-    Ends (Makes d.path) (created r flags room d node) (Errs enoent)
+abbrev pub create_there : NodeRequest → ℕ → Room → Made → Look → Walk NodeVerdict
+create_there r flags room made (Look.File generation size moment) = errs eexist
+create_there r flags room made Look.Folder = errs eexist
+create_there r flags room made Look.Missing =
+    Ends (Makes made.path) (created r flags room made) (Errs enoent)
 
--- the file of the document alone may be made in its folder
-abbrev pub create_in : NodeRequest → List ℕ → ℕ → Room → Folder → Walk NodeVerdict
-create_in r name flags room (RootOf view numbers has_views) = errs eperm
-create_in r name flags room (Views applications) = errs eperm
-create_in r name flags room (FolderOf view d may_write) =
+abbrev pub create_at : NodeRequest → ℕ → Room → Made → Walk NodeVerdict
+create_at r flags room made = Looks (AtPath made.path) (create_there r flags room made)
+
+-- ---- in the folder of a document
+
+-- the document's own file
+abbrev pub own_made : ℕ → Document → Made
+own_made view d = record {
+  document = d;
+  path = d.path;
+  node = file_node view d.id.number;
+  names = NamesStay;
+}
+
+-- ---- in an exported folder and below it
+
+abbrev pub child_made : List Naming → Document → Naming → Made
+child_made namings d naming = record {
+  document = d;
+  path = naming.path;
+  node = node_of_naming namings naming;
+  names = Names naming;
+}
+
+abbrev pub create_named :
+    NodeRequest → ℕ → Room → List Naming → Document → Bool → Naming → Walk NodeVerdict
+create_named r flags room namings d may_write naming =
+    errs_if (not may_write) eacces
+    (errs_if (room.full || lacks_number namings naming) emfile
+    (create_at r flags room (child_made namings d naming)))
+
+abbrev pub create_child :
+    NodeRequest → ℕ → Room → List Naming → ℕ → Document → Bool → Option (List ℕ)
+    → Walk NodeVerdict
+create_child r flags room namings view d may_write None = errs eacces
+create_child r flags room namings view d may_write (Some path) =
+    create_named r flags room namings d may_write (naming_in view d path)
+
+-- ---- the request
+
+-- of a document's folder the file of the document alone may be made
+abbrev pub create_in :
+    NodeRequest → List ℕ → ℕ → Room → List Naming → Folder → Walk NodeVerdict
+create_in r name flags room namings (RootOf view numbers has_views) = errs eperm
+create_in r name flags room namings (Views applications) = errs eperm
+create_in r name flags room namings (FolderOf view d may_write) =
     errs_if (not (is_same name (name_of d.path))) eacces
     (errs_if (not may_write) eacces
-    (errs_if room.full emfile
-    (Looks (AtPath d.path) (create_there r flags room d (file_node view d.id.number)))))
+    (errs_if room.full emfile (create_at r flags room (own_made view d))))
+create_in r name flags room namings (Exported view d path may_write) =
+    create_child r flags room namings view d may_write (named_child path name)
 
-abbrev pub create : NodeRequest → List ℕ → ℕ → Option Sight → Room → Walk NodeVerdict
-create r name flags sight room =
+abbrev pub create :
+    NodeRequest → List ℕ → ℕ → Option Sight → Room → List Naming → Walk NodeVerdict
+create r name flags sight room namings =
     errs_if (has_no_mode flags) einval
     (errs_if (is_too_long name) enametoolong
-    (by_place sight (no_file enotdir) (create_in r name flags room)))
+    (by_place sight (no_file enotdir) (create_in r name flags room namings)))

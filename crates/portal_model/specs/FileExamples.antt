@@ -1,6 +1,7 @@
 -- Worked examples of requests on nodes, over the file /home/a.txt that holds "hello". What is
 -- expected is worked out by hand from the rules and from include/uapi/linux/fuse.h.
 use Rattle.std.specs.Prelude.{◌≡◌, ℕ, ◌+◌, ◌/◌, List, [], ◌∷◌, codes, true, false, cond, Option, Some, None}
+use Rattle.portal_base.specs.declared.files.ChildName.{ChildName}
 use Rattle.portal_base.specs.declared.files.Look.{Look}
 use Rattle.portal_base.specs.declared.who.Kind.TheVariants as Kind
 use Rattle.portal_base.specs.declared.who.Who.{Who}
@@ -22,7 +23,7 @@ use Rattle.portal_model.specs.Node.{walk_on_node}
 use Rattle.portal_model.specs.Opening.{opened}
 use Rattle.portal_model.specs.State.{State, connection_of}
 use Rattle.portal_model.specs.Step.{after, all_told, looks_taken, mount_of, reply_at}
-use Rattle.portal_model.specs.Walk.{reads_clock}
+use Rattle.portal_model.specs.Walk.{listed_shown, reads_clock}
 
 -- ---- requests over a tree that tells, at the moment 7
 
@@ -47,9 +48,15 @@ moment_for s r looks None = None
 moment_for s r looks (Some c) =
     cond (reads_clock (walk_on_node (all_told c.seat s) c r) looks) (Some 7) None
 
+-- the names of a folder, where the request lists it
+abbrev pub listed_for : State → NodeRequest → Option Connection → Option (List ChildName)
+listed_for s r None = None
+listed_for s r (Some c) = listed_shown s.files (walk_on_node (all_told c.seat s) c r)
+
 abbrev pub given_on : State → ℕ → NodeRequest → List Look → Given
 given_on s seat r looks =
-    shown looks (moment_for s r looks (mount_of (connection_of s.connections seat)))
+    let o = mount_of (connection_of s.connections seat) in
+    record (shown looks (moment_for s r looks o)) { listed = listed_for s r o }
 
 -- a request on a node, with the looks that the tree shows
 abbrev pub asks_node : State → ℕ → ℕ → NodeOp → Entry

@@ -3,7 +3,7 @@ use Rattle.std.specs.Prelude.{ℕ, ◌%◌, ◌==◌, Bool, not, Option, Some, N
 use Rattle.portal_model.specs.declared.handle.Handle.{Handle}
 use Rattle.portal_model.specs.declared.reply.NodeAnswer.TheVariants as NodeAnswer
 use Rattle.portal_model.specs.declared.request.NodeRequest.{NodeRequest}
-use Rattle.portal_model.specs.Attributes.{attr_of_file, attr_of_folder, on_node}
+use Rattle.portal_model.specs.Attributes.{attr_of_file, attr_of_folder, is_writable, on_node}
 use Rattle.portal_model.specs.Errno.{eacces, ebadf}
 use Rattle.portal_model.specs.NodeVerdict.{NodeVerdict, OnFile, OnHandle, at_name, by_place, errs, errs_if, told}
 use Rattle.portal_model.specs.Place.{Folder, Sight}
@@ -19,11 +19,11 @@ tells_file r may_write generation size moment =
     told (NodeAnswer.Attr (attr_of_file r may_write size moment))
 
 abbrev pub tells_folder : NodeRequest → Folder → Walk NodeVerdict
-tells_folder r folder = told (NodeAnswer.Attr (attr_of_folder r))
+tells_folder r folder = told (NodeAnswer.Attr (attr_of_folder r (is_writable folder)))
 
 abbrev pub get_attr_by_place : NodeRequest → Option Sight → Walk NodeVerdict
 get_attr_by_place r sight =
-    by_place sight (λ d may_write. tells_file r may_write) (tells_folder r)
+    by_place sight (λ at. tells_file r at.may_write) (tells_folder r)
 
 -- an open file is told by its own node and by whether it may itself be written
 abbrev pub get_attr_open : Reaching → NodeRequest → OnHandle

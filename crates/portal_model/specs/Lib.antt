@@ -3,6 +3,7 @@ pub mod Ordered
 pub mod Rights
 pub mod Documents
 pub mod Applications
+pub mod SeatNames
 pub mod Content
 pub mod NodeNumbers
 pub mod Place
@@ -65,5 +66,6 @@ pub mod DocumentLaws
 pub mod DocumentExamples
 pub mod NodeLaws
 pub mod FileExamples
+pub mod FolderExamples
 pub mod StoreExamples
 pub mod StoreLaws

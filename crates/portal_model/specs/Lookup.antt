@@ -1,15 +1,20 @@
 -- FUSE_LOOKUP (include/uapi/linux/fuse.h): a name in a folder.
-use Rattle.std.specs.Prelude.{ℕ, ◌&&◌, codes, List, Bool, Option, Some, None, cond, option_map}
+use Rattle.std.specs.Prelude.{ℕ, ◌&&◌, codes, List, Bool, false, Option, Some, None, cond, option_map}
 use Rattle.std.specs.List.{find}
-use Rattle.portal_base.specs.Names.{doc_text, is_same, name_of}
+use Rattle.portal_base.specs.Names.{doc_text, is_same, name_of, named_child}
+use Rattle.portal_base.specs.declared.files.Look.{Look}
+use Rattle.portal_model.specs.declared.naming.Naming.{Naming}
+use Rattle.portal_model.specs.declared.reply.Attr.{Attr}
 use Rattle.portal_model.specs.declared.reply.NodeAnswer.TheVariants as NodeAnswer
 use Rattle.portal_model.specs.declared.request.NodeRequest.{NodeRequest}
+use Rattle.portal_model.specs.declared.state.Document.{Document}
 use Rattle.portal_model.specs.Applications.{number_of}
 use Rattle.portal_model.specs.Attributes.{attr_of_file, attr_of_folder, on_node}
-use Rattle.portal_model.specs.Errno.{enametoolong, enoent, enotdir}
-use Rattle.portal_model.specs.NodeVerdict.{NodeVerdict, OnFile, at_file, by_place, errs, errs_if, is_too_long, no_file, told}
-use Rattle.portal_model.specs.Place.{Folder, RootOf, Views, FolderOf, Sight, by_app_node, file_node, folder_node, root_node}
-use Rattle.portal_model.specs.Walk.{Walk}
+use Rattle.portal_model.specs.Errno.{emfile, enametoolong, enoent, enotdir}
+use Rattle.portal_model.specs.NodeVerdict.{NodeVerdict, OnFile, by_place, errs, errs_if, is_too_long, names_path, no_file, told}
+use Rattle.portal_model.specs.Place.{Folder, RootOf, Views, FolderOf, Exported, Sight, by_app_node, file_node, folder_node, named_node, root_node}
+use Rattle.portal_model.specs.SeatNames.{lacks_number, number_of_naming}
+use Rattle.portal_model.specs.Walk.{Walk, Answers, Looks, AtPath}
 
 -- the name of the folder of all views
 abbrev pub by_app : List ℕ
@@ -18,7 +23,7 @@ by_app = codes "by-app"
 -- the node of a folder that has the name, where there is one
 abbrev pub found_folder : NodeRequest → Option ℕ → Walk NodeVerdict
 found_folder r None = errs enoent
-found_folder r (Some node) = told (NodeAnswer.Entry (attr_of_folder (on_node r node)))
+found_folder r (Some node) = told (NodeAnswer.Entry (attr_of_folder (on_node r node) false))
 
 -- an identifier names the folder of its document where that is seen
 abbrev pub folder_in_root : ℕ → List ℕ → List ℕ → Option ℕ
@@ -37,15 +42,59 @@ abbrev pub entry_of_file : NodeRequest → ℕ → Bool → OnFile
 entry_of_file r node may_write generation size moment =
     told (NodeAnswer.Entry (attr_of_file (on_node r node) may_write size moment))
 
--- a document's folder has the file of the document alone
-abbrev pub lookup_in : NodeRequest → List ℕ → Folder → Walk NodeVerdict
-lookup_in r name (RootOf view numbers has_views) =
-    found_folder r (named_in_root view numbers has_views name)
-lookup_in r name (Views applications) = found_folder r (named_in_views applications name)
-lookup_in r name (FolderOf view d may_write) =
-    cond (is_same name (name_of d.path))
-    (at_file d.path (entry_of_file r (file_node view d.id.number) may_write)) (errs enoent)
+-- the name of a document in its folder: a file, and of one that is exported a folder too
+abbrev pub found_document : NodeRequest → ℕ → Document → Bool → Look → Walk NodeVerdict
+found_document r node d may_write (Look.File generation size moment) =
+    entry_of_file r node may_write generation size moment
+found_document r node d may_write Look.Folder =
+    cond d.folder (told (NodeAnswer.Entry (attr_of_folder (on_node r node) may_write)))
+    (errs enoent)
+found_document r node d may_write Look.Missing = errs enoent
 
-abbrev pub lookup : NodeRequest → List ℕ → Option Sight → Walk NodeVerdict
-lookup r name sight =
-    errs_if (is_too_long name) enametoolong (by_place sight (no_file enotdir) (lookup_in r name))
+-- ---- below an exported folder
+
+abbrev pub naming_in : ℕ → Document → List ℕ → Naming
+naming_in view d path = record { view = view; document = d.id; path = path }
+
+-- the node of a naming: one that was named before has its number
+abbrev pub node_of_naming : List Naming → Naming → ℕ
+node_of_naming namings naming = named_node naming.view (number_of_naming namings naming)
+
+abbrev pub entry_named : List Naming → Naming → Attr → Walk NodeVerdict
+entry_named namings naming attr =
+    errs_if (lacks_number namings naming) emfile
+    (Answers (names_path naming (NodeAnswer.Entry attr)))
+
+abbrev pub found_child : NodeRequest → List Naming → Naming → Bool → Look → Walk NodeVerdict
+found_child r namings naming may_write (Look.File generation size moment) =
+    entry_named namings naming
+    (attr_of_file (on_node r (node_of_naming namings naming)) may_write size moment)
+found_child r namings naming may_write Look.Folder =
+    entry_named namings naming
+    (attr_of_folder (on_node r (node_of_naming namings naming)) may_write)
+found_child r namings naming may_write Look.Missing = errs enoent
+
+abbrev pub lookup_child :
+    NodeRequest → List Naming → ℕ → Document → Bool → Option (List ℕ) → Walk NodeVerdict
+lookup_child r namings view d may_write None = errs enoent
+lookup_child r namings view d may_write (Some path) =
+    Looks (AtPath path) (found_child r namings (naming_in view d path) may_write)
+
+-- ---- the request
+
+-- a document's folder has the document's name alone
+abbrev pub lookup_in : NodeRequest → List Naming → List ℕ → Folder → Walk NodeVerdict
+lookup_in r namings name (RootOf view numbers has_views) =
+    found_folder r (named_in_root view numbers has_views name)
+lookup_in r namings name (Views applications) = found_folder r (named_in_views applications name)
+lookup_in r namings name (FolderOf view d may_write) =
+    cond (is_same name (name_of d.path))
+    (Looks (AtPath d.path) (found_document r (file_node view d.id.number) d may_write))
+    (errs enoent)
+lookup_in r namings name (Exported view d path may_write) =
+    lookup_child r namings view d may_write (named_child path name)
+
+abbrev pub lookup : NodeRequest → List Naming → List ℕ → Option Sight → Walk NodeVerdict
+lookup r namings name sight =
+    errs_if (is_too_long name) enametoolong
+    (by_place sight (no_file enotdir) (lookup_in r namings name))

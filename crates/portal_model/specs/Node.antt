@@ -8,6 +8,7 @@ use Rattle.portal_base.specs.declared.files.FileName.{FileName}
 use Rattle.portal_model.specs.declared.entry.Given.{Given}
 use Rattle.portal_model.specs.declared.handle.Handle.{Handle}
 use Rattle.portal_model.specs.declared.handle.OpenHandle.{OpenHandle}
+use Rattle.portal_model.specs.declared.naming.Naming.{Naming}
 use Rattle.portal_model.specs.declared.reply.Answer.{Answer}
 use Rattle.portal_model.specs.declared.reply.Code.TheVariants as Code
 use Rattle.portal_model.specs.declared.request.NodeOp.{NodeOp}
@@ -22,18 +23,19 @@ use Rattle.portal_model.specs.Forget.{forget}
 use Rattle.portal_model.specs.Fsync.{fsync}
 use Rattle.portal_model.specs.GetAttr.{get_attr}
 use Rattle.portal_model.specs.Lookup.{lookup}
-use Rattle.portal_model.specs.NodeVerdict.{NodeDoing, NodeVerdict, FileChange, FilesStay, Writes, Resizes, Creates, HandleChange, HandlesStay, Opens, Closes, Errs, Yields, Room}
+use Rattle.portal_model.specs.NodeVerdict.{NodeDoing, NodeVerdict, FileChange, FilesStay, Writes, Resizes, Creates, HandleChange, HandlesStay, Opens, Closes, NameChange, NamesStay, Names, Errs, Yields, Room}
 use Rattle.portal_model.specs.Open.{open_node}
 use Rattle.portal_model.specs.OpenDir.{open_dir}
-use Rattle.portal_model.specs.Place.{Sight, place_of, reach_at}
+use Rattle.portal_model.specs.Place.{Sight, sight_on, reach_at}
 use Rattle.portal_model.specs.Reach.{Reaching}
 use Rattle.portal_model.specs.Read.{read}
 use Rattle.portal_model.specs.ReadDir.{read_dir}
 use Rattle.portal_model.specs.Release.{release}
 use Rattle.portal_model.specs.ReleaseDir.{release_dir}
+use Rattle.portal_model.specs.SeatNames.{with_naming}
 use Rattle.portal_model.specs.SetAttr.{set_attr}
 use Rattle.portal_model.specs.State.{State, handle_of, handles_of, is_handle}
-use Rattle.portal_model.specs.Walk.{Walk, walked}
+use Rattle.portal_model.specs.Walk.{Walk, walked_with}
 use Rattle.portal_model.specs.Write.{write}
 
 -- ---- what a request on a node depends on
@@ -48,12 +50,14 @@ pub record NodeFacts : Type 0 where
   -- the bytes of each file, as far as they are told
   pub bytes : FileName → List ℕ
   pub room : Room
+  -- what the connection that asks has named below exported folders
+  pub namings : List Naming
   -- the greatest length of a file
   pub file_limit : ℕ
 
 -- the one walk of each request
 abbrev pub node_walk : NodeFacts → NodeRequest → NodeOp → Walk NodeVerdict
-node_walk f r (NodeOp.Lookup name) = lookup r name f.sight
+node_walk f r (NodeOp.Lookup name) = lookup r f.namings name f.sight
 node_walk f r (NodeOp.Forget count) = forget
 node_walk f r (NodeOp.BatchForget nodes) = forget
 node_walk f r (NodeOp.GetAttr flags fh) = get_attr f.reach r flags f.sight (f.handle fh)
@@ -61,7 +65,8 @@ node_walk f r (NodeOp.SetAttr valid fh size) =
     set_attr f.reach r (record { valid = valid; size = size; limit = f.file_limit }) f.sight
     (f.handle fh)
 node_walk f r (NodeOp.Open flags) = open_node r flags f.sight f.room
-node_walk f r (NodeOp.Create name flags) = create r name flags f.sight f.room
+node_walk f r (NodeOp.Create name flags) =
+    create r name flags f.sight f.room f.namings
 node_walk f r (NodeOp.Read fh offset size) = read f.reach f.bytes offset size (f.handle fh)
 node_walk f r (NodeOp.Write fh offset content) =
     write f.reach f.file_limit offset content (f.handle fh)
@@ -94,11 +99,12 @@ room_of s c = record {
 
 abbrev pub facts_of : State → Connection → ℕ → NodeFacts
 facts_of s c node = record {
-  sight = place_of s c.who node;
+  sight = sight_on s c node;
   handle = handle_of s.handles c.seat;
   reach = reach_at s c.who;
   bytes = bytes_named s.files;
   room = room_of s c;
+  namings = c.namings;
   file_limit = s.limits.file_bytes;
 }
 
@@ -133,9 +139,18 @@ connections_after c HandlesStay connections = connections
 connections_after c (Opens handle) connections = map (counted c.seat) connections
 connections_after c (Closes fh) connections = connections
 
+-- a path below an exported folder was named on the connection of a seat
+abbrev pub named_on : ℕ → Naming → Connection → Connection
+named_on seat naming c =
+    cond (c.seat == seat) (record c { namings = with_naming c.namings naming }) c
+
+abbrev pub connections_named : Connection → NameChange → List Connection → List Connection
+connections_named c NamesStay connections = connections
+connections_named c (Names naming) connections = map (named_on c.seat naming) connections
+
 abbrev pub node_done : State → Connection → NodeDoing → State
 node_done s c d = record s {
-  connections = connections_after c d.handle s.connections;
+  connections = connections_named c d.names (connections_after c d.handle s.connections);
   handles = handles_after c d.handle s.handles;
   files = files_after s.told d.file s.files;
 }
@@ -149,7 +164,8 @@ settled_on_node s c (Some (Errs errno)) = (s, Answer.Refused (Code.Errno errno))
 settled_on_node s c (Some (Yields d)) = (node_done s c d, Answer.Node d.answer)
 
 abbrev pub node_given : Walk NodeVerdict → Given → Option NodeVerdict
-node_given walk given = walked walk (moment_given given.now) given.looks (is_tree given.fault)
+node_given walk given =
+    walked_with walk (moment_given given.now) given.listed given.looks (is_tree given.fault)
 
 -- a request on a node, of this connection: the state after, and the answer
 abbrev pub node_answer : State → Connection → NodeRequest → Given → State × Answer

@@ -35,7 +35,7 @@ ToldForNode s op = s.told ≡ false → s.files ≡ []
 -- what may be asked of a node is done, where no device fails and no limit is met
 abbrev pub AllowedOnNodesIsDone : Type 0
 AllowedOnNodesIsDone = (s : State) (c : Connection) (r : NodeRequest) (given : Given) →
-    ToldForNode s r.op → may_ask_node s c r ≡ true → within s c r.op ≡ true →
+    ToldForNode s r.op → may_ask_node s c r ≡ true → within s c r ≡ true →
     LawfulNode s c r given → given.fault ≡ Fault.None →
     is_refusal (node_answer s c r given).1 ≡ false
 

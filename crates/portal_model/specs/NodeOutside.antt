@@ -8,7 +8,7 @@ use Rattle.portal_model.specs.Bus.{is_tree}
 use Rattle.portal_model.specs.Node.{walk_on_node}
 use Rattle.portal_model.specs.Outside.{files_told}
 use Rattle.portal_model.specs.State.{State}
-use Rattle.portal_model.specs.Walk.{Gives, reads_clock}
+use Rattle.portal_model.specs.Walk.{Gives, GivesNames, reads_clock}
 
 -- No word is drawn, no document is made, no limit of documents is met, and the keeper isn't asked,
 -- since no record changes.
@@ -17,8 +17,10 @@ pub record LawfulNode (s : State) (c : Connection) (r : NodeRequest) (given : Gi
   pub looks : Gives (files_told s) (walk_on_node s c r) given.looks (is_tree given.fault)
   -- the clock is read where a file is changed or made
   pub clock : is_some given.now ≡ reads_clock (walk_on_node s c r) given.looks
-  -- no folder is listed, and no file is made to be renamed later
-  pub listed : given.listed ≡ None
+  -- the names of a folder are given where it is listed
+  pub listed :
+      GivesNames (files_told s) (walk_on_node s c r) given.looks given.listed (is_tree given.fault)
+  -- no file is made to be renamed later
   pub generation : given.generation ≡ None
   pub words : given.words ≡ []
   pub numbers : given.numbers ≡ []

@@ -6,10 +6,11 @@ use Rattle.std.specs.Prelude.{ℕ, ◌+◌, nat_lt, List, length, Bool, Option, 
 use Rattle.portal_base.specs.declared.files.FileName.{FileName}
 use Rattle.portal_base.specs.declared.files.Look.{Look}
 use Rattle.portal_model.specs.declared.handle.Handle.{Handle}
+use Rattle.portal_model.specs.declared.naming.Naming.{Naming}
 use Rattle.portal_model.specs.declared.reply.NodeAnswer.{NodeAnswer}
 use Rattle.portal_model.specs.declared.state.Document.{Document}
 use Rattle.portal_model.specs.Errno.{ebadf, enoent}
-use Rattle.portal_model.specs.Place.{Folder, Sight, SightOfFile, SightOfFolder}
+use Rattle.portal_model.specs.Place.{Folder, Exported, Sight, SightOfFile, SightBelow, SightOfFolder}
 use Rattle.portal_model.specs.Reach.{OpenFile, open_file_of}
 use Rattle.portal_model.specs.Walk.{Walk, Answers, Looks, AtPath, Named}
 
@@ -33,10 +34,17 @@ pub data HandleChange : Type 0 where
   -- the one of a number is gone
   Closes : ℕ → HandleChange
 
+-- how what the seat has named changes
+pub data NameChange : Type 0 where
+  NamesStay : NameChange
+  -- a path below an exported folder has a number, which it may have had
+  Names : Naming → NameChange
+
 pub record NodeDoing : Type 0 where
   pub answer : NodeAnswer
   pub file : FileChange
   pub handle : HandleChange
+  pub names : NameChange
 
 -- a refusal by the number of the error, or what is done
 pub data NodeVerdict : Type 0 where
@@ -45,11 +53,30 @@ pub data NodeVerdict : Type 0 where
 
 -- an answer alone
 abbrev pub tells : NodeAnswer → NodeVerdict
-tells answer = Yields (record { answer = answer; file = FilesStay; handle = HandlesStay })
+tells answer = Yields (record {
+  answer = answer;
+  file = FilesStay;
+  handle = HandlesStay;
+  names = NamesStay;
+})
 
 -- a file is changed
 abbrev pub changes : FileChange → NodeAnswer → NodeVerdict
-changes change answer = Yields (record { answer = answer; file = change; handle = HandlesStay })
+changes change answer = Yields (record {
+  answer = answer;
+  file = change;
+  handle = HandlesStay;
+  names = NamesStay;
+})
+
+-- a path below an exported folder has a number
+abbrev pub names_path : Naming → NodeAnswer → NodeVerdict
+names_path naming answer = Yields (record {
+  answer = answer;
+  file = FilesStay;
+  handle = HandlesStay;
+  names = Names naming;
+})
 
 -- the tree isn't asked
 abbrev pub errs : ℕ → Walk NodeVerdict
@@ -86,17 +113,42 @@ errs_on_file errno generation size moment = errs errno
 
 -- ---- by place
 
+-- a file that is seen: its document, its path, and whether it may be written
+pub record Spot : Type 0 where
+  pub document : Document
+  pub path : List ℕ
+  pub may_write : Bool
+
+abbrev pub spot : Document → List ℕ → Bool → Spot
+spot d path may_write = record { document = d; path = path; may_write = may_write }
+
+-- what a look shows where a file or a folder may be
+abbrev pub by_look :
+    ℕ → Spot → (Spot → OnFile) → (Folder → Walk NodeVerdict) → Look → Walk NodeVerdict
+by_look view at file folder (Look.File generation size moment) = file at generation size moment
+by_look view at file folder Look.Folder =
+    folder (Exported view at.document at.path at.may_write)
+by_look view at file folder Look.Missing = errs enoent
+
 -- A request on what is seen at its node: a file is there where a look shows it, and is told by its
--- document, whether it may be written, and the look.
+-- document, its path, whether it may be written, and the look. At an exported folder and below it
+-- the look tells whether a file or a folder is there.
 abbrev pub by_place :
-    Option Sight → (Document → Bool → OnFile) → (Folder → Walk NodeVerdict) → Walk NodeVerdict
+    Option Sight → (Spot → OnFile) → (Folder → Walk NodeVerdict) → Walk NodeVerdict
 by_place None file folder = errs enoent
-by_place (Some (SightOfFile d may_write)) file folder = at_file d.path (file d may_write)
+by_place (Some (SightOfFile d may_write)) file folder =
+    at_file d.path (file (spot d d.path may_write))
+by_place (Some (SightBelow view d path may_write)) file folder =
+    Looks (AtPath path) (by_look view (spot d path may_write) file folder)
 by_place (Some (SightOfFolder f)) file folder = folder f
 
 -- the same error at each file
-abbrev pub no_file : ℕ → Document → Bool → OnFile
-no_file errno d may_write = errs_on_file errno
+abbrev pub no_file : ℕ → Spot → OnFile
+no_file errno at = errs_on_file errno
+
+-- the name of a file that is seen, of this generation
+abbrev pub name_at : Spot → ℕ → FileName
+name_at at generation = record { path = at.path; generation = generation }
 
 -- ---- by handle
 

@@ -6,7 +6,7 @@ use Rattle.portal_model.specs.declared.reply.NodeAnswer.TheVariants as NodeAnswe
 use Rattle.portal_model.specs.declared.request.NodeRequest.{NodeRequest}
 use Rattle.portal_model.specs.declared.state.Document.{Document}
 use Rattle.portal_model.specs.Errno.{eacces, einval, eisdir, emfile, enoent}
-use Rattle.portal_model.specs.NodeVerdict.{NodeVerdict, FileChange, FilesStay, OnFile, Errs, Opens, Resizes, Room, Yields, by_place, errs, errs_if, next_handle}
+use Rattle.portal_model.specs.NodeVerdict.{NodeVerdict, FileChange, FilesStay, NamesStay, OnFile, Errs, Opens, Resizes, Room, Spot, Yields, by_place, errs, errs_if, name_at, next_handle}
 use Rattle.portal_model.specs.Place.{Folder, Sight}
 use Rattle.portal_model.specs.Walk.{Walk, Answers, Ends, Changes}
 
@@ -40,6 +40,7 @@ opened_file room handle change = Yields (record {
   answer = NodeAnswer.Opened (next_handle room);
   file = change;
   handle = Opens handle;
+  names = NamesStay;
 })
 
 -- with truncation the file has the length 0 and the moment of now
@@ -51,11 +52,10 @@ open_name r flags room d name =
     (Errs enoent))
     (Answers (opened_file room (file_handle d name r.node flags) FilesStay))
 
-abbrev pub open_file : NodeRequest → ℕ → Room → Document → Bool → OnFile
-open_file r flags room d may_write generation size moment =
-    errs_if (opens_to_write flags && not may_write) eacces
-    (errs_if room.full emfile
-    (open_name r flags room d (record { path = d.path; generation = generation })))
+abbrev pub open_file : NodeRequest → ℕ → Room → Spot → OnFile
+open_file r flags room at generation size moment =
+    errs_if (opens_to_write flags && not at.may_write) eacces
+    (errs_if room.full emfile (open_name r flags room at.document (name_at at generation)))
 
 abbrev pub open_folder : Folder → Walk NodeVerdict
 open_folder folder = errs eisdir

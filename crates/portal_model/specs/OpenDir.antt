@@ -1,17 +1,19 @@
 -- FUSE_OPENDIR (include/uapi/linux/fuse.h): a folder, and the entries that it has then.
 use Rattle.std.specs.Prelude.{ℕ, ◌+◌, ◌==◌, codes, List, [], ◌∷◌, ◌++◌, map, Bool, true, false, Option, cond}
-use Rattle.portal_base.specs.Names.{doc_text, name_of}
+use Rattle.portal_base.specs.Names.{doc_text, is_same, name_of}
+use Rattle.portal_base.specs.declared.files.ChildName.{ChildName}
 use Rattle.portal_base.specs.declared.files.Look.{Look}
 use Rattle.portal_model.specs.declared.handle.Handle.{Handle}
 use Rattle.portal_model.specs.declared.reply.DirName.{DirName}
 use Rattle.portal_model.specs.declared.reply.NodeAnswer.TheVariants as NodeAnswer
 use Rattle.portal_model.specs.declared.request.NodeRequest.{NodeRequest}
-use Rattle.portal_model.specs.Errno.{emfile, enotdir}
+use Rattle.portal_model.specs.declared.state.Document.{Document}
+use Rattle.portal_model.specs.Errno.{emfile, enoent, enotdir}
 use Rattle.portal_model.specs.Lookup.{by_app}
-use Rattle.portal_model.specs.NodeVerdict.{NodeVerdict, FilesStay, Opens, Room, Yields, by_place, errs_if, next_handle, no_file}
+use Rattle.portal_model.specs.NodeVerdict.{NodeVerdict, Errs, FilesStay, NamesStay, Opens, Room, Yields, by_place, errs_if, next_handle, no_file}
 use Rattle.portal_model.specs.Ordered.{bytes_less, put_all}
-use Rattle.portal_model.specs.Place.{Folder, RootOf, Views, FolderOf, Sight, by_app_node, file_node, folder_node, root_node}
-use Rattle.portal_model.specs.Walk.{Walk, Answers, Looks, AtPath}
+use Rattle.portal_model.specs.Place.{Folder, RootOf, Views, FolderOf, Exported, Sight, by_app_node, file_node, folder_node, root_node}
+use Rattle.portal_model.specs.Walk.{Walk, Answers, Lists, Looks, AtPath}
 
 -- ---- the entries of a folder
 
@@ -47,11 +49,27 @@ name_less a b = bytes_less a.name b.name
 abbrev pub names_of_views : List (List ℕ) → List DirName
 names_of_views applications = put_all name_less (views_from 1 applications)
 
--- a document's folder has its file where the tree has one
-abbrev pub names_of_look : ℕ → List ℕ → Look → List DirName
-names_of_look node path (Look.File generation size moment) = file_entry node (name_of path) ∷ []
-names_of_look node path Look.Folder = []
-names_of_look node path Look.Missing = []
+-- a document's folder has its file where the tree has one, and of a document that is a folder that
+-- folder too
+abbrev pub names_of_look : ℕ → Document → Look → List DirName
+names_of_look node d (Look.File generation size moment) = file_entry node (name_of d.path) ∷ []
+names_of_look node d Look.Folder = cond d.folder (folder_entry node (name_of d.path) ∷ []) []
+names_of_look node d Look.Missing = []
+
+-- what an exported folder has, and one below it: no entry has a node of its own before it is named
+abbrev pub unnamed_node : ℕ
+unnamed_node = 4294967295
+
+abbrev pub entry_of_child : ChildName → DirName
+entry_of_child c = record { node = unnamed_node; name = c.name; folder = c.folder }
+
+abbrev pub names_of_children : List ChildName → List DirName
+names_of_children names = map entry_of_child names
+
+-- the exported folder stands in the document's, and what is below it in a folder without a number
+abbrev pub parent_of_exported : ℕ → Document → List ℕ → ℕ
+parent_of_exported view d path =
+    cond (is_same path d.path) (folder_node view d.id.number) unnamed_node
 
 -- ---- the request
 
@@ -60,6 +78,7 @@ opened_folder r room parent names = Yields (record {
   answer = NodeAnswer.Opened (next_handle room);
   file = FilesStay;
   handle = Opens (Handle.Folder r.node (with_dots r.node parent names));
+  names = NamesStay;
 })
 
 abbrev pub open_found : NodeRequest → Room → Folder → Walk NodeVerdict
@@ -70,7 +89,11 @@ open_found r room (Views applications) =
 open_found r room (FolderOf view d may_write) =
     Looks (AtPath d.path) (λ look. Answers
     (opened_folder r room (root_node view)
-    (names_of_look (file_node view d.id.number) d.path look)))
+    (names_of_look (file_node view d.id.number) d look)))
+open_found r room (Exported view d path may_write) =
+    Lists path
+    (λ children. opened_folder r room (parent_of_exported view d path) (names_of_children children))
+    (Errs enoent)
 
 abbrev pub open_dir_in : NodeRequest → Room → Folder → Walk NodeVerdict
 open_dir_in r room folder = errs_if room.full emfile (open_found r room folder)

@@ -1,17 +1,20 @@
 -- The nodes of the file view: the arithmetic of their numbers, and what a caller finds at them.
 -- A number is view * 2^36 + kind * 2^32 + id. The view 0 is the caller's own, the view k that of
 -- application k, for the host alone.
-use Rattle.std.specs.Prelude.{ℕ, zero, suc, ◌==◌, ◌&&◌, List, map, Bool, Option, Some, None, cond, option_map}
+use Rattle.std.specs.Prelude.{ℕ, zero, suc, ◌==◌, ◌&&◌, List, map, Bool, true, false, Option, Some, None, cond, option_map}
 use Rattle.std.specs.List.{filter}
 use Rattle.portal_base.specs.declared.who.Who.{Who}
+use Rattle.portal_model.specs.declared.naming.Naming.{Naming}
 use Rattle.portal_model.specs.declared.place.Place.{Place}
 use Rattle.portal_model.specs.declared.rights.Right.TheVariants.{Read, Write}
+use Rattle.portal_model.specs.declared.state.Connection.{Connection}
 use Rattle.portal_model.specs.declared.state.Document.{Document}
 use Rattle.portal_model.specs.declared.state.Triple.{Triple}
 use Rattle.portal_model.specs.Applications.{name_of_number}
 use Rattle.portal_model.specs.ListDocuments.{lower}
 use Rattle.portal_model.specs.Ordered.{put_all}
 use Rattle.portal_model.specs.Reach.{Reach, Reaching, no_reach}
+use Rattle.portal_model.specs.SeatNames.{naming_of}
 use Rattle.portal_model.specs.State.{State, document_of, has, is_host, who_has}
 pub use Rattle.portal_model.specs.NodeNumbers.{view_of_node, kind_of_node, id_of_node, node_number}
 
@@ -23,12 +26,18 @@ place_of_kind_0 view id =
     cond (id == 1) (Some (Place.Root view))
     (cond (id == 2 && view == 0) (Some Place.ByApp) None)
 
--- kind 1 is a document's folder, kind 2 a document's file
+-- what a connection named has numbers from 1
+abbrev pub place_from_one : (ℕ → Place) → ℕ → Option Place
+place_from_one place k = cond (k == 0) None (Some (place k))
+
+-- kind 1 is a document's folder, kind 2 a document's file or the folder that it exports, kind 4 a
+-- name below an exported folder
 abbrev pub place_of_parts : ℕ → ℕ → ℕ → Option Place
 place_of_parts view kind id =
     cond (kind == 0) (place_of_kind_0 view id)
     (cond (kind == 1) (Some (Place.Folder view (record { number = id })))
-    (cond (kind == 2) (Some (Place.File view (record { number = id }))) None))
+    (cond (kind == 2) (Some (Place.File view (record { number = id })))
+    (cond (kind == 4) (place_from_one (Place.Named view) id) None)))
 
 -- what a number names, whoever asks
 abbrev pub place_named : ℕ → Option Place
@@ -46,12 +55,16 @@ folder_node view number = node_number view 1 number
 abbrev pub file_node : ℕ → ℕ → ℕ
 file_node view number = node_number view 2 number
 
+abbrev pub named_node : ℕ → ℕ → ℕ
+named_node view k = node_number view 4 k
+
 -- the number of a place
 abbrev pub node_of : Place → ℕ
 node_of (Place.Root view) = root_node view
 node_of Place.ByApp = by_app_node
 node_of (Place.Folder view id) = folder_node view id.number
 node_of (Place.File view id) = file_node view id.number
+node_of (Place.Named view k) = named_node view k
 
 -- the file of a document, in the caller's own view
 abbrev pub is_own_file : ℕ → Bool
@@ -68,19 +81,30 @@ pub data Folder : Type 0 where
   Views : List (List ℕ) → Folder
   -- the folder of a document: the view, the document, and whether the subject may write the file
   FolderOf : ℕ → Document → Bool → Folder
+  -- an exported folder, or one below it: the view, the document, the path, and whether the subject
+  -- may write there
+  Exported : ℕ → Document → List ℕ → Bool → Folder
 
 -- what a caller sees at a place
 pub data Sight : Type 0 where
   -- a document's file: the document, and whether the subject may write the file
   SightOfFile : Document → Bool → Sight
+  -- a file or a folder, as a look of its path tells: the exported one or what lies below it, told
+  -- by the view, the document, the path and the same
+  SightBelow : ℕ → Document → List ℕ → Bool → Sight
   SightOfFolder : Folder → Sight
 
+-- at the path of a document, by whether it is a folder
+abbrev pub sight_at_path : ℕ → Document → Bool → Bool → Sight
+sight_at_path view d true may_write = SightBelow view d d.path may_write
+sight_at_path view d false may_write = SightOfFile d may_write
+
 -- a document's file is seen exactly where the subject has the right to read the document
-abbrev pub sight_of_document : List Triple → Who → Option Document → Option Sight
-sight_of_document rights who None = None
-sight_of_document rights who (Some d) =
+abbrev pub sight_of_document : ℕ → List Triple → Who → Option Document → Option Sight
+sight_of_document view rights who None = None
+sight_of_document view rights who (Some d) =
     cond (who_has rights who d.id.number Read)
-    (Some (SightOfFile d (who_has rights who d.id.number Write))) None
+    (Some (sight_at_path view d d.folder (who_has rights who d.id.number Write))) None
 
 -- and so is its folder
 abbrev pub sight_of_folder : ℕ → List Triple → Who → Option Document → Option Sight
@@ -88,6 +112,13 @@ sight_of_folder view rights who None = None
 sight_of_folder view rights who (Some d) =
     cond (who_has rights who d.id.number Read)
     (Some (SightOfFolder (FolderOf view d (who_has rights who d.id.number Write)))) None
+
+-- and what was named below an exported folder
+abbrev pub sight_below : ℕ → List Triple → Who → List ℕ → Option Document → Option Sight
+sight_below view rights who path None = None
+sight_below view rights who path (Some d) =
+    cond (who_has rights who d.id.number Read)
+    (Some (SightBelow view d path (who_has rights who d.id.number Write))) None
 
 abbrev pub may_read : List Triple → Who → Document → Bool
 may_read rights who d = who_has rights who d.id.number Read
@@ -122,25 +153,43 @@ sight_of_root s caller view who =
 abbrev pub sight_of_views : State → Who → Option Sight
 sight_of_views s caller = cond (is_host caller) (Some (SightOfFolder (Views s.applications))) None
 
--- what a caller sees at a place
-abbrev pub sight_of_place : State → Who → Place → Option Sight
-sight_of_place s caller (Place.Root view) =
+-- A name below an exported folder is there in its own view alone.
+abbrev pub sight_of_naming : State → ℕ → Who → Option Naming → Option Sight
+sight_of_naming s view who None = None
+sight_of_naming s view who (Some n) =
+    cond (n.view == view)
+    (sight_below view s.rights who n.path (document_of s.documents n.document.number)) None
+
+-- What a caller sees at a place. What the connection that asks has named by the number of a node
+-- below an exported folder is passed over at other places.
+abbrev pub sight_of_place : State → Who → Option Naming → Place → Option Sight
+sight_of_place s caller naming (Place.Root view) =
     seen_by (subject_of s.applications caller view) (sight_of_root s caller view)
-sight_of_place s caller Place.ByApp = sight_of_views s caller
-sight_of_place s caller (Place.Folder view id) =
+sight_of_place s caller naming Place.ByApp = sight_of_views s caller
+sight_of_place s caller naming (Place.Folder view id) =
     seen_by (subject_of s.applications caller view)
     (λ who. sight_of_folder view s.rights who (document_of s.documents id.number))
-sight_of_place s caller (Place.File view id) =
+sight_of_place s caller naming (Place.File view id) =
     seen_by (subject_of s.applications caller view)
-    (λ who. sight_of_document s.rights who (document_of s.documents id.number))
+    (λ who. sight_of_document view s.rights who (document_of s.documents id.number))
+sight_of_place s caller naming (Place.Named view k) =
+    seen_by (subject_of s.applications caller view) (λ who. sight_of_naming s view who naming)
 
-abbrev pub sight_at : State → Who → Option Place → Option Sight
-sight_at s caller None = None
-sight_at s caller (Some p) = sight_of_place s caller p
+abbrev pub sight_at : State → Who → Option Naming → Option Place → Option Sight
+sight_at s caller naming None = None
+sight_at s caller naming (Some p) = sight_of_place s caller naming p
 
 -- what a caller sees at a node
-abbrev pub place_of : State → Who → ℕ → Option Sight
-place_of s caller node = sight_at s caller (place_named node)
+abbrev pub place_of : State → Who → Option Naming → ℕ → Option Sight
+place_of s caller naming node = sight_at s caller naming (place_named node)
+
+-- what a connection has named by the number in a node
+abbrev pub naming_on : Connection → ℕ → Option Naming
+naming_on c node = naming_of c.namings (id_of_node node)
+
+-- what a connection that asks sees at a node
+abbrev pub sight_on : State → Connection → ℕ → Option Sight
+sight_on s c node = place_of s c.who (naming_on c node) node
 
 -- ---- the rights that are looked at anew
 

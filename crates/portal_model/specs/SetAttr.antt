@@ -4,10 +4,9 @@ use Rattle.portal_base.specs.declared.files.FileName.{FileName}
 use Rattle.portal_model.specs.declared.handle.Handle.{Handle}
 use Rattle.portal_model.specs.declared.reply.NodeAnswer.TheVariants as NodeAnswer
 use Rattle.portal_model.specs.declared.request.NodeRequest.{NodeRequest}
-use Rattle.portal_model.specs.declared.state.Document.{Document}
-use Rattle.portal_model.specs.Attributes.{attr_of_file, attr_of_folder, on_node}
+use Rattle.portal_model.specs.Attributes.{attr_of_file, attr_of_folder, is_writable, on_node}
 use Rattle.portal_model.specs.Errno.{eacces, ebadf, efbig, eisdir, enoent, eperm}
-use Rattle.portal_model.specs.NodeVerdict.{NodeVerdict, OnFile, OnHandle, Errs, Resizes, at_name, by_file_handle, by_place, changes, errs_if, told}
+use Rattle.portal_model.specs.NodeVerdict.{NodeVerdict, OnFile, OnHandle, Errs, Resizes, Spot, at_name, by_file_handle, by_place, changes, errs_if, name_at, told}
 use Rattle.portal_model.specs.Place.{Folder, Sight}
 use Rattle.portal_model.specs.Reach.{OpenFile, Reaching, may_write_now, reaches}
 use Rattle.portal_model.specs.Walk.{Walk, Ends, Changes}
@@ -46,13 +45,14 @@ set_attr_of r a name may_write size moment =
     (errs_if (nat_lt a.limit a.size) efbig (resize r a name may_write)))
     (told (NodeAnswer.Attr (attr_of_file r may_write size moment)))
 
-abbrev pub set_attr_at : NodeRequest → SetsAttr → Document → Bool → OnFile
-set_attr_at r a d may_write generation size moment =
-    set_attr_of r a (record { path = d.path; generation = generation }) may_write size moment
+abbrev pub set_attr_at : NodeRequest → SetsAttr → Spot → OnFile
+set_attr_at r a at generation size moment =
+    set_attr_of r a (name_at at generation) at.may_write size moment
 
 abbrev pub set_attr_of_folder : NodeRequest → SetsAttr → Folder → Walk NodeVerdict
 set_attr_of_folder r a folder =
-    errs_if (sets_size a.valid) eisdir (told (NodeAnswer.Attr (attr_of_folder r)))
+    errs_if (sets_size a.valid) eisdir
+    (told (NodeAnswer.Attr (attr_of_folder r (is_writable folder))))
 
 abbrev pub set_attr_of_open : Reaching → NodeRequest → SetsAttr → OpenFile → OnFile
 set_attr_of_open reach r a file generation size moment =

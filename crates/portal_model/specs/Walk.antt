@@ -2,10 +2,12 @@
 -- by what was shown so far. What the tree gives to a request, where a call may fail and whether
 -- the clock is read follow from this, once for all requests on documents and on nodes.
 use Rattle.std.specs.Prelude.{◌≡◌, ℕ, List, [], ◌∷◌, length, Bool, true, false, Option, Some, None, cond, is_some}
+use Rattle.portal_base.specs.declared.files.ChildName.{ChildName}
 use Rattle.portal_base.specs.declared.files.FileName.{FileName}
 use Rattle.portal_base.specs.declared.files.File.{File}
 use Rattle.portal_base.specs.declared.files.Look.{Look}
-use Rattle.portal_base.specs.Content.{file_named, has_room, look_at}
+use Rattle.portal_base.specs.Content.{file_named, has_room, is_folder, look_at}
+use Rattle.portal_base.specs.FolderNames.{AreInOrder, names_in}
 
 -- what is looked at: what stands at a path, or the file of a name
 pub data Target : Type 0 where
@@ -21,11 +23,13 @@ pub data LastCall : Type 0 where
 
 -- A walk answers. Or it looks at a target, and goes on as that shows. Or it ends with a call: the
 -- one answer, by the moment of now, where that is done; the other where there was no such file,
--- or no place for one.
+-- or no place for one. Or it ends with a list of the names in a folder: the one answer by these,
+-- the other where there is no folder.
 pub data Walk (X : Type 0) : Type 0 where
   Answers : X → Walk X
   Looks : Target → (Look → Walk X) → Walk X
   Ends : LastCall → (ℕ → X) → X → Walk X
+  Lists : List ℕ → (List ChildName → X) → X → Walk X
 
 -- paths looked at one after another, whatever they show; what comes then is told by all of it
 abbrev pub looks_at_all : {X : Type 0} → List (List ℕ) → (List Look → Walk X) → Walk X
@@ -35,15 +39,29 @@ looks_at_all (path ∷ paths) next =
 
 -- ---- what comes of a walk
 
+-- what a list gives: the names, or that there is no folder
+abbrev pub listed_by : {X : Type 0} → (List ChildName → X) → X → Option (List ChildName) → X
+listed_by done missing None = missing
+listed_by done missing (Some names) = done names
+
 -- what is shown is given in order, and `failed` says that the call behind it failed; then there
 -- is no answer
+abbrev pub walked_with :
+    {X : Type 0} → Walk X → ℕ → Option (List ChildName) → List Look → Bool → Option X
+walked_with (Answers x) now listed looks failed = Some x
+walked_with (Looks target next) now listed [] failed = None
+walked_with (Looks target next) now listed (look ∷ looks) failed =
+    walked_with (next look) now listed looks failed
+walked_with (Ends call done missing) now listed [] true = None
+walked_with (Ends call done missing) now listed [] false = Some (done now)
+walked_with (Ends call done missing) now listed (look ∷ looks) failed = Some missing
+walked_with (Lists path done missing) now listed looks true = None
+walked_with (Lists path done missing) now listed looks false =
+    Some (listed_by done missing listed)
+
+-- where nothing is listed
 abbrev pub walked : {X : Type 0} → Walk X → ℕ → List Look → Bool → Option X
-walked (Answers x) now looks failed = Some x
-walked (Looks target next) now [] failed = None
-walked (Looks target next) now (look ∷ looks) failed = walked (next look) now looks failed
-walked (Ends call done missing) now [] true = None
-walked (Ends call done missing) now [] false = Some (done now)
-walked (Ends call done missing) now (look ∷ looks) failed = Some missing
+walked walk now looks failed = walked_with walk now None looks failed
 
 abbrev pub changes_file : LastCall → Bool
 changes_file (Uses name) = false
@@ -56,6 +74,7 @@ reads_clock (Answers x) looks = false
 reads_clock (Looks target next) [] = false
 reads_clock (Looks target next) (look ∷ looks) = reads_clock (next look) looks
 reads_clock (Ends call done missing) looks = changes_file call
+reads_clock (Lists path done missing) looks = false
 
 -- ---- what a tree may give to a walk
 
@@ -90,6 +109,16 @@ abbrev pub IsFound : Option (List File) → LastCall → Bool → Type 0
 IsFound None call found = Unit {0}
 IsFound (Some files) call found = found ≡ is_found files call
 
+-- the names that these files give to a folder, where there is one
+abbrev pub names_listed : List File → List ℕ → Option (List ChildName)
+names_listed files path = cond (is_folder files path) (Some (names_in files path)) None
+
+-- names are listed in byte order, and are those of the files that a tree tells
+abbrev pub IsListed : Option (List File) → List ℕ → Option (List ChildName) → Type 0
+IsListed None path None = Unit {0}
+IsListed None path (Some names) = AreInOrder names
+IsListed (Some files) path listed = listed ≡ names_listed files path
+
 -- The looks are just those that the walk uses. Where a call failed, they are those ahead of it,
 -- and the walk makes that call. A last call that found nothing shows one look more, that nothing
 -- is there.
@@ -102,6 +131,19 @@ Gives tree (Ends call done missing) [] true = Unit {0}
 Gives tree (Ends call done missing) [] false = IsFound tree call true
 Gives tree (Ends call done missing) (look ∷ looks) failed =
     (look ≡ Look.Missing) × (looks ≡ []) × (failed ≡ false) × IsFound tree call false
+Gives tree (Lists path done missing) looks failed = looks ≡ []
+
+-- Names are listed just where the walk ends with a list that doesn't fail, and there is a folder.
+abbrev pub GivesNames :
+    {X : Type 0} → Option (List File) → Walk X → List Look → Option (List ChildName) → Bool
+    → Type 0
+GivesNames tree (Answers x) looks listed failed = listed ≡ None
+GivesNames tree (Looks target next) [] listed failed = listed ≡ None
+GivesNames tree (Looks target next) (look ∷ looks) listed failed =
+    GivesNames tree (next look) looks listed failed
+GivesNames tree (Ends call done missing) looks listed failed = listed ≡ None
+GivesNames tree (Lists path done missing) looks listed true = listed ≡ None
+GivesNames tree (Lists path done missing) looks listed false = IsListed tree path listed
 
 -- the looks that a tree of these files gives, where nothing fails
 abbrev pub looks_shown : {X : Type 0} → List File → Walk X → List Look
@@ -109,3 +151,11 @@ looks_shown files (Answers x) = []
 looks_shown files (Looks target next) =
     shown_at files target ∷ looks_shown files (next (shown_at files target))
 looks_shown files (Ends call done missing) = cond (is_found files call) [] (Look.Missing ∷ [])
+looks_shown files (Lists path done missing) = []
+
+-- and the names that it lists
+abbrev pub listed_shown : {X : Type 0} → List File → Walk X → Option (List ChildName)
+listed_shown files (Answers x) = None
+listed_shown files (Looks target next) = listed_shown files (next (shown_at files target))
+listed_shown files (Ends call done missing) = None
+listed_shown files (Lists path done missing) = names_listed files path

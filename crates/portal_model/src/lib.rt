@@ -17,7 +17,7 @@
 //! | `store`, `datum` | the calls of the permission store, its entries and their data |
 //! | `errno` | the numbers of errors on nodes |
 //! | `laws`, `document_laws`, `node_laws`, `store_laws` | laws of histories, of requests on documents and on nodes, and of data |
-//! | `examples`, `document_examples`, `file_examples`, `store_examples` | cases that are worked out by hand, computed over the definitions |
+//! | `examples`, `document_examples`, `file_examples`, `folder_examples`, `store_examples` | cases that are worked out by hand, computed over the definitions |
 //!
 //! ```text
 //! let asked = Request::Enter { who: Who::Host, kind: Kind::Bus };
@@ -36,6 +36,7 @@ pub mod entry;
 pub mod errno;
 pub mod examples;
 pub mod file_examples;
+pub mod folder_examples;
 pub mod handle;
 pub mod laws;
 pub mod naming;

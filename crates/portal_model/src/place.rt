@@ -41,12 +41,19 @@ pub enum Place {
         /// The document's identifier.
         id: DocId,
     },
-    /// The file of a document.
+    /// The file of a document, or the folder that it is.
     File {
         /// The view.
         view: u32,
         /// The document's identifier.
         id: DocId,
+    },
+    /// What the caller's connection named below a folder that is a document.
+    Named {
+        /// The view.
+        view: u32,
+        /// The number of the naming on the connection, from 1.
+        k: u32,
     },
 }
 

@@ -13,7 +13,7 @@ use Rattle.portal_model.specs.Kept.{records_of}
 use Rattle.portal_model.specs.Present.{with_queue}
 use Rattle.portal_model.specs.State.{State}
 use Rattle.portal_model.specs.Verdict.{Verdict, Refuses, Does, unless, walk_unless}
-use Rattle.portal_model.specs.Walk.{Walk, Answers, Looks, Ends, Gives, looks_at_all, walked}
+use Rattle.portal_model.specs.Walk.{Walk, Answers, Looks, Ends, Lists, Gives, looks_at_all, walked}
 use Rattle.portal_steps.proofs.CallVerdicts.{is_fault_code}
 
 -- ---- no refusal tells that a device failed
@@ -58,6 +58,8 @@ gives-none told now failed (look ∷ looks) (Looks target next) k e = gives-none
 gives-none told now true [] (Ends call done missing) k e = refl
 gives-none told now false [] (Ends call done missing) k e = cc
 gives-none told now failed (look ∷ looks) (Ends call done missing) k e = cc
+gives-none told now true looks (Lists path done missing) k e = refl
+gives-none told now false looks (Lists path done missing) k e = cc
 
 pub gives-some : {X : Type 0} (told : Option (List File)) (now : ℕ) (failed : Bool) (looks : List Look) (walk : Walk X) (x : X) → Gives told walk looks failed → walked walk now looks failed ≡ Some x → failed ≡ false
 gives-some told now failed looks (Answers x) y k e = k.1
@@ -66,6 +68,8 @@ gives-some told now failed (look ∷ looks) (Looks target next) y k e = gives-so
 gives-some told now true [] (Ends call done missing) y k e = cc
 gives-some told now false [] (Ends call done missing) y k e = refl
 gives-some told now failed (look ∷ looks) (Ends call done missing) y k e = k.2
+gives-some told now true looks (Lists path done missing) y k e = cc
+gives-some told now false looks (Lists path done missing) y k e = refl
 
 -- ---- the state after a refusal
 

@@ -4,6 +4,7 @@ use Rattle.std.proofs.Common.{◌≡◌, ℕ, ◌==◌, List, [], ◌∷◌, ◌
 use Rattle.std.proofs.lemmas.Bool.Decides.{nat_tests}
 use Rattle.std.proofs.lemmas.List.{map-append}
 use Rattle.change_signals.specs.Unsent.{AtSeat, Boxes, IsSame, entered, holding, left, unsent_on}
+use Rattle.node_serving.specs.Seats.{unnamed}
 use Rattle.portal_base.specs.declared.who.Kind.{Kind}
 use Rattle.portal_base.specs.declared.who.Who.{Who}
 use Rattle.portal_model.specs.declared.reply.Change.{Change}
@@ -49,9 +50,21 @@ pub bus-silent : (o : Option Connection) → bus_of (option_map silent o) ≡ op
 bus-silent None = refl
 bus-silent (Some c) = elim (is_mount c.kind) as (λ b. cond b None (Some (silent c)) ≡ option_map silent (cond b None (Some c))) [ true ↦ refl | false ↦ refl ]
 
-pub mount-silent : (o : Option Connection) → mount_of (option_map silent o) ≡ option_map silent (mount_of o)
-mount-silent None = refl
-mount-silent (Some c) = elim (is_mount c.kind) as (λ b. cond b (Some (silent c)) None ≡ option_map silent (cond b (Some c) None)) [ true ↦ refl | false ↦ refl ]
+-- a connection but for what it waits for
+abbrev pub hushed : Connection → Connection
+hushed c = record c { unsent = [] }
+
+pub hushed-found : (cs : List Connection) (q : ℕ) → connection_of (map hushed cs) q ≡ option_map hushed (connection_of cs q)
+hushed-found cs q = found-mapped hushed cs q (λ c. refl)
+
+pub mount-hushed : (o : Option Connection) → mount_of (option_map hushed o) ≡ option_map hushed (mount_of o)
+mount-hushed None = refl
+mount-hushed (Some c) = elim (is_mount c.kind) as (λ b. cond b (Some (hushed c)) None ≡ option_map hushed (cond b (Some c) None)) [ true ↦ refl | false ↦ refl ]
+
+-- what it has named goes too
+pub hushed-unnamed : (cs : List Connection) → map unnamed (map hushed cs) ≡ map silent cs
+hushed-unnamed [] = refl
+hushed-unnamed (c ∷ cs) = ap (λ (xs : List Connection). silent c ∷ xs) (hushed-unnamed cs)
 
 -- ---- one connection is told
 
@@ -114,13 +127,13 @@ pub silent-told : (seat : ℕ) (cs : List Connection) → map silent (map (told_
 silent-told seat [] = refl
 silent-told seat (c ∷ cs) = λ i. silent-told-one seat c i ∷ silent-told seat cs i
 
--- a silent connection stays as it is
-told-silent-one : (seat : ℕ) (c : Connection) → told_of seat (silent c) ≡ silent c
-told-silent-one seat c = elim (c.seat == seat) as (λ b. cond b (record (silent c) { unsent = [] }) (silent c) ≡ silent c) [ true ↦ refl | false ↦ refl ]
+-- one that waits for nothing stays as it is
+told-hushed-one : (seat : ℕ) (c : Connection) → told_of seat (hushed c) ≡ hushed c
+told-hushed-one seat c = elim (c.seat == seat) as (λ b. cond b (record (hushed c) { unsent = [] }) (hushed c) ≡ hushed c) [ true ↦ refl | false ↦ refl ]
 
-pub told-silent : (seat : ℕ) (cs : List Connection) → map (told_of seat) (map silent cs) ≡ map silent cs
-told-silent seat [] = refl
-told-silent seat (c ∷ cs) = λ i. told-silent-one seat c i ∷ told-silent seat cs i
+pub told-hushed : (seat : ℕ) (cs : List Connection) → map (told_of seat) (map hushed cs) ≡ map hushed cs
+told-hushed seat [] = refl
+told-hushed seat (c ∷ cs) = λ i. told-hushed-one seat c i ∷ told-hushed seat cs i
 
 -- ---- where the seat has no open bus, nothing is told
 

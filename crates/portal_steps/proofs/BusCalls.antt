@@ -19,7 +19,7 @@ use Rattle.portal_model.specs.Outside.{files_told}
 use Rattle.portal_model.specs.State.{State}
 use Rattle.portal_model.specs.Step.{all_told}
 use Rattle.portal_model.specs.Verdict.{Verdict, walk_unless}
-use Rattle.portal_model.specs.Walk.{Walk, Answers, Looks, Ends, Gives, looks_at_all, reads_clock}
+use Rattle.portal_model.specs.Walk.{Walk, Answers, Looks, Ends, Lists, Gives, looks_at_all, reads_clock}
 use Rattle.portal_steps.specs.Documents.{is_document_call}
 use Rattle.portal_steps.specs.TreeCalls.{bus_calls, document_calls, only_looks, request_calls}
 use Rattle.portal_steps.proofs.CallVerdicts.{is_on_bus, walk-is}
@@ -40,6 +40,7 @@ abbrev OnlyLooks : {X : Type 0} → Walk X → Type 0
 OnlyLooks (Answers x) = Unit {0}
 OnlyLooks (Looks target next) = (call_at target ≡ TreeCall.Look) × ((look : Look) → OnlyLooks (next look))
 OnlyLooks (Ends call done missing) = ⊥
+OnlyLooks (Lists path done missing) = ⊥
 
 answered-calls : (looks : List Look) (failed : Bool) → looks ≡ [] → failed ≡ false → [] ≡ listed (length looks) failed
 answered-calls [] false e f = refl
@@ -53,12 +54,14 @@ walk-calls last told (look ∷ looks) failed (Looks target next) o g =
     ap (λ (k : TreeCall). unfailed k ∷ calls_by last (next look) looks failed) o.0
     ∙ ap (λ (l : List Call). unfailed TreeCall.Look ∷ l) (walk-calls last told looks failed (next look) (o.1 look) g.1)
 walk-calls last told looks failed (Ends call done missing) o g = absurd o
+walk-calls last told looks failed (Lists path done missing) o g = absurd o
 
 walk-clock : {X : Type 0} (looks : List Look) (w : Walk X) → OnlyLooks w → reads_clock w looks ≡ false
 walk-clock looks (Answers x) o = refl
 walk-clock [] (Looks target next) o = refl
 walk-clock (look ∷ looks) (Looks target next) o = walk-clock looks (next look) (o.1 look)
 walk-clock looks (Ends call done missing) o = absurd o
+walk-clock looks (Lists path done missing) o = absurd o
 
 -- ---- the requests on documents
 

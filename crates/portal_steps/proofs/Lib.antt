@@ -1,5 +1,6 @@
 pub mod Boxes
 pub mod OpenSteps
+pub mod NamedSteps
 pub mod QuietNodes
 pub mod Steps
 pub mod NodeSteps

@@ -1,9 +1,10 @@
 -- What a request on a node asks of the devices, and how it is replied to.
 use Rattle.std.proofs.Common.{◌≡◌, ◌≢◌, ℕ, List, [], ◌∷◌, map, Bool, true, false, Option, Some, None, refl, sym, ap, subst, ◌∙◌}
 use Rattle.node_looks.specs.TreeCalls.{Call, after_calls, unfailed}
-use Rattle.file_ops.specs.Wanting.{may_call_in_vain, may_change_file}
+use Rattle.file_ops.specs.Wanting.{may_be_below, may_call_in_vain, may_change_file, vain_by}
 use Rattle.node_looks.specs.declared.served.NodeDone.{NodeDone}
 use Rattle.host_tree.specs.Trees.{TreeIs, after_call}
+use Rattle.folder_documents.specs.Named.{Named}
 use Rattle.node_serving.specs.Seats.{ServesSeat}
 use Rattle.open_handles.specs.Opened.{HandleTable}
 use Rattle.portal_base.specs.declared.files.File.{File}
@@ -59,17 +60,20 @@ call-off-nodes (Request.Node r) h = absurd (cc)
 call-off-nodes request h = refl
 
 -- a request that doesn't call the tree in vain changes no file
-pub still-file : (op : NodeOp) → may_call_in_vain op ≡ false → may_change_file op ≡ false
-still-file (NodeOp.SetAttr valid fh size) h = absurd (cc)
-still-file (NodeOp.Open flags) h = absurd (cc)
-still-file (NodeOp.Create name flags) h = absurd (cc)
-still-file (NodeOp.Write fh offset content) h = absurd (cc)
-still-file op h = refl
+still-op : (below : Bool) (op : NodeOp) → vain_by below op ≡ false → may_change_file op ≡ false
+still-op below (NodeOp.SetAttr valid fh size) h = absurd (cc)
+still-op below (NodeOp.Open flags) h = absurd (cc)
+still-op below (NodeOp.Create name flags) h = absurd (cc)
+still-op below (NodeOp.Write fh offset content) h = absurd (cc)
+still-op below op h = refl
+
+pub still-file : (r : NodeRequest) → may_call_in_vain r ≡ false → may_change_file r.op ≡ false
+still-file r h = still-op (may_be_below r.node) r.op h
 
 -- a tree that tells goes on telling
 pub told-on : (h : List Entry) (s : State) → (run s h).told ≡ s.told
 told-on [] s = refl
 told-on (e ∷ es) s = told-on es (after s e) ∙ step_told s e.seat e.request e.given
 
-pub replied-node : (told : Bool) (s : State) (seat : ℕ) (r : NodeRequest) (old : TreeIs) (done : NodeDone) (cs : List Connection) (table : HandleTable) (new : TreeIs) → s.told ≡ told → ServesSeat s seat r old done cs table new → Alike told (Request.Node r) (reply_at s (node_entry seat r done)) (reply_with [] done.answer)
-replied-node told s seat r old done cs table new e k = subst (λ (b : Bool). Alike b (Request.Node r) (reply_at s (node_entry seat r done)) (reply_with [] done.answer)) e k.reply
+pub replied-node : (told : Bool) (s : State) (seat : ℕ) (r : NodeRequest) (old : TreeIs) (done : NodeDone) (cs : List Connection) (table : HandleTable) (names : List (ℕ × Named)) (new : TreeIs) → s.told ≡ told → ServesSeat s seat r old done cs table names new → Alike told (Request.Node r) (reply_at s (node_entry seat r done)) (reply_with [] done.answer)
+replied-node told s seat r old done cs table names new e k = subst (λ (b : Bool). Alike b (Request.Node r) (reply_at s (node_entry seat r done)) (reply_with [] done.answer)) e k.reply

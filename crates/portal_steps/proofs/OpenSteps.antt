@@ -3,6 +3,8 @@ use Rattle.std.proofs.Common.{◌≡◌, ℕ, ◌==◌, List, [], ◌∷◌, ◌
 use Rattle.std.specs.List.{list_all}
 use Rattle.std.proofs.lemmas.Bool.Decides.{nat_tests}
 use Rattle.node_looks.specs.OpenHandles.{AreOpen, AreOpened, numbered, open_on}
+use Rattle.file_ops.specs.SeatNames.{AreNamed}
+use Rattle.folder_documents.specs.Named.{Named, named_on}
 use Rattle.node_serving.specs.Seats.{AreEntered}
 use Rattle.open_handles.specs.Opened.{AtSeat, Enters, HandleTable, Leaves, Opened, opened_on}
 use Rattle.portal_base.specs.declared.who.Kind.{Kind}
@@ -18,10 +20,10 @@ use Rattle.portal_model.specs.State.{State, connection_of, handles_of}
 use Rattle.portal_model.specs.Step.{all_told, told_of}
 use Rattle.portal_model.specs.StoreRequest.{tell_hosts, told_change}
 use Rattle.portal_model.specs.Valid.{has_host_path, is_host_bus, is_sound_handle, opened_here, viewed_here}
-use Rattle.portal_steps.proofs.Boxes.{joined-elsewhere, joined-here, left-elsewhere, left-here, silent-found, some-silent}
+use Rattle.portal_steps.proofs.Boxes.{hushed, hushed-found, joined-elsewhere, joined-here, left-elsewhere, left-here, silent-found, some-silent}
 use Rattle.store_serving.specs.Waiting.{silent}
 
-is-number : (a b : ℕ) → (a == b) ≡ true → a ≡ b
+pub is-number : (a b : ℕ) → (a == b) ≡ true → a ≡ b
 is-number a b e = grind (arith, nat_tests)
 
 turned : (a b : ℕ) (t : Bool) → (a == b) ≡ t → (b == a) ≡ t
@@ -29,11 +31,11 @@ turned a b t e = grind (arith, nat_tests)
 
 -- ---- connections that change
 
--- what is done to a connection leaves its seat and the last number that it was given
-abbrev Keeps : (Connection → Connection) → Type 0
-Keeps f = (c : Connection) → ((f c).seat ≡ c.seat) × ((f c).opens ≡ c.opens)
+-- what is done to a connection leaves its seat, the last number that it was given and what it has named
+abbrev pub Keeps : (Connection → Connection) → Type 0
+Keeps f = (c : Connection) → ((f c).seat ≡ c.seat) × ((f c).opens ≡ c.opens) × ((f c).namings ≡ c.namings)
 
-mapped-of : (f : Connection → Connection) (cs : List Connection) (q : ℕ) → Keeps f → connection_of (map f cs) q ≡ option_map f (connection_of cs q)
+pub mapped-of : (f : Connection → Connection) (cs : List Connection) (q : ℕ) → Keeps f → connection_of (map f cs) q ≡ option_map f (connection_of cs q)
 mapped-of f [] q k = refl
 mapped-of f (c ∷ cs) q k = ap (λ (n : ℕ). cond (n == q) (Some (f c)) (connection_of (map f cs) q)) (k c).0 ∙ by (c.seat == q) (mapped-of f cs q k)
   where
@@ -53,11 +55,15 @@ open-mapped s f table k a = record {
   each = λ q. subst (λ (o : Option Connection). AreOpened (open_on s.handles q) o (opened_on table.seats q)) (sym (mapped-of f s.connections q k)) (mapped-opened (open_on s.handles q) f (connection_of s.connections q) (opened_on table.seats q) k (a.each q));
 }
 
-told-keeps : (seat : ℕ) → Keeps (told_of seat)
-told-keeps seat c = elim (c.seat == seat) as (λ b. ((cond b (record c { unsent = [] }) c).seat ≡ c.seat) × ((cond b (record c { unsent = [] }) c).opens ≡ c.opens)) [ true ↦ (refl, refl) | false ↦ (refl, refl) ]
+pub told-keeps : (seat : ℕ) → Keeps (told_of seat)
+told-keeps seat c =
+    elim (c.seat == seat) as (λ b. ((cond b (record c { unsent = [] }) c).seat ≡ c.seat) × ((cond b (record c { unsent = [] }) c).opens ≡ c.opens) × ((cond b (record c { unsent = [] }) c).namings ≡ c.namings))
+    [ true ↦ (refl, refl, refl) | false ↦ (refl, refl, refl) ]
 
-requeued-keeps : (seat : ℕ) (change : List (List ℕ) → List (List ℕ)) → Keeps (requeued seat change)
-requeued-keeps seat change c = elim (c.seat == seat) as (λ b. ((cond b (record c { queue = change c.queue }) c).seat ≡ c.seat) × ((cond b (record c { queue = change c.queue }) c).opens ≡ c.opens)) [ true ↦ (refl, refl) | false ↦ (refl, refl) ]
+pub requeued-keeps : (seat : ℕ) (change : List (List ℕ) → List (List ℕ)) → Keeps (requeued seat change)
+requeued-keeps seat change c =
+    elim (c.seat == seat) as (λ b. ((cond b (record c { queue = change c.queue }) c).seat ≡ c.seat) × ((cond b (record c { queue = change c.queue }) c).opens ≡ c.opens) × ((cond b (record c { queue = change c.queue }) c).namings ≡ c.namings))
+    [ true ↦ (refl, refl, refl) | false ↦ (refl, refl, refl) ]
 
 pub open-told : (table : HandleTable) (s : State) (seat : ℕ) → AreOpen s table → AreOpen (all_told seat s) table
 open-told table s seat a = open-mapped s (told_of seat) table (told-keeps seat) a
@@ -65,25 +71,30 @@ open-told table s seat a = open-mapped s (told_of seat) table (told-keeps seat) 
 pub open-requeued : (table : HandleTable) (s : State) (seat : ℕ) (change : List (List ℕ) → List (List ℕ)) → AreOpen s table → AreOpen (with_queue seat change s) table
 open-requeued table s seat change a = open-mapped s (requeued seat change) table (requeued-keeps seat change) a
 
-heard-keeps : (change : Change) → Keeps (told_change change)
-heard-keeps change c = elim (is_host_bus c.who c.kind) as (λ b. ((cond b (record c { unsent = c.unsent ++ change ∷ [] }) c).seat ≡ c.seat) × ((cond b (record c { unsent = c.unsent ++ change ∷ [] }) c).opens ≡ c.opens)) [ true ↦ (refl, refl) | false ↦ (refl, refl) ]
+pub heard-keeps : (change : Change) → Keeps (told_change change)
+heard-keeps change c =
+    elim (is_host_bus c.who c.kind) as (λ b. ((cond b (record c { unsent = c.unsent ++ change ∷ [] }) c).seat ≡ c.seat) × ((cond b (record c { unsent = c.unsent ++ change ∷ [] }) c).opens ≡ c.opens) × ((cond b (record c { unsent = c.unsent ++ change ∷ [] }) c).namings ≡ c.namings))
+    [ true ↦ (refl, refl, refl) | false ↦ (refl, refl, refl) ]
 
 pub open-heard : (table : HandleTable) (s : State) (change : Change) → AreOpen s table → AreOpen (tell_hosts change s) table
 open-heard table s change a = open-mapped s (told_change change) table (heard-keeps change) a
 
 -- ---- what connections wait for has nothing to do with handles
 
-pub open-silent : (table : HandleTable) (s : State) → AreOpen s table → AreOpen (record s { connections = map silent s.connections }) table
-open-silent table s a = open-mapped s silent table (λ c. (refl, refl)) a
+pub hushed-keeps : Keeps hushed
+hushed-keeps c = (refl, refl, refl)
 
-pub open-loud : (table : HandleTable) (s : State) → AreOpen (record s { connections = map silent s.connections }) table → AreOpen s table
+pub open-hushed : (table : HandleTable) (s : State) → AreOpen s table → AreOpen (record s { connections = map hushed s.connections }) table
+open-hushed table s a = open-mapped s hushed table hushed-keeps a
+
+pub open-loud : (table : HandleTable) (s : State) → AreOpen (record s { connections = map hushed s.connections }) table → AreOpen s table
 open-loud table s a = record {
   limit = a.limit;
   each = λ q. loud (open_on s.handles q) (connection_of s.connections q) (opened_on table.seats q)
-      (subst (λ (o : Option Connection). AreOpened (open_on s.handles q) o (opened_on table.seats q)) (silent-found s.connections q) (a.each q));
+      (subst (λ (o : Option Connection). AreOpened (open_on s.handles q) o (opened_on table.seats q)) (hushed-found s.connections q) (a.each q));
 }
   where
-    loud : (hs : List (ℕ × Handle)) (o : Option Connection) (n : Option Opened) → AreOpened hs (option_map silent o) n → AreOpened hs o n
+    loud : (hs : List (ℕ × Handle)) (o : Option Connection) (n : Option Opened) → AreOpened hs (option_map hushed o) n → AreOpened hs o n
     loud hs None None h = tt
     loud hs None (Some n) h = h
     loud hs (Some c) None h = h
@@ -172,14 +183,34 @@ entered-alike hs None (Some n) a = absurd a
 entered-alike hs (Some c) None a = absurd a
 entered-alike hs (Some c) (Some n) a = refl
 
-pub are-entered : (s : State) (cs : List Connection) (table : HandleTable) → map silent s.connections ≡ cs → AreOpen s table → AreEntered cs table
-are-entered s cs table e a = λ q.
-    entered-alike (open_on s.handles q) (connection_of s.connections q) (opened_on table.seats q) (a.each q)
-    ∙ (sym (some-silent (connection_of s.connections q)) ∙ (ap (λ (o : Option Connection). is_some o) (sym (silent-found s.connections q)) ∙ ap (λ (l : List Connection). is_some (connection_of l q)) e))
+named-alike : (n : Option Named) (o : Option Connection) → option_map (λ x. x.namings) n ≡ option_map (λ c. c.namings) o → is_some n ≡ is_some o
+named-alike None None e = refl
+named-alike None (Some c) e = cc
+named-alike (Some n) None e = cc
+named-alike (Some n) (Some c) e = refl
+
+seats-alike : (s : State) (cs : List Connection) → map silent s.connections ≡ cs → (q : ℕ) → is_some (connection_of s.connections q) ≡ is_some (connection_of cs q)
+seats-alike s cs e q =
+    sym (some-silent (connection_of s.connections q)) ∙ (ap (λ (o : Option Connection). is_some o) (sym (silent-found s.connections q)) ∙ ap (λ (l : List Connection). is_some (connection_of l q)) e)
+
+pub are-entered : (s : State) (cs : List Connection) (table : HandleTable) (names : List (ℕ × Named)) → map silent s.connections ≡ cs → AreOpen s table → AreNamed s names → AreEntered cs table names
+are-entered s cs table names e a m = λ q. (
+  entered-alike (open_on s.handles q) (connection_of s.connections q) (opened_on table.seats q) (a.each q) ∙ seats-alike s cs e q,
+  named-alike (named_on names q) (connection_of s.connections q) (m q) ∙ seats-alike s cs e q,
+)
 
 pub not-entered : (s : State) (cs : List Connection) (table : HandleTable) (seat : ℕ) → map silent s.connections ≡ cs → AreOpen s table → connection_of cs seat ≡ None → opened_on table.seats seat ≡ None
-not-entered s cs table seat e a c = nothing (opened_on table.seats seat) (are-entered s cs table e a seat ∙ ap (λ (o : Option Connection). is_some o) c)
+not-entered s cs table seat e a c =
+    nothing (opened_on table.seats seat) (entered-alike (open_on s.handles seat) (connection_of s.connections seat) (opened_on table.seats seat) (a.each seat) ∙ (seats-alike s cs e seat ∙ ap (λ (o : Option Connection). is_some o) c))
   where
     nothing : (n : Option Opened) → is_some n ≡ false → n ≡ None
+    nothing None h = refl
+    nothing (Some n) h = absurd (cc)
+
+pub not-named : (s : State) (cs : List Connection) (names : List (ℕ × Named)) (seat : ℕ) → map silent s.connections ≡ cs → AreNamed s names → connection_of cs seat ≡ None → named_on names seat ≡ None
+not-named s cs names seat e m c =
+    nothing (named_on names seat) (named-alike (named_on names seat) (connection_of s.connections seat) (m seat) ∙ (seats-alike s cs e seat ∙ ap (λ (o : Option Connection). is_some o) c))
+  where
+    nothing : (n : Option Named) → is_some n ≡ false → n ≡ None
     nothing None h = refl
     nothing (Some n) h = absurd (cc)

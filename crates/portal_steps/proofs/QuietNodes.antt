@@ -7,11 +7,14 @@ use Rattle.node_looks.specs.Served.{given_to}
 use Rattle.node_looks.specs.TreeCalls.{Call, Calling, calls_of}
 use Rattle.node_looks.specs.declared.served.NodeDone.{NodeDone}
 use Rattle.host_tree.specs.Trees.{TreeIs}
-use Rattle.node_serving.specs.Seats.{ServesSeat, calls_on, seat_step}
+use Rattle.file_ops.specs.SeatNames.{AreNamed}
+use Rattle.folder_documents.specs.Named.{Named}
+use Rattle.node_serving.specs.Seats.{ServesSeat, calls_on, seat_step, unnamed}
 use Rattle.open_handles.specs.Opened.{HandleTable}
 use Rattle.portal_base.specs.declared.who.Who.{Who}
 use Rattle.portal_model.specs.declared.entry.Given.{Given}
 use Rattle.portal_model.specs.declared.handle.OpenHandle.{OpenHandle}
+use Rattle.portal_model.specs.declared.naming.Naming.{Naming}
 use Rattle.portal_model.specs.declared.place.Place.{Place}
 use Rattle.portal_model.specs.declared.reply.Answer.{Answer}
 use Rattle.portal_model.specs.declared.reply.Reply.{Reply}
@@ -21,26 +24,28 @@ use Rattle.portal_model.specs.declared.state.Connection.{Connection}
 use Rattle.portal_model.specs.Alike.{Alike}
 use Rattle.portal_model.specs.Bus.{is_tree}
 use Rattle.portal_model.specs.Lawful.{LawfulOnNode}
-use Rattle.portal_model.specs.Node.{bytes_named, connections_after, counted, files_after, handles_after, node_answer, node_given, node_walk, room_of, settled_on_node, walk_on_node}
-use Rattle.portal_model.specs.NodeVerdict.{HandleChange, HandlesStay, Opens, Closes, NodeVerdict, Errs, Yields}
+use Rattle.portal_model.specs.Node.{bytes_named, connections_after, connections_named, counted, files_after, handles_after, named_on, node_answer, node_given, node_walk, room_of, settled_on_node, walk_on_node}
+use Rattle.portal_model.specs.NodeVerdict.{HandleChange, HandlesStay, Opens, Closes, NameChange, NamesStay, Names, NodeVerdict, Errs, Yields}
 use Rattle.portal_model.specs.Outside.{files_told}
-use Rattle.portal_model.specs.Place.{place_named, reach_of_subject, sight_at, subject_of, view_of_node}
+use Rattle.portal_model.specs.Place.{place_named, reach_of_subject, sight_at, subject_of, view_of_node, naming_on}
+use Rattle.portal_model.specs.SeatNames.{with_naming}
 use Rattle.portal_model.specs.State.{State, connection_of, handle_of, is_mount}
 use Rattle.portal_model.specs.Step.{all_told, mount_of, node_step, reply_with, told_of, with_signals}
-use Rattle.portal_model.specs.Walk.{Walk, Gives, reads_clock}
+use Rattle.portal_model.specs.Walk.{Walk, Gives, reads_clock, GivesNames}
 use Rattle.portal_model.specs.Valid.{Valid, has_no_names, is_bound_connection, is_caller, is_host_bus, is_none, is_sound_change, is_sound_connection}
 use Rattle.portal_model.proofs.DocumentChanges.{both, first_of_both, second_of_both}
 use Rattle.portal_model.proofs.OpenHandles.{Alike as AlikeConnections, mapped-handles}
 use Rattle.portal_model.proofs.Queues.{is_sound_queue, seats, sound_bound, sound_unnamed}
 use Rattle.portal_model.proofs.SoundParts.{Valid-connections, valid-handles}
 use Rattle.portal_model.proofs.WhoWaits.{node_step-quiet}
-use Rattle.portal_steps.proofs.Boxes.{kept-waits, mount-silent, silent-found, told-silent}
+use Rattle.portal_steps.proofs.Boxes.{hushed, hushed-found, hushed-unnamed, kept-waits, mount-hushed, told-hushed}
+use Rattle.portal_steps.proofs.NamedSteps.{named-loud}
 use Rattle.portal_steps.proofs.OpenSteps.{open-loud}
 use Rattle.store_serving.specs.Waiting.{AreWaiting, box_of, silent}
 
 -- the state but for what connections wait for
 abbrev pub quiet : State → State
-quiet s = record s { connections = map silent s.connections }
+quiet s = record s { connections = map hushed s.connections }
 
 -- ---- the mount of a seat
 
@@ -58,34 +63,34 @@ mount_kind (Some d) c e = by_kind (is_mount d.kind) refl e
 
 -- ---- it is valid too
 
-quiet-seats : (cs : List Connection) → seats (map silent cs) ≡ seats cs
+quiet-seats : (cs : List Connection) → seats (map hushed cs) ≡ seats cs
 quiet-seats [] = refl
 quiet-seats (c ∷ cs) = ap (λ (x : List ℕ). c.seat ∷ x) (quiet-seats cs)
 
-quiet-one : (queued : ℕ) (c : Connection) → is_sound_connection queued c ≡ true → is_sound_connection queued (silent c) ≡ true
+quiet-one : (queued : ℕ) (c : Connection) → is_sound_connection queued c ≡ true → is_sound_connection queued (hushed c) ≡ true
 quiet-one queued c h =
     let waits = is_none c.unsent || is_host_bus c.who c.kind in
     let changes = list_all is_sound_change c.unsent in
     let queue = is_sound_queue queued c.queue in
     let bound = sound_bound queued c h in
     let later = second_of_both waits (changes && queue) (second_of_both (is_caller c.who) (waits && (changes && queue)) bound) in
-    both (has_no_names c) (is_bound_connection queued (silent c)) (sound_unnamed queued c h)
+    both (has_no_names c) (is_bound_connection queued (hushed c)) (sound_unnamed queued c h)
     (both (is_caller c.who) queue (first_of_both (is_caller c.who) (waits && (changes && queue)) bound) (second_of_both changes queue later))
 
-quiet-sound : (queued : ℕ) (cs : List Connection) → list_all (is_sound_connection queued) cs ≡ true → list_all (is_sound_connection queued) (map silent cs) ≡ true
+quiet-sound : (queued : ℕ) (cs : List Connection) → list_all (is_sound_connection queued) cs ≡ true → list_all (is_sound_connection queued) (map hushed cs) ≡ true
 quiet-sound queued [] h = refl
 quiet-sound queued (c ∷ cs) h =
-    both (is_sound_connection queued (silent c)) (list_all (is_sound_connection queued) (map silent cs))
+    both (is_sound_connection queued (hushed c)) (list_all (is_sound_connection queued) (map hushed cs))
     (quiet-one queued c (first_of_both (is_sound_connection queued c) (list_all (is_sound_connection queued) cs) h))
     (quiet-sound queued cs (second_of_both (is_sound_connection queued c) (list_all (is_sound_connection queued) cs) h))
 
-quiet-alike : (c : Connection) → AlikeConnections c (silent c)
+quiet-alike : (c : Connection) → AlikeConnections c (hushed c)
 quiet-alike c = record { seat = refl; who = refl; kind = refl; opens = omega arith }
 
 pub quiet-valid : (s : State) → Valid s → Valid (quiet s)
-quiet-valid s v = Valid-connections s (map silent s.connections) v
+quiet-valid s v = Valid-connections s (map hushed s.connections) v
     (subst (IsDistinct nat_eq) (sym (quiet-seats s.connections)) v.seats_differ, quiet-sound s.limits.queued s.connections v.connections_sound)
-    (mapped-handles silent quiet-alike s.limits.handles s.connections s.handles (valid-handles s v))
+    (mapped-handles hushed quiet-alike s.limits.handles s.connections s.handles (valid-handles s v))
 
 -- ---- the step
 
@@ -95,48 +100,73 @@ counted-seat seat c = elim (c.seat == seat) as (λ b. (cond b (record c { opens 
 counted-box : (seat : ℕ) (c : Connection) → box_of (counted seat c) ≡ box_of c
 counted-box seat c = elim (c.seat == seat) as (λ b. box_of (cond b (record c { opens = c.opens + 1 }) c) ≡ box_of c) [ true ↦ refl | false ↦ refl ]
 
-counted-silent : (seat : ℕ) (c : Connection) → counted seat (silent c) ≡ silent (counted seat c)
-counted-silent seat c = elim (c.seat == seat) as (λ b. cond b (record (silent c) { opens = c.opens + 1 }) (silent c) ≡ silent (cond b (record c { opens = c.opens + 1 }) c)) [ true ↦ refl | false ↦ refl ]
+counted-hushed : (seat : ℕ) (c : Connection) → counted seat (hushed c) ≡ hushed (counted seat c)
+counted-hushed seat c = elim (c.seat == seat) as (λ b. cond b (record (hushed c) { opens = c.opens + 1 }) (hushed c) ≡ hushed (cond b (record c { opens = c.opens + 1 }) c)) [ true ↦ refl | false ↦ refl ]
 
-all-counted : (seat : ℕ) (cs : List Connection) → map (counted seat) (map silent cs) ≡ map silent (map (counted seat) cs)
+all-counted : (seat : ℕ) (cs : List Connection) → map (counted seat) (map hushed cs) ≡ map hushed (map (counted seat) cs)
 all-counted seat [] = refl
-all-counted seat (c ∷ cs) = λ i. counted-silent seat c i ∷ all-counted seat cs i
+all-counted seat (c ∷ cs) = λ i. counted-hushed seat c i ∷ all-counted seat cs i
 
-connections-silent : (c : Connection) (change : HandleChange) (cs : List Connection) → connections_after (silent c) change (map silent cs) ≡ map silent (connections_after c change cs)
-connections-silent c HandlesStay cs = refl
-connections-silent c (Opens handle) cs = all-counted c.seat cs
-connections-silent c (Closes fh) cs = refl
+connections-hushed : (c : Connection) (change : HandleChange) (cs : List Connection) → connections_after (hushed c) change (map hushed cs) ≡ map hushed (connections_after c change cs)
+connections-hushed c HandlesStay cs = refl
+connections-hushed c (Opens handle) cs = all-counted c.seat cs
+connections-hushed c (Closes fh) cs = refl
+
+-- what a request names goes onto the connection of the seat
+named-seat : (seat : ℕ) (naming : Naming) (c : Connection) → (named_on seat naming c).seat ≡ c.seat
+named-seat seat naming c = elim (c.seat == seat) as (λ b. (cond b (record c { namings = with_naming c.namings naming }) c).seat ≡ c.seat) [ true ↦ refl | false ↦ refl ]
+
+named-box : (seat : ℕ) (naming : Naming) (c : Connection) → box_of (named_on seat naming c) ≡ box_of c
+named-box seat naming c = elim (c.seat == seat) as (λ b. box_of (cond b (record c { namings = with_naming c.namings naming }) c) ≡ box_of c) [ true ↦ refl | false ↦ refl ]
+
+one-named : (seat : ℕ) (naming : Naming) (c : Connection) → named_on seat naming (hushed c) ≡ hushed (named_on seat naming c)
+one-named seat naming c =
+    elim (c.seat == seat) as (λ b. cond b (record (hushed c) { namings = with_naming c.namings naming }) (hushed c) ≡ hushed (cond b (record c { namings = with_naming c.namings naming }) c)) [ true ↦ refl | false ↦ refl ]
+
+all-named : (seat : ℕ) (naming : Naming) (cs : List Connection) → map (named_on seat naming) (map hushed cs) ≡ map hushed (map (named_on seat naming) cs)
+all-named seat naming [] = refl
+all-named seat naming (c ∷ cs) = λ i. one-named seat naming c i ∷ all-named seat naming cs i
+
+names-hushed : (c : Connection) (change : NameChange) (cs : List Connection) → connections_named (hushed c) change (map hushed cs) ≡ map hushed (connections_named c change cs)
+names-hushed c NamesStay cs = refl
+names-hushed c (Names naming) cs = all-named c.seat naming cs
+
+names-waiting : (c : Connection) (change : NameChange) (cs : List Connection) (boxes : Boxes) → AreWaiting cs boxes → AreWaiting (connections_named c change cs) boxes
+names-waiting c NamesStay cs boxes w = w
+names-waiting c (Names naming) cs boxes w = kept-waits (named_on c.seat naming) cs boxes (named-seat c.seat naming) (named-box c.seat naming) w
 
 connections-waiting : (c : Connection) (change : HandleChange) (cs : List Connection) (boxes : Boxes) → AreWaiting cs boxes → AreWaiting (connections_after c change cs) boxes
 connections-waiting c HandlesStay cs boxes w = w
 connections-waiting c (Opens handle) cs boxes w = kept-waits (counted c.seat) cs boxes (counted-seat c.seat) (counted-box c.seat) w
 connections-waiting c (Closes fh) cs boxes w = w
 
-handles-silent : (c : Connection) (change : HandleChange) (hs : List OpenHandle) → handles_after (silent c) change hs ≡ handles_after c change hs
-handles-silent c HandlesStay hs = refl
-handles-silent c (Opens handle) hs = refl
-handles-silent c (Closes fh) hs = refl
+handles-hushed : (c : Connection) (change : HandleChange) (hs : List OpenHandle) → handles_after (hushed c) change hs ≡ handles_after c change hs
+handles-hushed c HandlesStay hs = refl
+handles-hushed c (Opens handle) hs = refl
+handles-hushed c (Closes fh) hs = refl
 
 -- what a request comes to has nothing to do with connections
 module _ (s : State) (cs ds : List Connection) where
-  place-over : (who : Who) (o : Option Place) → sight_at (record s { connections = cs }) who o ≡ sight_at (record s { connections = ds }) who o
-  place-over who None = refl
-  place-over who (Some (Place.Root view)) = refl
-  place-over who (Some Place.ByApp) = refl
-  place-over who (Some (Place.Folder view id)) = refl
-  place-over who (Some (Place.File view id)) = refl
+  place-over : (who : Who) (naming : Option Naming) (o : Option Place) → sight_at (record s { connections = cs }) who naming o ≡ sight_at (record s { connections = ds }) who naming o
+  place-over who naming None = refl
+  place-over who naming (Some (Place.Root view)) = refl
+  place-over who naming (Some Place.ByApp) = refl
+  place-over who naming (Some (Place.Folder view id)) = refl
+  place-over who naming (Some (Place.File view id)) = refl
+  place-over who naming (Some (Place.Named view k)) = refl
 
   reach-over : (number : ℕ) (subject : Option Who) → reach_of_subject (record s { connections = cs }) number subject ≡ reach_of_subject (record s { connections = ds }) number subject
   reach-over number None = refl
   reach-over number (Some who) = refl
 
-  walk-over : (c : Connection) (r : NodeRequest) → walk_on_node (record s { connections = cs }) (silent c) r ≡ walk_on_node (record s { connections = ds }) c r
+  walk-over : (c : Connection) (r : NodeRequest) → walk_on_node (record s { connections = cs }) (hushed c) r ≡ walk_on_node (record s { connections = ds }) c r
   walk-over c r = λ i. node_walk (record {
-    sight = place-over c.who (place_named r.node) i;
+    sight = place-over c.who (naming_on c r.node) (place_named r.node) i;
     handle = handle_of s.handles c.seat;
     reach = λ node number. reach-over number (subject_of s.applications c.who (view_of_node node)) i;
     bytes = bytes_named s.files;
     room = room_of s c;
+    namings = c.namings;
     file_limit = s.limits.file_bytes;
   }) r r.op
 
@@ -147,13 +177,13 @@ quiet_answer done = (quiet done.0, done.1)
 abbrev quiet_reply : State × Reply → State × Reply
 quiet_reply done = (quiet done.0, done.1)
 
-settled-quiet : (s : State) (c : Connection) (v : Option NodeVerdict) → settled_on_node (quiet s) (silent c) v ≡ quiet_answer (settled_on_node s c v)
+settled-quiet : (s : State) (c : Connection) (v : Option NodeVerdict) → settled_on_node (quiet s) (hushed c) v ≡ quiet_answer (settled_on_node s c v)
 settled-quiet s c None = refl
 settled-quiet s c (Some (Errs errno)) = refl
 settled-quiet s c (Some (Yields d)) = λ i. (
   record s {
-    connections = connections-silent c d.handle s.connections i;
-    handles = handles-silent c d.handle s.handles i;
+    connections = (ap (connections_named (hushed c) d.names) (connections-hushed c d.handle s.connections) ∙ names-hushed c d.names (connections_after c d.handle s.connections)) i;
+    handles = handles-hushed c d.handle s.handles i;
     files = files_after s.told d.file s.files;
   },
   Answer.Node d.answer,
@@ -162,26 +192,26 @@ settled-quiet s c (Some (Yields d)) = λ i. (
 settled-waiting : (s : State) (c : Connection) (v : Option NodeVerdict) (boxes : Boxes) → AreWaiting s.connections boxes → AreWaiting (settled_on_node s c v).0.connections boxes
 settled-waiting s c None boxes w = w
 settled-waiting s c (Some (Errs errno)) boxes w = w
-settled-waiting s c (Some (Yields d)) boxes w = connections-waiting c d.handle s.connections boxes w
+settled-waiting s c (Some (Yields d)) boxes w = names-waiting c d.names (connections_after c d.handle s.connections) boxes (connections-waiting c d.handle s.connections boxes w)
 
 told-quiet : (s : State) (seat : ℕ) → all_told seat (quiet s) ≡ quiet s
-told-quiet s seat = λ i. record s { connections = told-silent seat s.connections i }
+told-quiet s seat = λ i. record s { connections = told-hushed seat s.connections i }
 
 module _ (s : State) (v : Valid s) (seat : ℕ) (r : NodeRequest) (given : Given) where
   -- on the mount of the seat
-  mount-step : (c : Connection) → connection_of s.connections seat ≡ Some c → is_mount c.kind ≡ true → node_step (quiet s) r given (Some (silent c)) ≡ quiet_reply (node_step s r given (Some c))
+  mount-step : (c : Connection) → connection_of s.connections seat ≡ Some c → is_mount c.kind ≡ true → node_step (quiet s) r given (Some (hushed c)) ≡ quiet_reply (node_step s r given (Some c))
   mount-step c f m =
-      (λ i. with_signals [] (node_answer (told-quiet s c.seat i) (silent c) r given))
-      ∙ (ap (λ (w : Walk NodeVerdict). with_signals [] (settled_on_node (quiet s) (silent c) (node_given w given))) (walk-over s (map silent s.connections) s.connections c r)
+      (λ i. with_signals [] (node_answer (told-quiet s c.seat i) (hushed c) r given))
+      ∙ (ap (λ (w : Walk NodeVerdict). with_signals [] (settled_on_node (quiet s) (hushed c) (node_given w given))) (walk-over s (map hushed s.connections) s.connections c r)
       ∙ (ap (with_signals []) (settled-quiet s c (node_given (walk_on_node s c r) given))
       ∙ ap quiet_reply (sym (node_step-quiet s seat c r given v f m))))
 
-  by-mount : (m : Option Connection) → mount_of (connection_of s.connections seat) ≡ m → node_step (quiet s) r given (option_map silent m) ≡ quiet_reply (node_step s r given m)
+  by-mount : (m : Option Connection) → mount_of (connection_of s.connections seat) ≡ m → node_step (quiet s) r given (option_map hushed m) ≡ quiet_reply (node_step s r given m)
   by-mount None e = refl
   by-mount (Some c) e = mount-step c (mount_found (connection_of s.connections seat) c e) (mount_kind (connection_of s.connections seat) c e)
 
-  mount-now : mount_of (connection_of (quiet s).connections seat) ≡ option_map silent (mount_of (connection_of s.connections seat))
-  mount-now = ap mount_of (silent-found s.connections seat) ∙ mount-silent (connection_of s.connections seat)
+  mount-now : mount_of (connection_of (quiet s).connections seat) ≡ option_map hushed (mount_of (connection_of s.connections seat))
+  mount-now = ap mount_of (hushed-found s.connections seat) ∙ mount-hushed (connection_of s.connections seat)
 
   quiet-step : seat_step (quiet s) seat r given ≡ quiet_reply (seat_step s seat r given)
   quiet-step = ap (node_step (quiet s) r given) mount-now ∙ by-mount (mount_of (connection_of s.connections seat)) refl
@@ -194,15 +224,15 @@ module _ (s : State) (v : Valid s) (seat : ℕ) (r : NodeRequest) (given : Given
       let m = mount_kind (connection_of s.connections seat) c e in
       subst (λ (x : State × Reply). AreWaiting x.0.connections boxes) (sym (node_step-quiet s seat c r given v f m)) (settled-waiting s c (node_given (walk_on_node s c r) given) boxes w)
 
-  walk-told : (c : Connection) → walk_on_node (all_told c.seat (quiet s)) (silent c) r ≡ walk_on_node (all_told c.seat s) c r
-  walk-told c = walk-over s (map (told_of c.seat) (map silent s.connections)) (map (told_of c.seat) s.connections) c r
+  walk-told : (c : Connection) → walk_on_node (all_told c.seat (quiet s)) (hushed c) r ≡ walk_on_node (all_told c.seat s) c r
+  walk-told c = walk-over s (map (told_of c.seat) (map hushed s.connections)) (map (told_of c.seat) s.connections) c r
 
-  lawful-loud : (m : Option Connection) → LawfulOnNode (quiet s) r given (option_map silent m) → LawfulOnNode s r given m
+  lawful-loud : (m : Option Connection) → LawfulOnNode (quiet s) r given (option_map hushed m) → LawfulOnNode s r given m
   lawful-loud None l = l
   lawful-loud (Some c) l = record {
     looks = subst (λ (w : Walk NodeVerdict). Gives (files_told s) w given.looks (is_tree given.fault)) (walk-told c) l.looks;
     clock = l.clock ∙ ap (λ (w : Walk NodeVerdict). reads_clock w given.looks) (walk-told c);
-    listed = l.listed;
+    listed = subst (λ (w : Walk NodeVerdict). GivesNames (files_told s) w given.looks given.listed (is_tree given.fault)) (walk-told c) l.listed;
     generation = l.generation;
     words = l.words;
     numbers = l.numbers;
@@ -210,26 +240,28 @@ module _ (s : State) (v : Valid s) (seat : ℕ) (r : NodeRequest) (given : Given
     keeper = l.keeper;
   }
 
-  calls-loud : (m : Option Connection) → calls_on (quiet s) r given (option_map silent m) ≡ calls_on s r given m
+  calls-loud : (m : Option Connection) → calls_on (quiet s) r given (option_map hushed m) ≡ calls_on s r given m
   calls-loud None = refl
   calls-loud (Some c) = ap (λ (w : Walk NodeVerdict). calls_of w given.looks (is_tree given.fault)) (walk-told c)
 
 -- ---- what serves the state but for that serves the state
 
-pub record ServesLoudly (s : State) (seat : ℕ) (r : NodeRequest) (old : TreeIs) (done : NodeDone) (cs' : List Connection) (table' : HandleTable) (new : TreeIs) : Type 0 where
-  pub serves : ServesSeat s seat r old done (seat_step s seat r (given_to done)).0.connections table' new
+pub record ServesLoudly (s : State) (seat : ℕ) (r : NodeRequest) (old : TreeIs) (done : NodeDone) (cs' : List Connection) (table' : HandleTable) (names' : List (ℕ × Named)) (new : TreeIs) : Type 0 where
+  pub serves : ServesSeat s seat r old done (map unnamed (seat_step s seat r (given_to done)).0.connections) table' names' new
   pub connected : map silent (seat_step s seat r (given_to done)).0.connections ≡ cs'
   pub waiting : (boxes : Boxes) → AreWaiting s.connections boxes → AreWaiting (seat_step s seat r (given_to done)).0.connections boxes
 
-pub serves-loudly : (s : State) (seat : ℕ) (r : NodeRequest) (old : TreeIs) (done : NodeDone) (cs' : List Connection) (table' : HandleTable) (new : TreeIs) → Valid s → ServesSeat (quiet s) seat r old done cs' table' new → ServesLoudly s seat r old done cs' table' new
-serves-loudly s seat r old done cs' table' new v k =
+pub serves-loudly : (s : State) (seat : ℕ) (r : NodeRequest) (old : TreeIs) (done : NodeDone) (cs' : List Connection) (table' : HandleTable) (names' : List (ℕ × Named)) (new : TreeIs) → Valid s → ServesSeat (quiet s) seat r old done cs' table' names' new →
+    ServesLoudly s seat r old done cs' table' names' new
+serves-loudly s seat r old done cs' table' names' new v k =
     let given : Given = given_to done in
     let step : State × Reply = seat_step s seat r given in
-    let same : seat_step (quiet s) seat r given ≡ quiet_reply step = quiet-step s v seat r given in
-    let stays : quiet step.0 ≡ record (quiet s) { connections = cs'; handles = step.0.handles; files = step.0.files } =
-    ap (λ (x : State × Reply). x.0) (sym same) ∙ (k.stays ∙ (λ i. record (quiet s) { connections = cs'; handles = (same i).0.handles; files = (same i).0.files })) in
+    let hushed_step : State × Reply = seat_step (quiet s) seat r given in
+    let same : hushed_step ≡ quiet_reply step = quiet-step s v seat r given in
+    let stays : quiet step.0 ≡ record (quiet s) { connections = hushed_step.0.connections; handles = step.0.handles; files = step.0.files } =
+    ap (λ (x : State × Reply). x.0) (sym same) ∙ (k.stays ∙ (λ i. record (quiet s) { connections = hushed_step.0.connections; handles = (same i).0.handles; files = (same i).0.files })) in
     let mount : Option Connection = mount_of (connection_of s.connections seat) in
-    let mount_is : mount_of (connection_of (quiet s).connections seat) ≡ option_map silent mount = mount-now s v seat r given in
+    let mount_is : mount_of (connection_of (quiet s).connections seat) ≡ option_map hushed mount = mount-now s v seat r given in
     record {
       serves = record {
         lawful = lawful-loud s v seat r given mount (subst (LawfulOnNode (quiet s) r given) mount_is k.lawful);
@@ -244,12 +276,14 @@ serves-loudly s seat r old done cs' table' new v k =
           taken = (ap (λ (t : State). t.taken) stays) i;
           entries = (ap (λ (t : State). t.entries) stays) i;
         };
+        connected = refl;
+        names = named-loud names' step.0 (subst (λ (x : State × Reply). AreNamed x.0 names') same k.names);
         handles = open-loud table' step.0 (subst (λ (x : State × Reply). AreOpen x.0 table') same k.handles);
         files = ap (λ (x : State × Reply). files_told x.0) (sym same) ∙ k.files;
         calls = subst (λ (calls : List Call). Calling old calls new.told new) (ap (calls_on (quiet s) r given) mount_is ∙ calls-loud s v seat r given mount) k.calls;
         fault = k.fault;
         failure = k.failure;
       };
-      connected = ap (λ (t : State). t.connections) stays;
+      connected = sym (hushed-unnamed step.0.connections) ∙ (ap (λ (x : State × Reply). map unnamed x.0.connections) (sym same) ∙ k.connected);
       waiting = λ boxes w. step-waiting s v seat r given mount boxes refl w;
     }

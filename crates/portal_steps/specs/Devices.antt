@@ -73,7 +73,7 @@ Drawn old (word ∷ words) new =
 -- the requests that may have asked the tree when memory is wanted: no refusal of another asked it
 abbrev pub may_ask_tree_in_vain : Request → Bool
 may_ask_tree_in_vain (Request.Add a) = true
-may_ask_tree_in_vain (Request.Node r) = may_call_in_vain r.op
+may_ask_tree_in_vain (Request.Node r) = may_call_in_vain r
 may_ask_tree_in_vain (Request.Enter who kind) = false
 may_ask_tree_in_vain Request.Leave = false
 may_ask_tree_in_vain Request.Collect = false
@@ -110,7 +110,7 @@ may_ask_in_vain request = may_change_records request || may_ask_tree_in_vain req
 
 -- the requests for which all memory can be taken ahead
 abbrev pub is_reserved : Request → Bool
-is_reserved (Request.Node r) = fits_in_room r.op
+is_reserved (Request.Node r) = fits_in_room r
 is_reserved (Request.Enter who kind) = false
 is_reserved Request.Leave = false
 is_reserved Request.Collect = false

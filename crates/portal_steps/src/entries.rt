@@ -41,6 +41,7 @@ pub fn node_entry(alloc: Global, seat: u32, request: NodeRequest, done: NodeDone
     let NodeDone {
         answer,
         looks,
+        listed,
         now,
         fault,
     } = done;
@@ -49,7 +50,7 @@ pub fn node_entry(alloc: Global, seat: u32, request: NodeRequest, done: NodeDone
         words: List::new(alloc),
         numbers: List::new(alloc),
         looks,
-        listed: None,
+        listed,
         generation: None,
         full: false,
         fault,

@@ -17,7 +17,7 @@
 //! | `store` | the calls of the permission store |
 //!
 //! ```text
-//! seats::enter(&mut connections, &mut handles, &mut outboxes, connection)?;
+//! seats::enter(&mut connections, &mut handles, &mut namings, &mut outboxes, connection)?;
 //! ```
 //!
 //! Its `specs` say what contracts see of a portal (`Story`), which devices a request may have

@@ -1,14 +1,17 @@
-//! The connections of seats, each with its open handles, and with a box of changes
-//! where it hears of them.
+//! The connections of seats, each with its open handles and with what it has named, and
+//! with a box of changes where it hears of them.
 
 ghost use Rattle.std.specs.Prelude.{◌≡◌, ◌++◌, ◌∷◌, [], None, OnErr, OnOk};
 ghost use Rattle.change_signals.specs.Unsent.{IsSame, unsent_on};
+ghost use Rattle.file_ops.specs.SeatNames.{NamesKept};
+ghost use Rattle.folder_documents.specs.Named.{AtSeat as AtNames, Enters as BeginsNames, named_on};
 ghost use Rattle.open_handles.specs.Opened.{AtSeat, Enters, opened_on};
 ghost use Rattle.portal_model.specs.Valid.{is_host_bus};
 ghost use Rattle.portal_steps.specs.Stored.{Hears};
 
 use change_signals::Outboxes;
 use change_signals::hearing::hears_of_changes;
+use folder_documents::Namings;
 use open_handles::Handles;
 use portal_base::list::List;
 use portal_base::memory::WantOfMemory;
@@ -18,10 +21,12 @@ use portal_model::state::Connection;
 pub fn enter(
     connections: &mut List<Connection>,
     handles: &mut Handles,
+    namings: &mut Namings,
     outboxes: &mut Outboxes,
     connection: Connection,
 ) -> Result<(), WantOfMemory>
     requires handles { opened_on handles.old.seats connection.seat ≡ None }
+    requires names { named_on namings.old connection.seat ≡ None }
     requires outboxes { unsent_on outboxes.old connection.seat ≡ None }
     ensures heard { OnOk result (Hears (is_host_bus connection.who connection.kind)
         connection.seat outboxes.old outboxes.new) }
@@ -32,13 +37,16 @@ pub fn enter(
         (AtSeat Enters handles.old.seats handles.new.seats connection.seat) }
     ensures connections { OnErr result (connections.new ≡ connections.old) }
     ensures handles { OnErr result (handles.new.seats ≡ handles.old.seats) }
+    ensures named { OnOk result
+        (AtNames BeginsNames namings.old namings.new connection.seat) }
+    ensures names { OnErr result (NamesKept namings.old namings.new) }
 {
     let seat = connection.seat;
     let hears = hears_of_changes(&connection.who, connection.kind);
     if hears {
         outboxes.enter(seat)?;
     }
-    match begin(connections, handles, connection) {
+    match begin(connections, handles, namings, connection) {
         Ok(()) => Ok(()),
         Err(WantOfMemory) => {
             if hears {
@@ -49,26 +57,51 @@ pub fn enter(
     }
 }
 
-/// A connection begins, which was not there, with its open handles.
+/// A connection begins, which was not there, with its open handles and what it names.
 fn begin(
     connections: &mut List<Connection>,
     handles: &mut Handles,
+    namings: &mut Namings,
     connection: Connection,
 ) -> Result<(), WantOfMemory>
-    requires { opened_on handles.old.seats connection.seat ≡ None }
+    requires handles { opened_on handles.old.seats connection.seat ≡ None }
+    requires names { named_on namings.old connection.seat ≡ None }
     ensures limit { handles.new.most ≡ handles.old.most }
     ensures connected { OnOk result (connections.new ≡ connections.old ++ connection ∷ []) }
     ensures entered { OnOk result
         (AtSeat Enters handles.old.seats handles.new.seats connection.seat) }
     ensures connections { OnErr result (connections.new ≡ connections.old) }
     ensures handles { OnErr result (handles.new.seats ≡ handles.old.seats) }
+    ensures named { OnOk result
+        (AtNames BeginsNames namings.old namings.new connection.seat) }
+    ensures names { OnErr result (NamesKept namings.old namings.new) }
 {
     let seat = connection.seat;
     connections.push(connection)?;
-    match handles.enter(seat) {
+    match named(handles, namings, seat) {
         Ok(()) => Ok(()),
         Err(WantOfMemory) => {
             connections.truncate(connections.len() - 1);
+            Err(WantOfMemory)
+        }
+    }
+}
+
+/// The open handles of a seat begin, and what it names.
+fn named(handles: &mut Handles, namings: &mut Namings, seat: u32) -> Result<(), WantOfMemory>
+    requires handles { opened_on handles.old.seats seat ≡ None }
+    requires names { named_on namings.old seat ≡ None }
+    ensures limit { handles.new.most ≡ handles.old.most }
+    ensures entered { OnOk result (AtSeat Enters handles.old.seats handles.new.seats seat) }
+    ensures handles { OnErr result (handles.new.seats ≡ handles.old.seats) }
+    ensures named { OnOk result (AtNames BeginsNames namings.old namings.new seat) }
+    ensures names { OnErr result (NamesKept namings.old namings.new) }
+{
+    namings.enter(seat)?;
+    match handles.enter(seat) {
+        Ok(()) => Ok(()),
+        Err(WantOfMemory) => {
+            namings.leave(seat);
             Err(WantOfMemory)
         }
     }

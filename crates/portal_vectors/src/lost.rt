@@ -6,6 +6,7 @@ use crate::nodes::node_request;
 use app_view::ViewBook;
 use document_records::{Applications, Documents, Grants};
 use file_ops::{FileBook, LookRooms, NodeCall, NodeDone, serve_node};
+use folder_documents::Namings;
 use host_tree::MemoryTree;
 use open_handles::{Handle, Handles};
 use portal_base::files::FileName;
@@ -46,20 +47,27 @@ pub fn lost(alloc: Global, rest: &str) -> Result<String, VectorError> {
 
 fn asked(alloc: Global, request: &NodeRequest) -> Result<String, VectorError> {
     let mut handles = Handles::new(alloc, &LIMITS);
-    let shown = match put_file(alloc, &mut handles) {
-        Ok(()) => asked_by(alloc, &mut handles, request),
+    let mut namings = Namings::new(alloc);
+    let shown = match put_file(alloc, &mut handles, &mut namings) {
+        Ok(()) => asked_by(alloc, &mut handles, &mut namings, request),
         Err(error) => Err(error),
     };
+    drop(namings);
     drop(handles);
     shown
 }
 
 /// A connection that has a file open which the tree has not.
-fn put_file(alloc: Global, handles: &mut Handles) -> Result<(), VectorError> {
-    if handles.is_entered(SEAT) {
+fn put_file(
+    alloc: Global,
+    handles: &mut Handles,
+    namings: &mut Namings,
+) -> Result<(), VectorError> {
+    if handles.is_entered(SEAT) || namings.is_entered(SEAT) {
         return bad();
     }
     handles.enter(SEAT)?;
+    namings.enter(SEAT)?;
     let file = file(alloc)?;
     if !handles.is_entered(SEAT) {
         return bad();
@@ -72,6 +80,7 @@ fn put_file(alloc: Global, handles: &mut Handles) -> Result<(), VectorError> {
 fn asked_by(
     alloc: Global,
     handles: &mut Handles,
+    namings: &mut Namings,
     request: &NodeRequest,
 ) -> Result<String, VectorError> {
     let documents = Documents::new(alloc, &LIMITS);
@@ -85,16 +94,17 @@ fn asked_by(
         },
         file_limit: LIMITS.file_bytes,
     };
-    served(alloc, &book, handles, request)
+    served(alloc, &book, handles, namings, request)
 }
 
 fn served(
     alloc: Global,
     book: &FileBook,
     handles: &mut Handles,
+    namings: &mut Namings,
     request: &NodeRequest,
 ) -> Result<String, VectorError> {
-    if !handles.is_entered(SEAT) {
+    if !handles.is_entered(SEAT) || !namings.is_entered(SEAT) {
         return bad();
     }
     let call = NodeCall {
@@ -106,7 +116,7 @@ fn served(
     let mut clock = SetClock::new(9);
     let mut rooms = LookRooms::new(alloc);
     let done = serve_node(
-        alloc, &mut rooms, book, handles, &mut tree, &mut clock, &call,
+        alloc, &mut rooms, book, handles, namings, &mut tree, &mut clock, &call,
     );
     drop(rooms);
     drop(tree);

@@ -2,8 +2,9 @@
 //!
 //! **It promises** that after `Portal::reserve` took memory ahead for so many requests, as many
 //! of them in a row don't want memory: where all are of the kinds for which it can be taken, as
-//! LOOKUP, GETATTR, FLUSH, RELEASE and FORGET, at whatever seats they come, whatever bytes they
-//! bring, and however little memory there is. Where the history has room for all of them, each
+//! GETATTR, FLUSH, RELEASE, FORGET, and LOOKUP in a root, in the folder of all views or in a
+//! document's folder, at whatever seats they come, whatever bytes they bring, and however little
+//! memory there is. Where the history has room for all of them, each
 //! is answered. Between them no other request comes.
 //!
 //! | Room | Holds |

@@ -26,14 +26,14 @@ use Rattle.portal_model.specs.Node.{walk_on_node}
 use Rattle.portal_model.specs.Outside.{AreDrawn, ChangesRecords, files_told, meets_limit, verdict_of, words_drawn}
 use Rattle.portal_model.specs.State.{State, connection_of}
 use Rattle.portal_model.specs.Step.{after, all_told, bus_of, mount_of}
-use Rattle.portal_model.specs.Walk.{Gives, reads_clock, walked}
+use Rattle.portal_model.specs.Walk.{Gives, GivesNames, reads_clock, walked}
 use Rattle.portal_model.proofs.ListLookups.{is_same-eq, nat_is}
 use Rattle.portal_model.proofs.StaysTold.{step_told}
 use Rattle.portal_model.proofs.TripleOrder.{is_same-refl}
 use Rattle.script_form.specs.Outside.{Outside}
 use Rattle.script_replay.specs.Entries.{AreGiven, Changes, ChangesOn, IsGiven}
 use Rattle.script_command.proofs.AddAlike.{bus_alike}
-use Rattle.script_command.proofs.OneWalk.{moment_one, one_given}
+use Rattle.script_command.proofs.OneWalk.{moment_one, one_given, one_listed}
 use Rattle.script_command.proofs.WalksAlike.{DrawAlike, alike_clock, alike_drawn, alike_given}
 
 -- ---- words and numbers
@@ -148,9 +148,13 @@ node_one s r g h calls moment (Some x) t c d m n l k =
     let lh = subst (λ (files : Option (List File)). Gives files w h.looks (is_tree h.fault)) told k.looks in
     let both = one_given call_doing s.files w g.looks h.looks (is_tree g.fault) (is_tree h.fault) calls lg lh c d in
     let read : is_some g.now ≡ is_some h.now = l.clock ∙ (ap (reads_clock w) both.0 ∙ sym k.clock) in
+    let ng = subst (λ (files : Option (List File)). GivesNames files w g.looks g.listed (is_tree g.fault)) told l.listed in
+    let nh = subst (λ (files : Option (List File)). GivesNames files w h.looks h.listed (is_tree h.fault)) told k.listed in
+    let listed : g.listed ≡ h.listed = one_listed s.files w h.looks g.listed h.listed (is_tree h.fault)
+    (subst (λ (ls : List Look). GivesNames (Some s.files) w ls g.listed (is_tree h.fault)) both.0 (subst (λ (f : Bool). GivesNames (Some s.files) w g.looks g.listed f) both.1 ng)) nh in
     given_is g h
     (moment_one g.now h.now moment read m n)
-    (l.words ∙ sym k.words) (l.numbers ∙ sym k.numbers) both.0 (l.listed ∙ sym k.listed) (l.generation ∙ sym k.generation) (l.full ∙ sym k.full)
+    (l.words ∙ sym k.words) (l.numbers ∙ sym k.numbers) both.0 listed (l.generation ∙ sym k.generation) (l.full ∙ sym k.full)
     (fault_is g.fault h.fault both.1 (no_keeper g.fault l.keeper ∙ sym (no_keeper h.fault k.keeper)))
 
 -- ---- on documents

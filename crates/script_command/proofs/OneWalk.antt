@@ -5,8 +5,9 @@ use Rattle.host_tree.specs.declared.tree.TreeCall.{TreeCall}
 use Rattle.node_looks.specs.TreeCalls.{CallsAsTold, calls_by}
 use Rattle.portal_base.specs.Calls.{Calls, next_call}
 use Rattle.portal_base.specs.declared.files.File.{File}
+use Rattle.portal_base.specs.declared.files.ChildName.{ChildName}
 use Rattle.portal_base.specs.declared.files.Look.{Look}
-use Rattle.portal_model.specs.Walk.{Walk, Answers, Looks, Ends, Gives}
+use Rattle.portal_model.specs.Walk.{Walk, Answers, Looks, Ends, Lists, Gives, GivesNames}
 
 -- one call doesn't both fail and not fail
 pub not_both : {Y : Type 0} (f b : Bool) → f ≡ true → f ≡ b → false ≡ b → Y
@@ -33,6 +34,17 @@ module _ {X : Type 0} (last : X → TreeCall) where
   one_given files (Ends call done missing) (x ∷ xs) [] f false calls a b c d = let e : true ≡ false = b ∙ sym a.3 in absurd (cc)
   one_given files (Ends call done missing) (x ∷ xs) (y ∷ ys) f g calls a b c d =
       (ap (λ (l : Look). l ∷ xs) (a.0 ∙ sym b.0) ∙ ap (λ (ls : List Look). y ∷ ls) (a.1 ∙ sym b.1), a.2 ∙ sym b.2)
+
+  one_given files (Lists path done missing) xs ys f g calls a b c d = (a ∙ sym b, c.0 ∙ sym d.0)
+
+-- and the same names are listed
+pub one_listed : {X : Type 0} (files : List File) (w : Walk X) (xs : List Look) (m n : Option (List ChildName)) (f : Bool) → GivesNames (Some files) w xs m f → GivesNames (Some files) w xs n f → m ≡ n
+one_listed files (Answers x) xs m n f a b = a ∙ sym b
+one_listed files (Looks target next) [] m n f a b = a ∙ sym b
+one_listed files (Looks target next) (x ∷ xs) m n f a b = one_listed files (next x) xs m n f a b
+one_listed files (Ends call done missing) xs m n f a b = a ∙ sym b
+one_listed files (Lists path done missing) xs m n true a b = a ∙ sym b
+one_listed files (Lists path done missing) xs m n false a b = a ∙ sym b
 
 -- a clock that was read showed what it was set to
 pub moment_one : (x y : Option ℕ) (at : ℕ) → is_some x ≡ is_some y → IfSome x (λ now. now ≡ at) → IfSome y (λ now. now ≡ at) → x ≡ y

@@ -7,7 +7,7 @@ use Rattle.portal_base.specs.declared.files.File.{File}
 use Rattle.portal_base.specs.declared.files.Look.{Look}
 use Rattle.portal_model.specs.Outside.{words_drawn}
 use Rattle.portal_model.specs.Verdict.{Verdict}
-use Rattle.portal_model.specs.Walk.{Walk, Answers, Looks, Ends, Gives, reads_clock, shown_at, walked}
+use Rattle.portal_model.specs.Walk.{Walk, Answers, Looks, Ends, Lists, Gives, reads_clock, shown_at, walked}
 use Rattle.script_command.proofs.OneWalk.{not_both}
 
 module _ {X : Type 0} (Same : X → X → Type 0) where
@@ -18,9 +18,12 @@ module _ {X : Type 0} (Same : X → X → Type 0) where
   WalkAlike (Looks target next) (Looks other more) = (target ≡ other) × ((look : Look) → WalkAlike (next look) (more look))
   WalkAlike (Answers x) (Looks other more) = ⊥
   WalkAlike (Answers x) (Ends call done missing) = ⊥
+  WalkAlike (Answers x) (Lists path done missing) = ⊥
   WalkAlike (Looks target next) (Answers y) = ⊥
   WalkAlike (Looks target next) (Ends call done missing) = ⊥
+  WalkAlike (Looks target next) (Lists path done missing) = ⊥
   WalkAlike (Ends call done missing) u = ⊥
+  WalkAlike (Lists path done missing) u = ⊥
 
   -- they read no clock
   pub alike_clock : (w u : Walk X) (looks : List Look) → WalkAlike w u → reads_clock w looks ≡ false
@@ -29,7 +32,9 @@ module _ {X : Type 0} (Same : X → X → Type 0) where
   alike_clock (Looks target next) (Looks other more) (look ∷ looks) h = alike_clock (next look) (more look) looks (h.1 look)
   alike_clock (Looks target next) (Answers y) (look ∷ looks) h = absurd h
   alike_clock (Looks target next) (Ends call done missing) (look ∷ looks) h = absurd h
+  alike_clock (Looks target next) (Lists path done missing) (look ∷ looks) h = absurd h
   alike_clock (Ends call done missing) u looks h = absurd h
+  alike_clock (Lists path done missing) u looks h = absurd h
 
   -- the same looks are given, and the same call fails
   pub alike_given : (last : X → TreeCall) (files : List File) (w u : Walk X) (xs ys : List Look) (f g : Bool) (calls : Calls) → WalkAlike w u → Gives (Some files) w xs f → Gives (Some files) u ys g
@@ -37,9 +42,12 @@ module _ {X : Type 0} (Same : X → X → Type 0) where
   alike_given last files (Answers x) (Answers y) xs ys f g calls h a b c d = (a.0 ∙ sym b.0, a.1 ∙ sym b.1)
   alike_given last files (Answers x) (Looks other more) xs ys f g calls h a b c d = absurd h
   alike_given last files (Answers x) (Ends call done missing) xs ys f g calls h a b c d = absurd h
+  alike_given last files (Answers x) (Lists path done missing) xs ys f g calls h a b c d = absurd h
   alike_given last files (Looks target next) (Answers y) xs ys f g calls h a b c d = absurd h
   alike_given last files (Looks target next) (Ends call done missing) xs ys f g calls h a b c d = absurd h
+  alike_given last files (Looks target next) (Lists path done missing) xs ys f g calls h a b c d = absurd h
   alike_given last files (Ends call done missing) u xs ys f g calls h a b c d = absurd h
+  alike_given last files (Lists path done missing) u xs ys f g calls h a b c d = absurd h
   alike_given last files (Looks target next) (Looks other more) [] [] f g calls h a b c d = (refl, a ∙ sym b)
   alike_given last files (Looks target next) (Looks other more) [] (y ∷ ys) f g calls h a b c d = not_both f _ a c.0 d.0
   alike_given last files (Looks target next) (Looks other more) (x ∷ xs) [] f g calls h a b c d = not_both g _ b d.0 c.0
@@ -58,8 +66,11 @@ pub alike_drawn : (w u : Walk Verdict) (looks : List Look) (n m : ℕ) (failed :
 alike_drawn (Answers x) (Answers y) looks n m failed h = h
 alike_drawn (Answers x) (Looks other more) looks n m failed h = absurd h
 alike_drawn (Answers x) (Ends call done missing) looks n m failed h = absurd h
+alike_drawn (Answers x) (Lists path done missing) looks n m failed h = absurd h
 alike_drawn (Looks target next) (Answers y) looks n m failed h = absurd h
 alike_drawn (Looks target next) (Ends call done missing) looks n m failed h = absurd h
+alike_drawn (Looks target next) (Lists path done missing) looks n m failed h = absurd h
 alike_drawn (Ends call done missing) u looks n m failed h = absurd h
+alike_drawn (Lists path done missing) u looks n m failed h = absurd h
 alike_drawn (Looks target next) (Looks other more) [] n m failed h = refl
 alike_drawn (Looks target next) (Looks other more) (look ∷ looks) n m failed h = alike_drawn (next look) (more look) looks n m failed (h.1 look)

@@ -7,6 +7,7 @@ use Rattle.dbus_types.proofs.types.WireType.TheLaws.TheKnot as wire_type
 use Rattle.document_records.proofs.applications.Applications.TheSendSync as applications
 use Rattle.document_records.proofs.documents.Documents.TheSendSync as documents
 use Rattle.document_records.proofs.grants.Grants.TheSendSync as grants
+use Rattle.folder_documents.proofs.namings.Namings.TheSendSync as namings
 use Rattle.inode_table.proofs.inodes.InodeTable.TheSendSync as counts
 use Rattle.node_looks.proofs.rooms.LookRooms.TheSendSync as rooms
 use Rattle.open_handles.proofs.handles.Handles.TheSendSync as handles
@@ -93,4 +94,4 @@ pub connections : IsSend (List.the_row Connection.the_row)
 connections = list.the_send Connection.the_row connection
 
 -- all of a portal but its devices, as a set for `search`
-pub ruleset portal_parts = (opening, documents.the_send, grants.the_send, applications.the_send, tables, outboxes, connections, handles.the_send, counts.the_send, rooms.the_send, history, crosses, sendable)
+pub ruleset portal_parts = (opening, documents.the_send, grants.the_send, applications.the_send, tables, outboxes, connections, handles.the_send, namings.the_send, counts.the_send, rooms.the_send, history, crosses, sendable)

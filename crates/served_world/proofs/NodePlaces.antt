@@ -5,6 +5,7 @@ use Rattle.std.specs.List.{AllByRecursion}
 use Rattle.portal_base.specs.declared.files.FileName.{FileName}
 use Rattle.portal_base.specs.declared.files.Look.{Look}
 use Rattle.portal_base.specs.declared.who.Who.{Who}
+use Rattle.portal_model.specs.declared.naming.Naming.{Naming}
 use Rattle.portal_model.specs.declared.place.Place.{Place}
 use Rattle.portal_model.specs.declared.request.NodeOp.{NodeOp}
 use Rattle.portal_model.specs.declared.request.NodeRequest.{NodeRequest}
@@ -13,14 +14,14 @@ use Rattle.portal_model.specs.declared.rights.Right.TheVariants.{Read, Write}
 use Rattle.portal_model.specs.declared.state.Connection.{Connection}
 use Rattle.portal_model.specs.declared.state.Document.{Document}
 use Rattle.portal_model.specs.Node.{facts_of, node_walk, walk_on_node}
-use Rattle.portal_model.specs.Place.{FolderOf, Sight, SightOfFile, SightOfFolder, place_named, place_of, reach_at, reach_of_subject, seen_by, sight_at, sight_of_document, sight_of_folder, sight_of_place, sight_of_root, subject_of, view_of_node}
+use Rattle.portal_model.specs.Place.{FolderOf, Sight, SightOfFolder, place_named, place_of, reach_at, reach_of_subject, seen_by, sight_at, sight_of_document, sight_of_folder, sight_of_place, sight_of_root, subject_of, view_of_node, SightBelow, naming_on, sight_at_path, sight_below, sight_of_naming, sight_on}
 use Rattle.portal_model.specs.Reach.{OpenFile, reach_of, reaches}
 use Rattle.portal_model.specs.State.{State, app_has, document_of, handle_of, has, who_has}
 use Rattle.portal_model.specs.Step.{all_told}
 use Rattle.portal_model.specs.Walk.{Target, AtPath, Named}
 use Rattle.portal_model.proofs.DocumentChanges.{first_of_both, second_of_both}
 use Rattle.portal_model.proofs.ListLookups.{found_passes, nat_is}
-use Rattle.app_world.proofs.NamedPaths.{SightOn}
+use Rattle.app_world.proofs.NamedPaths.{SightOn, Plain}
 use Rattle.served_world.specs.OwnPlaces.{IsOpen, IsReadable, MayAsk, MayAskFor, places_along}
 use Rattle.served_world.proofs.PlacesAlong.{Along, May, access-along, along-places, create-along, flush-along, fsync-along, get_attr-along, lookup-along, open-along, open_dir-along, read-along, read_dir-along, release-along, release_dir-along, set_attr-along, write-along}
 
@@ -40,10 +41,27 @@ module _ (app : List ℕ) (t : State) where
   by_right d sight true e h = h e
   by_right d sight false e h = tt
 
-  file-seen : (number : ℕ) (o : Option Document) → document_of t.documents number ≡ o → Seen (sight_of_document t.rights (Who.App app) o)
-  file-seen number None e = tt
-  file-seen number (Some d) e =
-      by_right d (SightOfFile d (who_has t.rights (Who.App app) d.id.number Write)) (app_has t.rights app d.id.number Read) refl (readable d number e)
+  at-path-seen : (view : ℕ) (d : Document) (b w : Bool) → IsReadable app t d.path → Seen (Some (sight_at_path view d b w))
+  at-path-seen view d true w h = h
+  at-path-seen view d false w h = h
+
+  file-seen : (view number : ℕ) (o : Option Document) → document_of t.documents number ≡ o → Seen (sight_of_document view t.rights (Who.App app) o)
+  file-seen view number None e = tt
+  file-seen view number (Some d) e =
+      by_right d (sight_at_path view d d.folder (who_has t.rights (Who.App app) d.id.number Write)) (app_has t.rights app d.id.number Read) refl
+      (λ h. at-path-seen view d d.folder (who_has t.rights (Who.App app) d.id.number Write) (readable d number e h))
+
+  below-seen : (view : ℕ) (path : List ℕ) (number : ℕ) (o : Option Document) → document_of t.documents number ≡ o → Seen (sight_below view t.rights (Who.App app) path o)
+  below-seen view path number None e = tt
+  below-seen view path number (Some d) e =
+      by_right d (SightBelow view d path (who_has t.rights (Who.App app) d.id.number Write)) (app_has t.rights app d.id.number Read) refl (readable d number e)
+
+  naming-seen : (view : ℕ) (naming : Option Naming) → Seen (sight_of_naming t view (Who.App app) naming)
+  naming-seen view None = tt
+  naming-seen view (Some n) = elim (n.view == view) as (λ b. Seen (cond b (sight_below view t.rights (Who.App app) n.path (document_of t.documents n.document.number)) None)) [
+    | true ↦ below-seen view n.path n.document.number (document_of t.documents n.document.number) refl
+    | false ↦ tt
+  ]
 
   folder-seen : (view number : ℕ) (o : Option Document) → document_of t.documents number ≡ o → Seen (sight_of_folder view t.rights (Who.App app) o)
   folder-seen view number None e = tt
@@ -55,20 +73,21 @@ module _ (app : List ℕ) (t : State) where
   in-view zero sight h = h
   in-view (suc k) sight h = tt
 
-  there-seen : (p : Place) → Seen (sight_of_place t (Who.App app) p)
-  there-seen (Place.Root k) = in-view k (sight_of_root t (Who.App app) k) tt
-  there-seen Place.ByApp = tt
-  there-seen (Place.Folder k id) =
+  there-seen : (naming : Option Naming) (p : Place) → Seen (sight_of_place t (Who.App app) naming p)
+  there-seen naming (Place.Root k) = in-view k (sight_of_root t (Who.App app) k) tt
+  there-seen naming Place.ByApp = tt
+  there-seen naming (Place.Folder k id) =
       in-view k (λ who. sight_of_folder k t.rights who (document_of t.documents id.number)) (folder-seen k id.number (document_of t.documents id.number) refl)
-  there-seen (Place.File k id) =
-      in-view k (λ who. sight_of_document t.rights who (document_of t.documents id.number)) (file-seen id.number (document_of t.documents id.number) refl)
+  there-seen naming (Place.File k id) =
+      in-view k (λ who. sight_of_document k t.rights who (document_of t.documents id.number)) (file-seen k id.number (document_of t.documents id.number) refl)
+  there-seen naming (Place.Named k n) = in-view k (λ who. sight_of_naming t k who naming) (naming-seen k naming)
 
-  at-seen : (p : Option Place) → Seen (sight_at t (Who.App app) p)
-  at-seen None = tt
-  at-seen (Some p) = there-seen p
+  at-seen : (naming : Option Naming) (p : Option Place) → Seen (sight_at t (Who.App app) naming p)
+  at-seen naming None = tt
+  at-seen naming (Some p) = there-seen naming p
 
-  node-seen : (node : ℕ) → Seen (place_of t (Who.App app) node)
-  node-seen node = at-seen (place_named node)
+  node-seen : (naming : Option Naming) (node : ℕ) → Seen (place_of t (Who.App app) naming node)
+  node-seen naming node = at-seen naming (place_named node)
 
   -- ---- what an open file of a strict document needs
 
@@ -92,9 +111,9 @@ ByDocument app t (NodeOp.Write fh offset content) path = ⊥
 ByDocument app t (NodeOp.Fsync fh) path = ⊥
 ByDocument app t op path = IsReadable app t path
 
-module _ (app : List ℕ) (t : State) (c : Connection) (named : c.who ≡ Who.App app) where
-  sight-of : (node : ℕ) → SightOn (IsReadable app t) (place_of t c.who node)
-  sight-of node = subst (λ (who : Who). SightOn (IsReadable app t) (place_of t who node)) (sym named) (node-seen app t node)
+module _ (app : List ℕ) (t : State) (c : Connection) (named : c.who ≡ Who.App app) (plain : (node : ℕ) → Plain (sight_on t c node)) where
+  sight-of : (node : ℕ) → SightOn (IsReadable app t) (sight_on t c node)
+  sight-of node = subst (λ (who : Who). SightOn (IsReadable app t) (place_of t who (naming_on c node) node)) (sym named) (node-seen app t (naming_on c node) node)
 
   reads-of : (file : OpenFile) → reaches (reach_at t c.who) file ≡ true → file.strict ≡ true → has t (Who.App app) file.document.number Read ≡ true
   reads-of file h e = reads-now app t file (subst (λ (who : Who). reaches (reach_at t who) file ≡ true) named h) e
@@ -109,17 +128,17 @@ module _ (app : List ℕ) (t : State) (c : Connection) (named : c.who ≡ Who.Ap
   OpenFor op = IsOpen app t c.seat op
 
   walk-places : (r : NodeRequest) (op : NodeOp) → Walks r op
-  walk-places r (NodeOp.Lookup name) = lookup-along Reads (OpenFor (NodeOp.Lookup name)) r name (place_of t c.who r.node) (sight-of r.node)
+  walk-places r (NodeOp.Lookup name) = lookup-along Reads (OpenFor (NodeOp.Lookup name)) r c.namings name (sight_on t c r.node) (sight-of r.node) (plain r.node)
   walk-places r (NodeOp.Forget count) = tt
   walk-places r (NodeOp.BatchForget nodes) = tt
   walk-places r (NodeOp.GetAttr flags fh) =
-      get_attr-along Reads (OpenFor (NodeOp.GetAttr flags fh)) (reach_at t c.who) r flags (place_of t c.who r.node) (handle_of t.handles c.seat fh) (sight-of r.node)
+      get_attr-along Reads (OpenFor (NodeOp.GetAttr flags fh)) (reach_at t c.who) r flags (sight_on t c r.node) (handle_of t.handles c.seat fh) (sight-of r.node) (plain r.node)
       (λ file is ok. record { fh = fh; file = file; handle = is; name_is = refl; opened_for = refl; strict = λ e f. reads-of file ok e })
   walk-places r (NodeOp.SetAttr valid fh size) =
-      set_attr-along Reads (OpenFor (NodeOp.SetAttr valid fh size)) (reach_at t c.who) r (record { valid = valid; size = size; limit = t.limits.file_bytes }) (place_of t c.who r.node) (handle_of t.handles c.seat fh) (sight-of r.node)
+      set_attr-along Reads (OpenFor (NodeOp.SetAttr valid fh size)) (reach_at t c.who) r (record { valid = valid; size = size; limit = t.limits.file_bytes }) (sight_on t c r.node) (handle_of t.handles c.seat fh) (sight-of r.node) (plain r.node)
       (λ file is ok. record { fh = fh; file = file; handle = is; name_is = refl; opened_for = refl; strict = λ e f. reads-of file ok e })
-  walk-places r (NodeOp.Open flags) = open-along Reads (OpenFor (NodeOp.Open flags)) r flags (place_of t c.who r.node) _ (sight-of r.node)
-  walk-places r (NodeOp.Create name flags) = create-along Reads (OpenFor (NodeOp.Create name flags)) r name flags (place_of t c.who r.node) _ (sight-of r.node)
+  walk-places r (NodeOp.Open flags) = open-along Reads (OpenFor (NodeOp.Open flags)) r flags (sight_on t c r.node) _ (sight-of r.node) (plain r.node)
+  walk-places r (NodeOp.Create name flags) = create-along Reads (OpenFor (NodeOp.Create name flags)) r name flags (sight_on t c r.node) _ c.namings (sight-of r.node) (plain r.node)
   walk-places r (NodeOp.Read fh offset size) =
       read-along (λ path. ⊥) (OpenFor (NodeOp.Read fh offset size)) (reach_at t c.who) _ offset size (handle_of t.handles c.seat fh)
       (λ file is ok. record {
@@ -147,10 +166,10 @@ module _ (app : List ℕ) (t : State) (c : Connection) (named : c.who ≡ Who.Ap
       fsync-along (λ path. ⊥) (OpenFor (NodeOp.Fsync fh)) (handle_of t.handles c.seat fh)
       (λ file is ok. record { fh = fh; file = file; handle = is; name_is = refl; opened_for = refl; strict = λ e f. let no : false ≡ true = f in cc })
   walk-places r (NodeOp.Release fh) = release-along Reads (OpenFor (NodeOp.Release fh)) fh (handle_of t.handles c.seat fh)
-  walk-places r NodeOp.OpenDir = open_dir-along Reads (OpenFor NodeOp.OpenDir) r (place_of t c.who r.node) _ (sight-of r.node)
+  walk-places r NodeOp.OpenDir = open_dir-along Reads (OpenFor NodeOp.OpenDir) r (sight_on t c r.node) _ (sight-of r.node) (plain r.node)
   walk-places r (NodeOp.ReadDir fh offset size) = read_dir-along Reads (OpenFor (NodeOp.ReadDir fh offset size)) offset size (handle_of t.handles c.seat fh)
   walk-places r (NodeOp.ReleaseDir fh) = release_dir-along Reads (OpenFor (NodeOp.ReleaseDir fh)) fh (handle_of t.handles c.seat fh)
-  walk-places r (NodeOp.Access mask) = access-along Reads (OpenFor (NodeOp.Access mask)) mask (place_of t c.who r.node) (sight-of r.node)
+  walk-places r (NodeOp.Access mask) = access-along Reads (OpenFor (NodeOp.Access mask)) mask (sight_on t c r.node) (sight-of r.node) (plain r.node)
 
 -- ---- in the state in which it is asked
 
@@ -188,7 +207,7 @@ module _ (app : List ℕ) (s : State) (c : Connection) (r : NodeRequest) where
   may-ask (AtPath path) h = path-asked r.op path h
   may-ask (Named name) h = name-asked r.op name h
 
-  pub node-places : c.who ≡ Who.App app → (looks : List Look) → AllByRecursion (MayAsk app s c.seat (Request.Node r)) (places_along (walk_on_node told c r) looks)
-  node-places named looks =
+  pub node-places : c.who ≡ Who.App app → ((node : ℕ) → Plain (sight_on told c node)) → (looks : List Look) → AllByRecursion (MayAsk app s c.seat (Request.Node r)) (places_along (walk_on_node told c r) looks)
+  node-places named plain looks =
       all-weaker (May (ByDocument app told r.op) (IsOpen app told c.seat r.op)) (MayAsk app s c.seat (Request.Node r)) may-ask (places_along (walk_on_node told c r) looks)
-      (along-places (ByDocument app told r.op) (IsOpen app told c.seat r.op) (walk_on_node told c r) (walk-places app told c named r r.op) looks)
+      (along-places (ByDocument app told r.op) (IsOpen app told c.seat r.op) (walk_on_node told c r) (walk-places app told c named plain r r.op) looks)

@@ -167,6 +167,7 @@ plain_own e = record {
   numbers = e.given.numbers;
   reused = [];
   looks = e.given.looks;
+  listed = e.given.listed;
   full = e.given.full;
   fault = e.given.fault;
   generation = e.given.generation;

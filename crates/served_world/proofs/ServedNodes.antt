@@ -5,6 +5,7 @@ use Rattle.std.specs.List.{flat_map}
 use Rattle.std.proofs.lemmas.List.{length-map, length-take}
 use Rattle.portal_base.specs.FileChanges.{bytes_from, cut_to, overlaid}
 use Rattle.portal_base.specs.declared.files.FileName.{FileName}
+use Rattle.portal_base.specs.declared.files.ChildName.{ChildName}
 use Rattle.portal_base.specs.declared.files.Look.{Look}
 use Rattle.portal_base.specs.declared.who.Who.{Who}
 use Rattle.portal_model.specs.declared.entry.Given.{Given}
@@ -23,21 +24,21 @@ use Rattle.portal_model.specs.Content.{OfFile}
 use Rattle.portal_model.specs.Errno.{eacces, ebadf, einval, enoent}
 use Rattle.portal_model.specs.History.{made_by}
 use Rattle.portal_model.specs.Node.{NodeFacts, bytes_named, facts_of, node_answer, node_done, node_walk, settled_on_node, walk_on_node}
-use Rattle.portal_model.specs.NodeVerdict.{FileChange, FilesStay, Writes, Resizes, Creates, HandlesStay, NodeDoing, NodeVerdict, Errs, Yields, errs, errs_if, tells}
-use Rattle.portal_model.specs.Place.{place_of, reach_at}
+use Rattle.portal_model.specs.NodeVerdict.{FileChange, FilesStay, Writes, Resizes, Creates, HandlesStay, NodeDoing, NodeVerdict, Errs, Yields, errs, errs_if, tells, NamesStay}
+use Rattle.portal_model.specs.Place.{place_of, reach_at, naming_on}
 use Rattle.portal_model.specs.Reach.{Reaching, may_read_now, open_file_of}
 use Rattle.portal_model.specs.Read.{read, read_limit}
 use Rattle.portal_model.specs.State.{State, connection_of, handles_of, held_of, is_app}
 use Rattle.portal_model.specs.Step.{all_told, is_mount, mount_of, node_step, with_signals}
 use Rattle.portal_model.specs.Valid.{Valid}
-use Rattle.portal_model.specs.Walk.{Walk, Ends, Uses, walked}
+use Rattle.portal_model.specs.Walk.{Walk, Ends, Uses, walked_with}
 use Rattle.app_world.specs.Effect.{Bytes}
 use Rattle.app_world.specs.Laws.{asks}
-use Rattle.app_world.specs.Node.{bytes_at, bytes_effects, own_connections_after, own_facts, own_node_done, own_settled_on_node, own_walk}
+use Rattle.app_world.specs.Node.{bytes_at, bytes_effects, own_facts, own_node_done, own_settled_on_node, own_walk, own_connections_then}
 use Rattle.app_world.specs.Shown.{own_bytes}
 use Rattle.app_world.specs.View.{AppView, HeldDocument, OwnConnection, found_connection, held_documents, names, own_connection, own_connections, own_handle, prune, view}
 use Rattle.app_world.specs.World.{own_mount_of}
-use Rattle.app_world.proofs.HandleChangeLaws.{connections-changed, handle-found}
+use Rattle.app_world.proofs.HandleChangeLaws.{connections-then, handle-found}
 use Rattle.app_world.proofs.PlaceLaws.{own_place-is, own_reach-is}
 use Rattle.app_world.proofs.ViewLaws.{is_app-named, own-some, own_unsent, still_held, view-told}
 use Rattle.served_world.specs.ServedItem.{bare, items_of_effect}
@@ -81,10 +82,10 @@ module _ (app : List ℕ) (t : State) (c : Connection) where
 
   done-bare : (d : NodeDoing) → bare (own_node_done (bare v) mine d) ≡ bare (view (node_done t c d) app)
   done-bare d =
-      all-bare (bytes_effects (bare v) (own_bytes (bare v)) d.file) (prune (record (bare v) { connections = own_connections_after mine d.handle v.connections })) (held-twice docs) (bytes-told (bare v) (own_bytes (bare v)) d.file)
+      all-bare (bytes_effects (bare v) (own_bytes (bare v)) d.file) (prune (record (bare v) { connections = own_connections_then mine d v.connections })) (held-twice docs) (bytes-told (bare v) (own_bytes (bare v)) d.file)
       ∙ (λ i. record (bare v) {
         documents = still_held (held_of t.rights app) t.documents i;
-        connections = sym (connections-changed app c t.handles d.handle t.connections) i;
+        connections = sym (connections-then app c t.handles d t.connections) i;
       })
 
   pub settled-bare : (o : Option NodeVerdict) → bare_answer (own_settled_on_node (bare v) mine o) ≡ (bare (view (settled_on_node t c o).0 app), (settled_on_node t c o).1)
@@ -97,55 +98,56 @@ module _ (app : List ℕ) (t : State) (c : Connection) where
   abbrev SeenBy : (Answer → Answer → Type 0) → AppView × Answer → State × Answer → Type 0
   SeenBy alike own done = (bare own.0 ≡ bare (view done.0 app)) × alike own.1 done.1
 
-  read-found : (size : ℕ) (long closed barred : Bool) (name : FileName) (mine_found found : List ℕ) → length found ≤ size → (now : ℕ) (looks : List Look) (failed : Bool) →
-      SeenBy (ReadsAlike size) (own_settled_on_node (bare v) mine (walked (reading long closed barred name mine_found) now looks failed)) (settled_on_node t c (walked (reading long closed barred name found) now looks failed))
-  read-found size true closed barred name mine_found found h now looks failed = (refl, refl)
-  read-found size false true barred name mine_found found h now looks failed = (refl, refl)
-  read-found size false false true name mine_found found h now looks failed = (refl, refl)
-  read-found size false false false name mine_found found h now [] true = (refl, refl)
-  read-found size false false false name mine_found found h now [] false =
-      (done-bare (record { answer = NodeAnswer.Content found; file = FilesStay; handle = HandlesStay }), (found, refl, h))
-  read-found size false false false name mine_found found h now (look ∷ looks) failed = (refl, refl)
+  read-found : (size : ℕ) (long closed barred : Bool) (name : FileName) (mine_found found : List ℕ) → length found ≤ size → (now : ℕ) (listed : Option (List ChildName)) (looks : List Look) (failed : Bool) →
+      SeenBy (ReadsAlike size) (own_settled_on_node (bare v) mine (walked_with (reading long closed barred name mine_found) now listed looks failed)) (settled_on_node t c (walked_with (reading long closed barred name found) now listed looks failed))
+  read-found size true closed barred name mine_found found h now listed looks failed = (refl, refl)
+  read-found size false true barred name mine_found found h now listed looks failed = (refl, refl)
+  read-found size false false true name mine_found found h now listed looks failed = (refl, refl)
+  read-found size false false false name mine_found found h now listed [] true = (refl, refl)
+  read-found size false false false name mine_found found h now listed [] false =
+      (done-bare (record { answer = NodeAnswer.Content found; file = FilesStay; handle = HandlesStay; names = NamesStay }), (found, refl, h))
+  read-found size false false false name mine_found found h now listed (look ∷ looks) failed = (refl, refl)
 
-  read-refused : (size errno : ℕ) (long : Bool) (now : ℕ) (looks : List Look) (failed : Bool) →
-      SeenBy (ReadsAlike size) (own_settled_on_node (bare v) mine (walked (errs_if long einval (errs errno)) now looks failed)) (settled_on_node t c (walked (errs_if long einval (errs errno)) now looks failed))
-  read-refused size errno true now looks failed = (refl, refl)
-  read-refused size errno false now looks failed = (refl, refl)
+  read-refused : (size errno : ℕ) (long : Bool) (now : ℕ) (listed : Option (List ChildName)) (looks : List Look) (failed : Bool) →
+      SeenBy (ReadsAlike size) (own_settled_on_node (bare v) mine (walked_with (errs_if long einval (errs errno)) now listed looks failed)) (settled_on_node t c (walked_with (errs_if long einval (errs errno)) now listed looks failed))
+  read-refused size errno true now listed looks failed = (refl, refl)
+  read-refused size errno false now listed looks failed = (refl, refl)
 
-  read-seen : (reach : Reaching) (bytes more : FileName → List ℕ) (offset size : ℕ) (handle : Option Handle) (now : ℕ) (looks : List Look) (failed : Bool) →
-      SeenBy (ReadsAlike size) (own_settled_on_node (bare v) mine (walked (read reach bytes offset size handle) now looks failed)) (settled_on_node t c (walked (read reach more offset size handle) now looks failed))
-  read-seen reach bytes more offset size None now looks failed = read-refused size ebadf (nat_lt read_limit size) now looks failed
-  read-seen reach bytes more offset size (Some (Handle.File name node document strict reads writes)) now looks failed =
-      read-found size (nat_lt read_limit size) (not reads) (not (may_read_now reach (open_file_of name node document strict reads writes))) name (bytes_from (bytes name) offset size) (bytes_from (more name) offset size) (shown-within (more name) offset size) now looks failed
-  read-seen reach bytes more offset size (Some (Handle.Folder node names)) now looks failed = read-refused size ebadf (nat_lt read_limit size) now looks failed
+  read-seen : (reach : Reaching) (bytes more : FileName → List ℕ) (offset size : ℕ) (handle : Option Handle) (now : ℕ) (listed : Option (List ChildName)) (looks : List Look) (failed : Bool) →
+      SeenBy (ReadsAlike size) (own_settled_on_node (bare v) mine (walked_with (read reach bytes offset size handle) now listed looks failed)) (settled_on_node t c (walked_with (read reach more offset size handle) now listed looks failed))
+  read-seen reach bytes more offset size None now listed looks failed = read-refused size ebadf (nat_lt read_limit size) now listed looks failed
+  read-seen reach bytes more offset size (Some (Handle.File name node document strict reads writes)) now listed looks failed =
+      read-found size (nat_lt read_limit size) (not reads) (not (may_read_now reach (open_file_of name node document strict reads writes))) name (bytes_from (bytes name) offset size) (bytes_from (more name) offset size) (shown-within (more name) offset size) now listed looks failed
+  read-seen reach bytes more offset size (Some (Handle.Folder node names)) now listed looks failed = read-refused size ebadf (nat_lt read_limit size) now listed looks failed
 
   same-seen : (o : Option NodeVerdict) → SeenBy (λ stepped given. given ≡ stepped) (own_settled_on_node (bare v) mine o) (settled_on_node t c o)
   same-seen o = (ap (λ (x : AppView × Answer). x.0) (settled-bare o), sym (ap (λ (x : AppView × Answer). x.1) (settled-bare o)))
 
-  walk-seen : (f : NodeFacts) (bytes : FileName → List ℕ) (r : NodeRequest) (op : NodeOp) (now : ℕ) (looks : List Look) (failed : Bool) →
-      SeenBy (NodeAlike op) (own_settled_on_node (bare v) mine (walked (node_walk (record f { bytes = bytes }) r op) now looks failed)) (settled_on_node t c (walked (node_walk f r op) now looks failed))
-  walk-seen f bytes r (NodeOp.Read fh offset size) now looks failed = read-seen f.reach bytes f.bytes offset size (f.handle fh) now looks failed
-  walk-seen f bytes r op now looks failed = same-seen (walked (node_walk f r op) now looks failed)
+  walk-seen : (f : NodeFacts) (bytes : FileName → List ℕ) (r : NodeRequest) (op : NodeOp) (now : ℕ) (listed : Option (List ChildName)) (looks : List Look) (failed : Bool) →
+      SeenBy (NodeAlike op) (own_settled_on_node (bare v) mine (walked_with (node_walk (record f { bytes = bytes }) r op) now listed looks failed)) (settled_on_node t c (walked_with (node_walk f r op) now listed looks failed))
+  walk-seen f bytes r (NodeOp.Read fh offset size) now listed looks failed = read-seen f.reach bytes f.bytes offset size (f.handle fh) now listed looks failed
+  walk-seen f bytes r op now listed looks failed = same-seen (walked_with (node_walk f r op) now listed looks failed)
 
   -- ---- what it depends on
 
   module _ (r : NodeRequest) (named : c.who ≡ Who.App app) where
     pub facts-bare : own_facts (bare v) mine r.node ≡ record (facts_of t c r.node) { bytes = own_bytes (bare v) }
     facts-bare = λ i. record {
-      sight = (own_place-is app t r.node ∙ ap (λ (who : Who). place_of t who r.node) (sym named)) i;
+      sight = (own_place-is app t (naming_on c r.node) r.node ∙ ap (λ (who : Who). place_of t who (naming_on c r.node) r.node) (sym named)) i;
       handle = λ fh. handle-found t.handles c.seat fh i;
       reach = λ node number. (own_reach-is app t node number ∙ ap (λ (who : Who). reach_at t who node number) (sym named)) i;
       bytes = own_bytes (bare v);
       room = record { opens = c.opens; full = not (nat_lt (length-map (handles_of t.handles c.seat) own_handle i) t.limits.handles) };
+      namings = c.namings;
       file_limit = t.limits.file_bytes;
     }
 
     -- it comes to the same but for the bytes that a READ shows
-    pub node-seen : (now : ℕ) (looks : List Look) (failed : Bool) →
-        SeenBy (NodeAlike r.op) (own_settled_on_node (bare v) mine (walked (own_walk (bare v) mine r) now looks failed)) (settled_on_node t c (walked (walk_on_node t c r) now looks failed))
-    node-seen now looks failed =
-        subst (λ (f : NodeFacts). SeenBy (NodeAlike r.op) (own_settled_on_node (bare v) mine (walked (node_walk f r r.op) now looks failed)) (settled_on_node t c (walked (walk_on_node t c r) now looks failed))) (sym facts-bare)
-        (walk-seen (facts_of t c r.node) (own_bytes (bare v)) r r.op now looks failed)
+    pub node-seen : (now : ℕ) (listed : Option (List ChildName)) (looks : List Look) (failed : Bool) →
+        SeenBy (NodeAlike r.op) (own_settled_on_node (bare v) mine (walked_with (own_walk (bare v) mine r) now listed looks failed)) (settled_on_node t c (walked_with (walk_on_node t c r) now listed looks failed))
+    node-seen now listed looks failed =
+        subst (λ (f : NodeFacts). SeenBy (NodeAlike r.op) (own_settled_on_node (bare v) mine (walked_with (node_walk f r r.op) now listed looks failed)) (settled_on_node t c (walked_with (walk_on_node t c r) now listed looks failed))) (sym facts-bare)
+        (walk-seen (facts_of t c r.node) (own_bytes (bare v)) r r.op now listed looks failed)
 
     -- and to the very same where no file is told
     pub walk-untold : t.files ≡ [] → own_walk (bare v) mine r ≡ walk_on_node t c r
@@ -176,7 +178,7 @@ module _ (app : List ℕ) (s : State) (seat : ℕ) (r : NodeRequest) (given : Gi
     mount_seen false = (refl, (refl, nothing-here r.op))
     mount_seen true =
         let p = subst (λ (x : AppView). (bare (served_node_answer (bare x) o r own).0 ≡ bare (view (node_answer told c r given).0 app)) × NodeAlike r.op (served_node_answer (bare x) o r own).1 (node_answer told c r given).1) (view-told app s c.seat)
-        (node-seen app told c r (is_app-named app c.who h) (moment_given given.now) given.looks (is_tree given.fault)) in
+        (node-seen app told c r (is_app-named app c.who h) (moment_given given.now) given.listed given.looks (is_tree given.fault)) in
         (p.0, (own_unsent app s seat c valid e h, p.1))
 
     mount_untold : s.files ≡ [] → (m : Bool) → (served_node_step (bare (view s app)) r own (cond m (Some o) None)).1 ≡ (node_step s r given (cond m (Some c) None)).1
@@ -184,8 +186,8 @@ module _ (app : List ℕ) (s : State) (seat : ℕ) (r : NodeRequest) (given : Gi
     mount_untold f true =
         let w : Walk NodeVerdict = walk_on_node told c r in
         (λ i. (with_signals [] (served_node_answer (bare (sym (view-told app s c.seat) i)) o r own)).1)
-        ∙ (ap (λ (x : Walk NodeVerdict). (with_signals [] (own_settled_on_node (bare (view told app)) o (walked x (moment_given given.now) given.looks (is_tree given.fault)))).1) (walk-untold app told c r (is_app-named app c.who h) f)
-        ∙ (ap (λ (x : AppView × Answer). (with_signals [] x).1) (settled-bare app told c (walked w (moment_given given.now) given.looks (is_tree given.fault)))
+        ∙ (ap (λ (x : Walk NodeVerdict). (with_signals [] (own_settled_on_node (bare (view told app)) o (walked_with x (moment_given given.now) given.listed given.looks (is_tree given.fault)))).1) (walk-untold app told c r (is_app-named app c.who h) f)
+        ∙ (ap (λ (x : AppView × Answer). (with_signals [] x).1) (settled-bare app told c (walked_with w (moment_given given.now) given.listed given.looks (is_tree given.fault)))
         ∙ (λ i. (with_signals (sym (own_unsent app s seat c valid e h) i) (node_answer told c r given)).1)))
 
   pub node-own-seen : (found : Option Connection) → connection_of s.connections seat ≡ found → made_by app found (Request.Node r) ≡ true →

@@ -1,27 +1,46 @@
 -- Over a tree that tells its files the looks that are given to a request are what the files have at its places.
-use Rattle.std.proofs.Common.{◌≡◌, ℕ, List, [], ◌∷◌, length, map, take, Bool, true, false, not, Option, Some, None, is_some, refl, sym, subst, ◌∙◌}
+use Rattle.std.proofs.Common.{◌≡◌, ◌+◌, ◌&&◌, ◌||◌, ℕ, nat_lt, List, [], ◌∷◌, length, map, take, Bool, true, false, not, cond, Option, Some, None, is_some, refl, sym, subst, ◌∙◌}
 use Rattle.portal_base.specs.Content.{file_named}
+use Rattle.portal_base.specs.Names.{is_same, name_of, named_child}
 use Rattle.portal_base.specs.declared.files.File.{File}
+use Rattle.portal_base.specs.declared.files.FileName.{FileName}
 use Rattle.portal_base.specs.declared.files.Look.{Look}
 use Rattle.portal_base.specs.declared.names.doc_id.DocId.{DocId}
 use Rattle.portal_model.specs.declared.handle.Handle.{Handle}
+use Rattle.portal_model.specs.declared.naming.Naming.{Naming}
 use Rattle.portal_model.specs.declared.reply.Code.{Code}
 use Rattle.portal_model.specs.declared.reply.Code.TheVariants as code
+use Rattle.portal_model.specs.declared.reply.NodeAnswer.TheVariants as NodeAnswer
 use Rattle.portal_model.specs.declared.request.AddRequest.{AddRequest}
 use Rattle.portal_model.specs.declared.request.NodeOp.{NodeOp}
 use Rattle.portal_model.specs.declared.request.NodeRequest.{NodeRequest}
 use Rattle.portal_model.specs.declared.state.Connection.{Connection}
+use Rattle.portal_model.specs.declared.state.Document.{Document}
+use Rattle.portal_model.specs.Access.{access_file, access_folder, executes, writes_to}
 use Rattle.portal_model.specs.Add.{add, add_allowed, add_looking, add_presented, added, added_files, are_of_kind, may_list_all}
 use Rattle.portal_model.specs.AddArguments.{are_add_arguments, are_presented, document_paths, paths_shown}
+use Rattle.portal_model.specs.Attributes.{attr_of_folder, is_writable, on_node}
 use Rattle.portal_model.specs.Content.{look_at}
+use Rattle.portal_model.specs.Create.{Made, child_made, create_at, create_child, create_in, create_there, own_made}
+use Rattle.portal_model.specs.Errno.{eacces, ebadf, efbig, einval, eisdir, emfile, enametoolong, enoent, enotdir, eperm}
+use Rattle.portal_model.specs.Fsync.{fsync_open}
+use Rattle.portal_model.specs.GetAttr.{get_attr_by_handle, get_attr_by_place, get_attr_open, names_handle, tells_file, tells_folder}
+use Rattle.portal_model.specs.Lookup.{found_child, found_document, found_folder, lookup_child, lookup_in, named_in_root, named_in_views, naming_in}
 use Rattle.portal_model.specs.Node.{NodeFacts, node_walk}
-use Rattle.portal_model.specs.NodeVerdict.{NodeVerdict}
-use Rattle.portal_model.specs.Place.{Folder, FolderOf, RootOf, Views, Sight, SightOfFile, SightOfFolder}
+use Rattle.portal_model.specs.NodeVerdict.{NodeVerdict, OnFile, OnHandle, Room, Spot, at_name, by_file_handle, by_look, by_place, errs, errs_if, if_file, is_too_long, name_at, no_file, spot, told}
+use Rattle.portal_model.specs.Open.{has_no_mode, open_file, open_folder, open_name, opens_to_write, truncates}
+use Rattle.portal_model.specs.OpenDir.{open_dir_in, open_found}
+use Rattle.portal_model.specs.Place.{Exported, Folder, FolderOf, RootOf, Views, Sight, SightBelow, SightOfFile, SightOfFolder, file_node}
+use Rattle.portal_model.specs.Reach.{OpenFile, may_read_now, may_write_now, open_file_of, reaches}
+use Rattle.portal_model.specs.Read.{read_limit, read_open}
+use Rattle.portal_model.specs.ReadDir.{read_names}
+use Rattle.portal_model.specs.ReleaseDir.{release_dir}
+use Rattle.portal_model.specs.SeatNames.{lacks_number}
+use Rattle.portal_model.specs.SetAttr.{SetsAttr, resize, set_attr_at, set_attr_of, set_attr_of_folder, set_attr_of_open, set_attr_open, sets_by_handle, sets_owner_or_mode, sets_size}
 use Rattle.portal_model.specs.State.{State}
 use Rattle.portal_model.specs.Verdict.{Verdict, unless, walk_unless}
-use Rattle.portal_model.specs.Walk.{Walk, Answers, Looks, Ends, AtPath, LastCall, Uses, Changes, Makes, Gives, is_found, look_of_file, looks_at_all, shown_at}
-use Rattle.app_world.proofs.NamedPaths.{HandleOn, SightOn}
-use Rattle.app_world.proofs.WalksAlong.{Along, walk-along}
+use Rattle.portal_model.specs.Walk.{Walk, Answers, Looks, Ends, Lists, AtPath, LastCall, Uses, Changes, Makes, Gives, is_found, look_of_file, looks_at_all, shown_at}
+use Rattle.portal_model.specs.Write.{write_content, write_limit, write_open}
 use Rattle.served_world.specs.OwnPlaces.{place_of_call, places_along}
 
 -- ---- along a walk
@@ -37,6 +56,7 @@ module _ (files : List File) where
   MakesNew (Answers x) = Unit {0}
   MakesNew (Looks place next) = MakesNew (next (shown_at files place))
   MakesNew (Ends call done missing) = IsMadeNew call
+  MakesNew (Lists path done missing) = Unit {0}
 
   -- a call that finds nothing is at a place where nothing is
   none-there : (o : Option File) → false ≡ is_some o → look_of_file o ≡ Look.Missing
@@ -63,39 +83,161 @@ module _ (files : List File) where
       let first : look ≡ shown_at files (place_of_call call) = g.0 ∙ sym (nothing-there call h g.3) in
       let none : looks ≡ take (length looks) [] = subst (λ (l : List Look). l ≡ take (length l) []) (sym g.1) refl in
       λ i. first i ∷ none i
+  shown-along (Lists path done missing) h looks failed g = subst (λ (l : List Look). l ≡ take (length l) (shown_at files (AtPath path) ∷ [])) (sym g) refl
 
   -- ---- a request on a node
 
-  abbrev Anywhere : List ℕ → Type 0
-  Anywhere path = Unit {0}
+  if-made : (wrong : Bool) (errno : ℕ) (w : Walk NodeVerdict) → MakesNew w → MakesNew (errs_if wrong errno w)
+  if-made true errno w h = tt
+  if-made false errno w h = h
 
-  any-folder : (f : Folder) → SightOn Anywhere (Some (SightOfFolder f))
-  any-folder (RootOf view numbers has_views) = tt
-  any-folder (Views applications) = tt
-  any-folder (FolderOf view d may_write) = tt
+  either-made : (b : Bool) (w u : Walk NodeVerdict) → MakesNew w → MakesNew u → MakesNew (cond b w u)
+  either-made true w u h k = h
+  either-made false w u h k = k
 
-  any-sight : (o : Option Sight) → SightOn Anywhere o
-  any-sight None = tt
-  any-sight (Some (SightOfFile d may_write)) = tt
-  any-sight (Some (SightOfFolder f)) = any-folder f
+  file-made : (next : OnFile) (look : Look) → ((generation size moment : ℕ) → MakesNew (next generation size moment)) → MakesNew (if_file next look)
+  file-made next (Look.File generation size moment) h = h generation size moment
+  file-made next Look.Folder h = tt
+  file-made next Look.Missing h = tt
 
-  any-handle : (o : Option Handle) → HandleOn Anywhere o
-  any-handle None = tt
-  any-handle (Some (Handle.File name node document strict reads writes)) = tt
-  any-handle (Some (Handle.Folder node names)) = tt
+  below-made : (view : ℕ) (at : Spot) (file : Spot → OnFile) (folder : Folder → Walk NodeVerdict) (look : Look) → ((generation size moment : ℕ) → MakesNew (file at generation size moment)) → ((f : Folder) → MakesNew (folder f)) → MakesNew (by_look view at file folder look)
+  below-made view at file folder (Look.File generation size moment) h k = h generation size moment
+  below-made view at file folder Look.Folder h k = k (Exported view at.document at.path at.may_write)
+  below-made view at file folder Look.Missing h k = tt
 
-  abbrev Goes : Walk NodeVerdict → Type 0
-  Goes w = Along files Anywhere (λ place. Unit {0}) IsMadeNew w
+  place-made : (sight : Option Sight) (file : Spot → OnFile) (folder : Folder → Walk NodeVerdict) → ((at : Spot) (generation size moment : ℕ) → MakesNew (file at generation size moment)) → ((f : Folder) → MakesNew (folder f)) → MakesNew (by_place sight file folder)
+  place-made None file folder h k = tt
+  place-made (Some (SightOfFile d may_write)) file folder h k = file-made (file (spot d d.path may_write)) (look_at files d.path) (h (spot d d.path may_write))
+  place-made (Some (SightBelow view d path may_write)) file folder h k = below-made view (spot d path may_write) file folder (look_at files path) (h (spot d path may_write)) k
+  place-made (Some (SightOfFolder f)) file folder h k = k f
 
-  new-along : (w : Walk NodeVerdict) → Goes w → MakesNew w
-  new-along (Answers v) h = tt
-  new-along (Looks place next) h = new-along (next (shown_at files place)) h.1
-  new-along (Ends call done missing) h = h.0
+  name-made : (name : FileName) (next : OnFile) → ((generation size moment : ℕ) → MakesNew (next generation size moment)) → MakesNew (at_name name next)
+  name-made name next h = file-made next (look_of_file (file_named files name)) h
 
-  pub node-made : (f : NodeFacts) (r : NodeRequest) (op : NodeOp) → MakesNew (node_walk f r op)
-  node-made f r op =
-      new-along (node_walk f r op)
-      (walk-along files Anywhere (λ place. Unit {0}) IsMadeNew (λ path h. tt) (λ name h. tt) (λ name h. tt) (λ name h. tt) (λ path h e. e) f r op (any-sight f.sight) (λ fh. any-handle (f.handle fh)))
+  handle-made : (handle : Option Handle) (next : OnHandle) → ((file : OpenFile) → MakesNew (next file)) → MakesNew (by_file_handle handle next)
+  handle-made None next h = tt
+  handle-made (Some (Handle.File name node document strict reads writes)) next h = h (open_file_of name node document strict reads writes)
+  handle-made (Some (Handle.Folder node names)) next h = tt
+
+  -- a file is made alone where the look ahead shows none
+  there-made : (r : NodeRequest) (flags : ℕ) (room : Room) (made : Made) (look : Look) → look_at files made.path ≡ look → MakesNew (create_there r flags room made look)
+  there-made r flags room made (Look.File generation size moment) e = tt
+  there-made r flags room made Look.Folder e = tt
+  there-made r flags room made Look.Missing e = e
+
+  at-made : (r : NodeRequest) (flags : ℕ) (room : Room) (made : Made) → MakesNew (create_at r flags room made)
+  at-made r flags room made = there-made r flags room made (look_at files made.path) refl
+
+  child-made : (r : NodeRequest) (flags : ℕ) (room : Room) (namings : List Naming) (view : ℕ) (d : Document) (may_write : Bool) (path : Option (List ℕ)) → MakesNew (create_child r flags room namings view d may_write path)
+  child-made r flags room namings view d may_write None = tt
+  child-made r flags room namings view d may_write (Some path) =
+      let naming : Naming = naming_in view d path in
+      let walk : Walk NodeVerdict = create_at r flags room (child_made namings d naming) in
+      if-made (not may_write) eacces (errs_if (room.full || lacks_number namings naming) emfile walk)
+      (if-made (room.full || lacks_number namings naming) emfile walk (at-made r flags room (child_made namings d naming)))
+
+  in-made : (r : NodeRequest) (name : List ℕ) (flags : ℕ) (room : Room) (namings : List Naming) (f : Folder) → MakesNew (create_in r name flags room namings f)
+  in-made r name flags room namings (RootOf view numbers has_views) = tt
+  in-made r name flags room namings (Views applications) = tt
+  in-made r name flags room namings (FolderOf view d may_write) =
+      if-made (not (is_same name (name_of d.path))) eacces _ (if-made (not may_write) eacces _ (if-made room.full emfile _ (at-made r flags room (own_made view d))))
+  in-made r name flags room namings (Exported view d path may_write) = child-made r flags room namings view d may_write (named_child path name)
+
+  found-made : (r : NodeRequest) (o : Option ℕ) → MakesNew (found_folder r o)
+  found-made r None = tt
+  found-made r (Some node) = tt
+
+  own-made : (r : NodeRequest) (node : ℕ) (d : Document) (may_write : Bool) (look : Look) → MakesNew (found_document r node d may_write look)
+  own-made r node d may_write (Look.File generation size moment) = tt
+  own-made r node d may_write Look.Folder = either-made d.folder (told (NodeAnswer.Entry (attr_of_folder (on_node r node) may_write))) (errs enoent) tt tt
+  own-made r node d may_write Look.Missing = tt
+
+  entry-made : (r : NodeRequest) (namings : List Naming) (naming : Naming) (may_write : Bool) (look : Look) → MakesNew (found_child r namings naming may_write look)
+  entry-made r namings naming may_write (Look.File generation size moment) = if-made (lacks_number namings naming) emfile _ tt
+  entry-made r namings naming may_write Look.Folder = if-made (lacks_number namings naming) emfile _ tt
+  entry-made r namings naming may_write Look.Missing = tt
+
+  lookup-child-made : (r : NodeRequest) (namings : List Naming) (view : ℕ) (d : Document) (may_write : Bool) (path : Option (List ℕ)) → MakesNew (lookup_child r namings view d may_write path)
+  lookup-child-made r namings view d may_write None = tt
+  lookup-child-made r namings view d may_write (Some path) = entry-made r namings (naming_in view d path) may_write (look_at files path)
+
+  lookup-made : (r : NodeRequest) (namings : List Naming) (name : List ℕ) (f : Folder) → MakesNew (lookup_in r namings name f)
+  lookup-made r namings name (RootOf view numbers has_views) = found-made r (named_in_root view numbers has_views name)
+  lookup-made r namings name (Views applications) = found-made r (named_in_views applications name)
+  lookup-made r namings name (FolderOf view d may_write) =
+      either-made (is_same name (name_of d.path)) (Looks (AtPath d.path) (found_document r (file_node view d.id.number) d may_write)) (errs enoent) (own-made r (file_node view d.id.number) d may_write (look_at files d.path)) tt
+  lookup-made r namings name (Exported view d path may_write) = lookup-child-made r namings view d may_write (named_child path name)
+
+  size-made : (r : NodeRequest) (a : SetsAttr) (name : FileName) (may_write : Bool) (size moment : ℕ) → MakesNew (set_attr_of r a name may_write size moment)
+  size-made r a name may_write size moment = either-made (sets_size a.valid) _ _ (if-made (not may_write) eacces _ (if-made (nat_lt a.limit a.size) efbig (resize r a name may_write) tt)) tt
+
+  open-made : (r : NodeRequest) (flags : ℕ) (room : Room) (d : Document) (name : FileName) → MakesNew (open_name r flags room d name)
+  open-made r flags room d name = either-made (truncates flags) _ _ tt tt
+
+  found-dir-made : (r : NodeRequest) (room : Room) (f : Folder) → MakesNew (open_found r room f)
+  found-dir-made r room (RootOf view numbers has_views) = tt
+  found-dir-made r room (Views applications) = tt
+  found-dir-made r room (FolderOf view d may_write) = tt
+  found-dir-made r room (Exported view d path may_write) = tt
+
+  names-made : (offset size : ℕ) (handle : Option Handle) → MakesNew (read_names offset size handle)
+  names-made offset size None = tt
+  names-made offset size (Some (Handle.File name node document strict reads writes)) = tt
+  names-made offset size (Some (Handle.Folder node names)) = tt
+
+  release-made : (fh : ℕ) (handle : Option Handle) → MakesNew (release_dir fh handle)
+  release-made fh None = tt
+  release-made fh (Some (Handle.File name node document strict reads writes)) = tt
+  release-made fh (Some (Handle.Folder node names)) = tt
+
+  content-made : (limit : ℕ) (name : FileName) (offset : ℕ) (content : List ℕ) → MakesNew (write_content limit name offset content)
+  content-made limit name offset [] = tt
+  content-made limit name offset (b ∷ bs) = if-made (nat_lt limit (offset + length (b ∷ bs))) efbig _ tt
+
+  module _ (f : NodeFacts) (r : NodeRequest) where
+    attr-place-made : MakesNew (get_attr_by_place r f.sight)
+    attr-place-made = place-made f.sight (λ at. tells_file r at.may_write) (tells_folder r) (λ at g s m. tt) (λ x. tt)
+
+    attr-open-made : (file : OpenFile) → MakesNew (get_attr_open f.reach r file)
+    attr-open-made file =
+        if-made (not (reaches f.reach file)) eacces (at_name file.name (tells_file (on_node r file.node) (may_write_now f.reach file)))
+        (name-made file.name (tells_file (on_node r file.node) (may_write_now f.reach file)) (λ g s m. tt))
+
+    attr-made : (handle : Option Handle) → MakesNew (get_attr_by_handle f.reach r f.sight handle)
+    attr-made None = tt
+    attr-made (Some (Handle.File name node document strict reads writes)) = attr-open-made (open_file_of name node document strict reads writes)
+    attr-made (Some (Handle.Folder node names)) = attr-place-made
+
+    size-open-made : (a : SetsAttr) (file : OpenFile) → MakesNew (set_attr_open f.reach r a file)
+    size-open-made a file =
+        if-made (not (reaches f.reach file)) eacces _ (name-made file.name (set_attr_of_open f.reach r a file) (λ g s m.
+        if-made (sets_size a.valid && not file.write) ebadf _ (size-made (on_node r file.node) a file.name (may_write_now f.reach file) s m)))
+
+    pub node-made : (op : NodeOp) → MakesNew (node_walk f r op)
+    node-made (NodeOp.Lookup name) = if-made (is_too_long name) enametoolong _ (place-made f.sight (no_file enotdir) (lookup_in r f.namings name) (λ at g s m. tt) (lookup-made r f.namings name))
+    node-made (NodeOp.Forget count) = tt
+    node-made (NodeOp.BatchForget nodes) = tt
+    node-made (NodeOp.GetAttr flags fh) = either-made (names_handle flags) (get_attr_by_handle f.reach r f.sight (f.handle fh)) (get_attr_by_place r f.sight) (attr-made (f.handle fh)) attr-place-made
+    node-made (NodeOp.SetAttr valid fh size) =
+        let a : SetsAttr = record { valid = valid; size = size; limit = f.file_limit } in
+        if-made (sets_owner_or_mode valid) eperm _
+        (either-made (sets_by_handle valid) (by_file_handle (f.handle fh) (set_attr_open f.reach r a)) (by_place f.sight (set_attr_at r a) (set_attr_of_folder r a))
+        (handle-made (f.handle fh) (set_attr_open f.reach r a) (size-open-made a))
+        (place-made f.sight (set_attr_at r a) (set_attr_of_folder r a) (λ at g s m. size-made r a (name_at at g) at.may_write s m) (λ x. if-made (sets_size valid) eisdir _ tt)))
+    node-made (NodeOp.Open flags) = if-made (has_no_mode flags) einval _ (place-made f.sight (open_file r flags f.room) open_folder
+        (λ at g s m. if-made (opens_to_write flags && not at.may_write) eacces _ (if-made f.room.full emfile _ (open-made r flags f.room at.document (name_at at g)))) (λ x. tt))
+    node-made (NodeOp.Create name flags) = if-made (has_no_mode flags) einval _ (if-made (is_too_long name) enametoolong _ (place-made f.sight (no_file enotdir) (create_in r name flags f.room f.namings) (λ at g s m. tt) (in-made r name flags f.room f.namings)))
+    node-made (NodeOp.Read fh offset size) = if-made (nat_lt read_limit size) einval _ (handle-made (f.handle fh) (read_open f.reach f.bytes offset size) (λ file. if-made (not file.read) ebadf _ (if-made (not (may_read_now f.reach file)) eacces _ tt)))
+    node-made (NodeOp.Write fh offset content) = if-made (nat_lt write_limit (length content)) einval _ (handle-made (f.handle fh) (write_open f.reach f.file_limit offset content) (λ file. if-made (not file.write) ebadf _ (if-made (not (may_write_now f.reach file)) eacces _ (content-made f.file_limit file.name offset content))))
+    node-made (NodeOp.Flush fh) = handle-made (f.handle fh) _ (λ file. tt)
+    node-made (NodeOp.Fsync fh) = handle-made (f.handle fh) fsync_open (λ file. tt)
+    node-made (NodeOp.Release fh) = handle-made (f.handle fh) _ (λ file. tt)
+    node-made NodeOp.OpenDir = place-made f.sight (no_file enotdir) (open_dir_in r f.room) (λ at g s m. tt) (λ x. if-made f.room.full emfile _ (found-dir-made r f.room x))
+    node-made (NodeOp.ReadDir fh offset size) = if-made (nat_lt read_limit size) einval _ (names-made offset size (f.handle fh))
+    node-made (NodeOp.ReleaseDir fh) = release-made fh (f.handle fh)
+    node-made (NodeOp.Access mask) = if-made (nat_lt 7 mask) einval _ (place-made f.sight (access_file mask) (access_folder mask)
+        (λ at g s m. if-made (executes mask || writes_to mask && not at.may_write) eacces (told NodeAnswer.Empty) tt)
+        (λ x. if-made (writes_to mask && not (is_writable x)) eacces (told NodeAnswer.Empty) tt))
 
   -- ---- an Add, which makes no file
 

@@ -106,6 +106,7 @@ own_item request looks = item.Own (record {
   numbers = [];
   reused = [];
   looks = looks;
+  listed = None;
   full = false;
   fault = Fault.None;
   generation = None;

@@ -27,7 +27,7 @@ use Rattle.portal_model.specs.Opening.{opened_over}
 use Rattle.portal_model.specs.Reach.{OpenFile}
 use Rattle.portal_model.specs.State.{State, connection_of, document_of, handle_of, has}
 use Rattle.portal_model.specs.Step.{all_told, bus_of, mount_of}
-use Rattle.portal_model.specs.Walk.{Walk, Answers, Looks, Ends, Target, AtPath, Named, LastCall, Uses, Changes, Makes, shown_at}
+use Rattle.portal_model.specs.Walk.{Walk, Answers, Looks, Ends, Lists, Target, AtPath, Named, LastCall, Uses, Changes, Makes, shown_at}
 use Rattle.app_world.specs.View.{OwnConnection, is_among, view}
 use Rattle.served_world.specs.ServedOwn.{served_own}
 
@@ -41,12 +41,13 @@ place_of_call (Makes path) = AtPath path
 
 -- The places of the calls that a walk makes, where it is shown these looks, one behind another:
 -- each look is of the place that stands where the look does. A call that failed has a place too,
--- and so has a last one that was done, as that of a READ.
+-- and so has a last one that was done, as that of a READ, or as a list of the names in a folder.
 abbrev pub places_along : {X : Type 0} → Walk X → List Look → List Target
 places_along (Answers x) looks = []
 places_along (Looks place next) [] = place ∷ []
 places_along (Looks place next) (look ∷ looks) = place ∷ places_along (next look) looks
 places_along (Ends call done missing) looks = place_of_call call ∷ []
+places_along (Lists path done missing) looks = AtPath path ∷ []
 
 abbrev pub node_places : State → NodeRequest → Given → Option Connection → List Target
 node_places s r given None = []

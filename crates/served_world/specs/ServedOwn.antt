@@ -1,6 +1,7 @@
 -- A request of the application, and what the outside gave to it, over any tree of files. Of the
 -- tree it has what was shown to this very request, and nothing that was shown to another.
 use Rattle.std.specs.Prelude.{ℕ, List, Bool, false, Option, length, map, replicate}
+use Rattle.portal_base.specs.declared.files.ChildName.{ChildName}
 use Rattle.portal_base.specs.declared.files.Look.{Look}
 use Rattle.portal_base.specs.declared.names.doc_id.DocId.{DocId}
 use Rattle.portal_model.specs.declared.entry.Entry.{Entry}
@@ -22,6 +23,8 @@ pub record ServedOwn : Type 0 where
   pub reused : List (Option DocId)
   -- what the tree showed, in the order of the calls, up to one that failed
   pub looks : List Look
+  -- the names of a folder, where it was listed and is there
+  pub listed : Option (List ChildName)
   pub full : Bool
   pub fault : Fault
   -- the generation of a file that was made to be renamed later
@@ -36,6 +39,7 @@ served_own s e = record {
   numbers = e.given.numbers;
   reused = documents_reused s e.request (bus_of (connection_of s.connections e.seat));
   looks = e.given.looks;
+  listed = e.given.listed;
   full = e.given.full;
   fault = e.given.fault;
   generation = e.given.generation;

@@ -14,7 +14,7 @@ use Rattle.portal_model.specs.History.{makes}
 use Rattle.portal_model.specs.NodeVerdict.{NodeVerdict}
 use Rattle.portal_model.specs.State.{State}
 use Rattle.portal_model.specs.Step.{after, not_here, with_signals}
-use Rattle.portal_model.specs.Walk.{Walk, walked}
+use Rattle.portal_model.specs.Walk.{Walk, walked_with}
 use Rattle.app_world.specs.Effect as effect
 use Rattle.app_world.specs.Effect.{apply}
 use Rattle.app_world.specs.Node.{own_settled_on_node, own_walk}
@@ -26,9 +26,11 @@ use Rattle.served_world.specs.ServedOwn.{ServedOwn, served_own, told_own}
 
 -- ---- the application's own machine
 
--- The walk of a request goes by the looks that were given to it, and not by what the view shows.
+-- The walk of a request goes by the looks and the names that were given to it, and not by what the
+-- view shows.
 abbrev pub served_node_given : Walk NodeVerdict → ServedOwn → Option NodeVerdict
-served_node_given walk own = walked walk (moment_given own.now) own.looks (is_tree own.fault)
+served_node_given walk own =
+    walked_with walk (moment_given own.now) own.listed own.looks (is_tree own.fault)
 
 -- the view after, and the answer
 abbrev pub served_node_answer :

@@ -3,6 +3,7 @@ use Rattle.std.proofs.Common.{ℕ, List, [], ◌∷◌, ◌++◌, length, Bool, 
 use Rattle.dbus_types.specs.declared.types.Value.{Value}
 use Rattle.std.specs.Prelude.{◌≢◌, nat_lt, ◌||◌}
 use Rattle.portal_base.specs.Names.{is_app_name, is_same}
+use Rattle.portal_base.specs.declared.files.ChildName.{ChildName}
 use Rattle.portal_base.specs.declared.files.Look.{Look}
 use Rattle.portal_base.specs.declared.names.doc_id.DocId.{DocId}
 use Rattle.portal_base.specs.declared.who.Who.{Who}
@@ -41,7 +42,7 @@ use Rattle.portal_model.specs.State.{State}
 use Rattle.portal_model.specs.Store.{Outcome, store_call}
 use Rattle.portal_model.specs.StoreRequest.{are_store_arguments, code_of, own_table, store_allowed, store_answered, store_request, store_verdict, table_of}
 use Rattle.portal_model.specs.Verdict.{Doing, Verdict, Refuses, Does, does, unless, walk_unless}
-use Rattle.portal_model.specs.Walk.{Walk, Answers, Looks, Ends, walked, looks_at_all}
+use Rattle.portal_model.specs.Walk.{Walk, Answers, Looks, Ends, Lists, walked, looks_at_all}
 
 abbrev pub IsHere : Answer → Type 0
 IsHere met = met ≢ answer.Refused code.NotHere
@@ -61,6 +62,7 @@ abbrev WalkHeard : Walk Verdict → Type 0
 WalkHeard (Answers v) = VerdictHeard v
 WalkHeard (Looks target next) = (look : Look) → WalkHeard (next look)
 WalkHeard (Ends call done missing) = ((now : ℕ) → VerdictHeard (done now)) × VerdictHeard missing
+WalkHeard (Lists path done missing) = ((names : List ChildName) → VerdictHeard (done names)) × VerdictHeard missing
 
 -- ---- answers
 
@@ -219,6 +221,8 @@ walked_heard (Looks target next) now (look ∷ looks) failed h = walked_heard (n
 walked_heard (Ends call done missing) now [] true h = tt
 walked_heard (Ends call done missing) now [] false h = h.0 now
 walked_heard (Ends call done missing) now (look ∷ looks) failed h = h.1
+walked_heard (Lists path done missing) now looks true h = tt
+walked_heard (Lists path done missing) now looks false h = h.1
 
 keeper_heard : (s : State) (f : Fault) (d : Doing) → IsHere d.answer → IsHere (kept s f d).1
 keeper_heard s Fault.None d h = h

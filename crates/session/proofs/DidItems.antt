@@ -113,7 +113,7 @@ broke_on c s t u v w b1 b2 a b = record {
 
 pub unsaid_on : (c : Client) (s t : Stage) (u v w : World) (b1 b2 : List ℕ) → Did c s u b1 t v → BrokeUnsaid c t v b2 w → BrokeUnsaid c s u (b1 ++ b2) w
 unfolding broke_on
-unsaid_on c s t u v w b1 b2 a b = (broke_on c s t u v w b1 b2 a b.0, b.1, b.2 ∙ a.sound)
+unsaid_on c s t u v w b1 b2 a b = (broke_on c s t u v w b1 b2 a b.0, b.1, b.2 ∙ a.sound, b.3)
 
 pub began_on : (c : Client) (s t : Stage) (u v w : World) (b1 b2 : List ℕ) → Did c s u b1 t v → Began c t v b2 w → Began c s u (b1 ++ b2) w
 began_on c s t u v w b1 b2 a b = record {

@@ -109,7 +109,7 @@ module _ (c : Client) (u v w x : World) (entered leaving : Exchange) (encloses :
 
   half_unsaid : (read : List ℕ) → length read ≤ longest → BrokeUnsaid c (first_stage c) v read w → HalfUnsaid c read u x
   unfolding half
-  half_unsaid read room b = (half read room b.0, b.1, q ∙ (b.2 ∙ p))
+  half_unsaid read room b = (half read room b.0, b.1, q ∙ (b.2 ∙ p), b.3)
 
   at_end : (left read : List ℕ) (i j : Spring) → IsDry j → Whole c read left stop.More u x → EndsAs c (ending_at left) read i j u x
   at_end [] read i j dry k = (dry, k)

@@ -47,7 +47,7 @@ step_short : (s : State) (r : NodeRequest) (given : Given) (o : Option Connectio
 step_short s r given None = tt
 step_short s r given (Some c) =
     let t : State = all_told c.seat s in
-    let walked = on_walked (room_for r.op) (walk_on_node t c r) (moment_given given.now) given.looks (is_tree given.fault) (walk_fits (facts_of t c r.node) r r.op) in
+    let walked = on_walked (room_for r.op) (walk_on_node t c r) (moment_given given.now) given.listed given.looks (is_tree given.fault) (walk_fits (facts_of t c r.node) r r.op) in
     settled_short (room_for r.op) t c (node_given (walk_on_node t c r) given) walked
 
 -- ---- the answer that is given

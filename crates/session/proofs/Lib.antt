@@ -28,6 +28,7 @@ pub mod CallsAreHeard
 pub mod HeardReplies
 pub mod NodeAnswersFit
 pub mod FramesFit
+pub mod FrameRoom
 pub mod WholeInputsEnd
 pub mod FramesCarry
 pub mod ItemsCostLittle

@@ -2,34 +2,37 @@
 use Rattle.std.proofs.Common.{◌≡◌, ℕ, ◌+◌, ◌≤◌, List, [], ◌∷◌, length, drop, Bool, true, false, not, ◌&&◌, ◌||◌, cond, Option, Some, None, refl, arith, length-take}
 use Rattle.std.specs.Prelude.{nat_lt}
 use Rattle.std.proofs.lemmas.Bool.Decides.{nat_tests}
-use Rattle.portal_base.specs.Names.{is_same, name_of}
+use Rattle.portal_base.specs.Names.{is_same, name_of, named_child}
 use Rattle.portal_base.specs.FileChanges.{bytes_from}
 use Rattle.portal_base.specs.declared.files.FileName.{FileName}
+use Rattle.portal_base.specs.declared.files.ChildName.{ChildName}
 use Rattle.portal_base.specs.declared.files.Look.{Look}
 use Rattle.portal_model.specs.declared.handle.Handle.{Handle}
+use Rattle.portal_model.specs.declared.naming.Naming.{Naming}
 use Rattle.portal_model.specs.declared.reply.NodeAnswer.{NodeAnswer}
 use Rattle.portal_model.specs.declared.request.NodeOp.{NodeOp}
 use Rattle.portal_model.specs.declared.request.NodeRequest.{NodeRequest}
 use Rattle.portal_model.specs.declared.state.Document.{Document}
 use Rattle.portal_model.specs.Access.{access, access_file, access_folder, executes, writes_to}
-use Rattle.portal_model.specs.Attributes.{attr_of_file, attr_of_folder, on_node}
-use Rattle.portal_model.specs.Create.{create, create_in, create_there}
+use Rattle.portal_model.specs.Attributes.{attr_of_file, attr_of_folder, is_writable, on_node}
+use Rattle.portal_model.specs.Create.{Made, child_made, create, create_at, create_child, create_in, create_there, own_made}
 use Rattle.portal_model.specs.Errno.{eacces, ebadf, efbig, einval, eisdir, emfile, enametoolong, enoent, enotdir, eperm}
 use Rattle.portal_model.specs.Fsync.{fsync_open}
 use Rattle.portal_model.specs.GetAttr.{get_attr, get_attr_by_handle, get_attr_by_place, get_attr_open, names_handle, tells_file, tells_folder}
-use Rattle.portal_model.specs.Lookup.{entry_of_file, found_folder, lookup, lookup_in, named_in_root, named_in_views}
+use Rattle.portal_model.specs.Lookup.{found_child, found_document, found_folder, lookup, lookup_child, lookup_in, named_in_root, named_in_views, naming_in, node_of_naming}
 use Rattle.portal_model.specs.Node.{NodeFacts, node_walk}
-use Rattle.portal_model.specs.NodeVerdict.{NodeVerdict, FilesStay, Resizes, Writes, Errs, Yields, OnFile, OnHandle, Room, at_file, at_name, by_file_handle, by_place, changes, errs, errs_if, if_file, is_too_long, no_file, tells, told}
+use Rattle.portal_model.specs.NodeVerdict.{NodeVerdict, FilesStay, Resizes, Writes, Errs, Yields, OnFile, OnHandle, Room, Spot, at_name, by_file_handle, by_look, by_place, changes, errs, errs_if, if_file, is_too_long, name_at, names_path, no_file, spot, tells, told}
 use Rattle.portal_model.specs.Open.{file_handle, has_no_mode, open_file, open_folder, open_name, open_node, opened_file, opens_to_write, truncates}
 use Rattle.portal_model.specs.OpenDir.{open_dir, open_dir_in, open_found}
-use Rattle.portal_model.specs.Place.{Folder, RootOf, Views, FolderOf, file_node, Sight, SightOfFile, SightOfFolder}
+use Rattle.portal_model.specs.Place.{Exported, Folder, RootOf, Views, FolderOf, file_node, Sight, SightBelow, SightOfFile, SightOfFolder}
 use Rattle.portal_model.specs.Reach.{OpenFile, Reaching, may_read_now, may_write_now, open_file_of, reaches}
 use Rattle.portal_model.specs.Read.{read, read_limit, read_name, read_open}
 use Rattle.portal_model.specs.ReadDir.{read_dir, read_names}
 use Rattle.portal_model.specs.Release.{closed}
 use Rattle.portal_model.specs.ReleaseDir.{release_dir}
+use Rattle.portal_model.specs.SeatNames.{lacks_number}
 use Rattle.portal_model.specs.SetAttr.{SetsAttr, resize, set_attr, set_attr_at, set_attr_of, set_attr_of_folder, set_attr_of_open, set_attr_open, sets_by_handle, sets_owner_or_mode, sets_size}
-use Rattle.portal_model.specs.Walk.{Walk, Answers, Looks, Ends, AtPath, Changes, walked}
+use Rattle.portal_model.specs.Walk.{Walk, Answers, Looks, Ends, Lists, AtPath, Changes, walked_with}
 use Rattle.portal_model.specs.Write.{write, write_content, write_limit, write_open}
 use Rattle.session.specs.FrameLengths.{longest_struct, room_for}
 
@@ -54,18 +57,22 @@ module _ (room : ℕ) where
   OnWalk (Answers v) = IfYields v
   OnWalk (Looks target next) = (look : Look) → OnWalk (next look)
   OnWalk (Ends call done missing) = ((now : ℕ) → IfYields (done now)) × IfYields missing
+  OnWalk (Lists path done missing) = ((names : List ChildName) → IfYields (done names)) × IfYields missing
 
   abbrev pub IfMet : Option NodeVerdict → Type 0
   IfMet None = Unit {0}
   IfMet (Some v) = IfYields v
 
-  pub on_walked : (w : Walk NodeVerdict) (now : ℕ) (looks : List Look) (failed : Bool) → OnWalk w → IfMet (walked w now looks failed)
-  on_walked (Answers v) now looks failed h = h
-  on_walked (Looks target next) now [] failed h = tt
-  on_walked (Looks target next) now (look ∷ looks) failed h = on_walked (next look) now looks failed (h look)
-  on_walked (Ends call done missing) now [] true h = tt
-  on_walked (Ends call done missing) now [] false h = h.0 now
-  on_walked (Ends call done missing) now (look ∷ looks) failed h = h.1
+  pub on_walked : (w : Walk NodeVerdict) (now : ℕ) (listed : Option (List ChildName)) (looks : List Look) (failed : Bool) → OnWalk w → IfMet (walked_with w now listed looks failed)
+  on_walked (Answers v) now listed looks failed h = h
+  on_walked (Looks target next) now listed [] failed h = tt
+  on_walked (Looks target next) now listed (look ∷ looks) failed h = on_walked (next look) now listed looks failed (h look)
+  on_walked (Ends call done missing) now listed [] true h = tt
+  on_walked (Ends call done missing) now listed [] false h = h.0 now
+  on_walked (Ends call done missing) now listed (look ∷ looks) failed h = h.1
+  on_walked (Lists path done missing) now listed looks true h = tt
+  on_walked (Lists path done missing) now None looks false h = h.1
+  on_walked (Lists path done missing) now (Some names) looks false h = h.0 names
 
   on_cond : (b : Bool) (v w : Walk NodeVerdict) → OnWalk v → OnWalk w → OnWalk (cond b v w)
   on_cond true v w h k = h
@@ -80,11 +87,18 @@ module _ (room : ℕ) where
   on_look next h Look.Folder = tt
   on_look next h Look.Missing = tt
 
-  on_place : (sight : Option Sight) (file : Document → Bool → OnFile) (folder : Folder → Walk NodeVerdict) →
-      ((d : Document) (may_write : Bool) (generation size moment : ℕ) → OnWalk (file d may_write generation size moment)) →
+  on_below : (view : ℕ) (at : Spot) (file : Spot → OnFile) (folder : Folder → Walk NodeVerdict) → ((generation size moment : ℕ) → OnWalk (file at generation size moment)) →
+      ((f : Folder) → OnWalk (folder f)) → (look : Look) → OnWalk (by_look view at file folder look)
+  on_below view at file folder h k (Look.File generation size moment) = h generation size moment
+  on_below view at file folder h k Look.Folder = k (Exported view at.document at.path at.may_write)
+  on_below view at file folder h k Look.Missing = tt
+
+  on_place : (sight : Option Sight) (file : Spot → OnFile) (folder : Folder → Walk NodeVerdict) →
+      ((at : Spot) (generation size moment : ℕ) → OnWalk (file at generation size moment)) →
       ((f : Folder) → OnWalk (folder f)) → OnWalk (by_place sight file folder)
   on_place None file folder h k = tt
-  on_place (Some (SightOfFile d may_write)) file folder h k = on_look (file d may_write) (h d may_write)
+  on_place (Some (SightOfFile d may_write)) file folder h k = on_look (file (spot d d.path may_write)) (h (spot d d.path may_write))
+  on_place (Some (SightBelow view d path may_write)) file folder h k = on_below view (spot d path may_write) file folder (h (spot d path may_write)) k
   on_place (Some (SightOfFolder f)) file folder h k = k f
 
   on_handle : (handle : Option Handle) (next : OnHandle) → ((file : OpenFile) → OnWalk (next file)) → OnWalk (by_file_handle handle next)
@@ -104,20 +118,34 @@ found_fits : (r : NodeRequest) (o : Option ℕ) → On (found_folder r o)
 found_fits r None = tt
 found_fits r (Some node) = least
 
-lookup_in_fits : (r : NodeRequest) (name : List ℕ) (folder : Folder) → On (lookup_in r name folder)
-lookup_in_fits r name (RootOf view numbers has_views) = found_fits r (named_in_root view numbers has_views name)
-lookup_in_fits r name (Views applications) = found_fits r (named_in_views applications name)
-lookup_in_fits r name (FolderOf view d may_write) =
-    let file : OnFile = entry_of_file r (file_node view d.id.number) may_write in
-    on_cond longest_struct (is_same name (name_of d.path)) (at_file d.path file) (errs enoent) (on_look longest_struct file (λ g s m. least)) tt
+own_fits : (r : NodeRequest) (node : ℕ) (d : Document) (may_write : Bool) (look : Look) → On (found_document r node d may_write look)
+own_fits r node d may_write (Look.File g s m) = least
+own_fits r node d may_write Look.Folder = on_cond longest_struct d.folder (told (NodeAnswer.Entry (attr_of_folder (on_node r node) may_write))) (errs enoent) least tt
+own_fits r node d may_write Look.Missing = tt
 
-lookup_fits : (r : NodeRequest) (name : List ℕ) (sight : Option Sight) → On (lookup r name sight)
-lookup_fits r name sight =
-    on_errs_if longest_struct (is_too_long name) enametoolong (by_place sight (no_file enotdir) (lookup_in r name)) (λ e.
-    on_place longest_struct sight (no_file enotdir) (lookup_in r name) (λ d w g s m. tt) (lookup_in_fits r name))
+child_fits : (r : NodeRequest) (namings : List Naming) (naming : Naming) (may_write : Bool) (look : Look) → On (found_child r namings naming may_write look)
+child_fits r namings naming may_write (Look.File g s m) = on_errs_if longest_struct (lacks_number namings naming) emfile (Answers (names_path naming (NodeAnswer.Entry (attr_of_file (on_node r (node_of_naming namings naming)) may_write s m)))) (λ e. least)
+child_fits r namings naming may_write Look.Folder = on_errs_if longest_struct (lacks_number namings naming) emfile (Answers (names_path naming (NodeAnswer.Entry (attr_of_folder (on_node r (node_of_naming namings naming)) may_write)))) (λ e. least)
+child_fits r namings naming may_write Look.Missing = tt
+
+below_fits : (r : NodeRequest) (namings : List Naming) (view : ℕ) (d : Document) (may_write : Bool) (path : Option (List ℕ)) → On (lookup_child r namings view d may_write path)
+below_fits r namings view d may_write None = tt
+below_fits r namings view d may_write (Some path) = λ look. child_fits r namings (naming_in view d path) may_write look
+
+lookup_in_fits : (r : NodeRequest) (namings : List Naming) (name : List ℕ) (folder : Folder) → On (lookup_in r namings name folder)
+lookup_in_fits r namings name (RootOf view numbers has_views) = found_fits r (named_in_root view numbers has_views name)
+lookup_in_fits r namings name (Views applications) = found_fits r (named_in_views applications name)
+lookup_in_fits r namings name (FolderOf view d may_write) =
+    on_cond longest_struct (is_same name (name_of d.path)) (Looks (AtPath d.path) (found_document r (file_node view d.id.number) d may_write)) (errs enoent) (own_fits r (file_node view d.id.number) d may_write) tt
+lookup_in_fits r namings name (Exported view d path may_write) = below_fits r namings view d may_write (named_child path name)
+
+lookup_fits : (r : NodeRequest) (namings : List Naming) (name : List ℕ) (sight : Option Sight) → On (lookup r namings name sight)
+lookup_fits r namings name sight =
+    on_errs_if longest_struct (is_too_long name) enametoolong (by_place sight (no_file enotdir) (lookup_in r namings name)) (λ e.
+    on_place longest_struct sight (no_file enotdir) (lookup_in r namings name) (λ at g s m. tt) (lookup_in_fits r namings name))
 
 place_fits : (r : NodeRequest) (sight : Option Sight) → On (get_attr_by_place r sight)
-place_fits r sight = on_place longest_struct sight (λ d may_write. tells_file r may_write) (tells_folder r) (λ d w g s m. least) (λ folder. least)
+place_fits r sight = on_place longest_struct sight (λ at. tells_file r at.may_write) (tells_folder r) (λ at g s m. least) (λ folder. least)
 
 open_attr_fits : (reach : Reaching) (r : NodeRequest) (file : OpenFile) → On (get_attr_open reach r file)
 open_attr_fits reach r file =
@@ -156,8 +184,8 @@ set_attr_fits reach r a sight handle =
     on_cond longest_struct (sets_by_handle a.valid) by_handle at_place
     (on_handle longest_struct handle (set_attr_open reach r a) (set_open_fits reach r a))
     (on_place longest_struct sight (set_attr_at r a) (set_attr_of_folder r a)
-    (λ d w g s m. size_fits r a (record { path = d.path; generation = g }) w s m)
-    (λ folder. on_errs_if longest_struct (sets_size a.valid) eisdir (told (NodeAnswer.Attr (attr_of_folder r))) (λ k. least))))
+    (λ at g s m. size_fits r a (name_at at g) at.may_write s m)
+    (λ folder. on_errs_if longest_struct (sets_size a.valid) eisdir (told (NodeAnswer.Attr (attr_of_folder r (is_writable folder)))) (λ k. least))))
 
 open_name_fits : (r : NodeRequest) (flags : ℕ) (room : Room) (d : Document) (name : FileName) → On (open_name r flags room d name)
 open_name_fits r flags room d name =
@@ -168,31 +196,39 @@ open_name_fits r flags room d name =
 open_fits : (r : NodeRequest) (flags : ℕ) (sight : Option Sight) (room : Room) → On (open_node r flags sight room)
 open_fits r flags sight room =
     on_errs_if longest_struct (has_no_mode flags) einval (by_place sight (open_file r flags room) open_folder) (λ e.
-    on_place longest_struct sight (open_file r flags room) open_folder (λ d w g s m.
-    let name : FileName = record { path = d.path; generation = g } in
-    on_errs_if longest_struct (opens_to_write flags && not w) eacces (errs_if room.full emfile (open_name r flags room d name)) (λ k.
-    on_errs_if longest_struct room.full emfile (open_name r flags room d name) (λ l. open_name_fits r flags room d name))) (λ folder. tt))
+    on_place longest_struct sight (open_file r flags room) open_folder (λ at g s m.
+    on_errs_if longest_struct (opens_to_write flags && not at.may_write) eacces (errs_if room.full emfile (open_name r flags room at.document (name_at at g))) (λ k.
+    on_errs_if longest_struct room.full emfile (open_name r flags room at.document (name_at at g)) (λ l. open_name_fits r flags room at.document (name_at at g)))) (λ folder. tt))
 
-there_fits : (r : NodeRequest) (flags : ℕ) (room : Room) (d : Document) (node : ℕ) (look : Look) → On (create_there r flags room d node look)
-there_fits r flags room d node (Look.File generation size moment) = tt
-there_fits r flags room d node Look.Folder = tt
-there_fits r flags room d node Look.Missing = ((λ now. least), tt)
+there_fits : (r : NodeRequest) (flags : ℕ) (room : Room) (made : Made) (look : Look) → On (create_there r flags room made look)
+there_fits r flags room made (Look.File generation size moment) = tt
+there_fits r flags room made Look.Folder = tt
+there_fits r flags room made Look.Missing = ((λ now. least), tt)
 
-create_in_fits : (r : NodeRequest) (name : List ℕ) (flags : ℕ) (room : Room) (folder : Folder) → On (create_in r name flags room folder)
-create_in_fits r name flags room (RootOf view numbers has_views) = tt
-create_in_fits r name flags room (Views applications) = tt
-create_in_fits r name flags room (FolderOf view d may_write) =
-    let made : Walk NodeVerdict = Looks (AtPath d.path) (create_there r flags room d (file_node view d.id.number)) in
+create_child_fits : (r : NodeRequest) (flags : ℕ) (room : Room) (namings : List Naming) (view : ℕ) (d : Document) (may_write : Bool) (path : Option (List ℕ)) → On (create_child r flags room namings view d may_write path)
+create_child_fits r flags room namings view d may_write None = tt
+create_child_fits r flags room namings view d may_write (Some path) =
+    let naming = naming_in view d path in
+    let made = child_made namings d naming in
+    on_errs_if longest_struct (not may_write) eacces (errs_if (room.full || lacks_number namings naming) emfile (create_at r flags room made)) (λ e.
+    on_errs_if longest_struct (room.full || lacks_number namings naming) emfile (create_at r flags room made) (λ k. there_fits r flags room made))
+
+create_in_fits : (r : NodeRequest) (name : List ℕ) (flags : ℕ) (room : Room) (namings : List Naming) (folder : Folder) → On (create_in r name flags room namings folder)
+create_in_fits r name flags room namings (RootOf view numbers has_views) = tt
+create_in_fits r name flags room namings (Views applications) = tt
+create_in_fits r name flags room namings (Exported view d path may_write) = create_child_fits r flags room namings view d may_write (named_child path name)
+create_in_fits r name flags room namings (FolderOf view d may_write) =
+    let made : Walk NodeVerdict = create_at r flags room (own_made view d) in
     on_errs_if longest_struct (not (is_same name (name_of d.path))) eacces (errs_if (not may_write) eacces (errs_if room.full emfile made)) (λ e.
     on_errs_if longest_struct (not may_write) eacces (errs_if room.full emfile made) (λ k.
-    on_errs_if longest_struct room.full emfile made (λ l. there_fits r flags room d (file_node view d.id.number))))
+    on_errs_if longest_struct room.full emfile made (λ l. there_fits r flags room (own_made view d))))
 
-create_fits : (r : NodeRequest) (name : List ℕ) (flags : ℕ) (sight : Option Sight) (room : Room) → On (create r name flags sight room)
-create_fits r name flags sight room =
-    let placed : Walk NodeVerdict = by_place sight (no_file enotdir) (create_in r name flags room) in
+create_fits : (r : NodeRequest) (name : List ℕ) (flags : ℕ) (sight : Option Sight) (room : Room) (namings : List Naming) → On (create r name flags sight room namings)
+create_fits r name flags sight room namings =
+    let placed : Walk NodeVerdict = by_place sight (no_file enotdir) (create_in r name flags room namings) in
     on_errs_if longest_struct (has_no_mode flags) einval (errs_if (is_too_long name) enametoolong placed) (λ e.
     on_errs_if longest_struct (is_too_long name) enametoolong placed (λ k.
-    on_place longest_struct sight (no_file enotdir) (create_in r name flags room) (λ d w g s m. tt) (create_in_fits r name flags room)))
+    on_place longest_struct sight (no_file enotdir) (create_in r name flags room namings) (λ at g s m. tt) (create_in_fits r name flags room namings)))
 
 content_fits : (limit : ℕ) (name : FileName) (offset : ℕ) (content : List ℕ) → On (write_content limit name offset content)
 content_fits limit name offset [] = least
@@ -212,10 +248,11 @@ found_names_fit : (r : NodeRequest) (room : Room) (folder : Folder) → On (open
 found_names_fit r room (RootOf view numbers has_views) = least
 found_names_fit r room (Views applications) = least
 found_names_fit r room (FolderOf view d may_write) = λ look. least
+found_names_fit r room (Exported view d path may_write) = ((λ names. least), tt)
 
 open_dir_fits : (r : NodeRequest) (sight : Option Sight) (room : Room) → On (open_dir r sight room)
 open_dir_fits r sight room =
-    on_place longest_struct sight (no_file enotdir) (open_dir_in r room) (λ d w g s m. tt) (λ folder.
+    on_place longest_struct sight (no_file enotdir) (open_dir_in r room) (λ at g s m. tt) (λ folder.
     on_errs_if longest_struct room.full emfile (open_found r room folder) (λ e. found_names_fit r room folder))
 
 release_dir_fits : (fh : ℕ) (handle : Option Handle) → On (release_dir fh handle)
@@ -227,8 +264,8 @@ access_fits : (mask : ℕ) (sight : Option Sight) → On (access mask sight)
 access_fits mask sight =
     on_errs_if longest_struct (nat_lt 7 mask) einval (by_place sight (access_file mask) (access_folder mask)) (λ e.
     on_place longest_struct sight (access_file mask) (access_folder mask)
-    (λ d w g s m. on_errs_if longest_struct (executes mask || writes_to mask && not w) eacces (told NodeAnswer.Empty) (λ k. tt))
-    (λ folder. on_errs_if longest_struct (writes_to mask) eacces (told NodeAnswer.Empty) (λ k. tt)))
+    (λ at g s m. on_errs_if longest_struct (executes mask || writes_to mask && not at.may_write) eacces (told NodeAnswer.Empty) (λ k. tt))
+    (λ folder. on_errs_if longest_struct (writes_to mask && not (is_writable folder)) eacces (told NodeAnswer.Empty) (λ k. tt)))
 
 -- ---- requests that say how much is told
 
@@ -261,13 +298,13 @@ read_dir_fits offset size handle =
 -- ---- all of them
 
 pub walk_fits : (f : NodeFacts) (r : NodeRequest) (o : NodeOp) → OnWalk (room_for o) (node_walk f r o)
-walk_fits f r (NodeOp.Lookup name) = lookup_fits r name f.sight
+walk_fits f r (NodeOp.Lookup name) = lookup_fits r f.namings name f.sight
 walk_fits f r (NodeOp.Forget count) = tt
 walk_fits f r (NodeOp.BatchForget nodes) = tt
 walk_fits f r (NodeOp.GetAttr flags fh) = get_attr_fits f.reach r flags f.sight (f.handle fh)
 walk_fits f r (NodeOp.SetAttr valid fh size) = set_attr_fits f.reach r (record { valid = valid; size = size; limit = f.file_limit }) f.sight (f.handle fh)
 walk_fits f r (NodeOp.Open flags) = open_fits r flags f.sight f.room
-walk_fits f r (NodeOp.Create name flags) = create_fits r name flags f.sight f.room
+walk_fits f r (NodeOp.Create name flags) = create_fits r name flags f.sight f.room f.namings
 walk_fits f r (NodeOp.Read fh offset size) = read_fits f.reach f.bytes offset size (f.handle fh)
 walk_fits f r (NodeOp.Write fh offset content) = write_fits f.reach f.file_limit offset content (f.handle fh)
 walk_fits f r (NodeOp.Flush fh) = on_handle longest_struct (f.handle fh) (λ file. told NodeAnswer.Empty) (λ file. tt)

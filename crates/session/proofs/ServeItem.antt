@@ -18,6 +18,7 @@ use Rattle.session.specs.Asked.{Means}
 use Rattle.session.specs.Cuts.{Cuts, whole_item}
 use Rattle.session.specs.Items.{Remains}
 use Rattle.session.specs.Answers.{Made, Denied, serial_after}
+use Rattle.session.specs.Lacks.{LacksAt}
 use Rattle.session.specs.Ledger.{ActEnds, Collected, Did, ItemEnds, Stops, World}
 use Rattle.session.specs.Standings.{stage}
 use Rattle.session.proofs.Grew.{asked_ok, asked_err, risen_later}
@@ -46,7 +47,7 @@ module _ (c : Client) (s t : Stage) (v m w : World) (bytes : List ℕ) (used n :
   pub run_halts : (halt : Fed) (x : Stage) → ItemEnds c (Err halt) t m (take n (drop used bytes)) x w → Stops c (Err halt) s v bytes x w
   run_halts WriteFault x (act, means, ends) = (broke c s t v m w bytes used n did is act means ends.0, risen_later v.faults m.faults w.faults did.grows.faults ends.1)
   run_halts Memory x (inl same) = inl (began c s t v w bytes used (subst (λ (z : World). Did c s v (take used bytes) t z) (sym same) did))
-  run_halts Memory x (inr (act, means, halted)) = inr (broke_unsaid c s t v m w bytes used n did is act means halted)
+  run_halts Memory x (inr ((act, means, halted), lack)) = inr (broke_unsaid c s t v m w bytes used n did is act means halted lack)
   run_halts More x ends = absurd ends
   run_halts (Over ending) x ends = absurd ends
 
@@ -70,11 +71,11 @@ item_size p bytes used n k is size within =
     (l, omega (arith, w.0, l), omega (arith, length-drop used bytes, w.1, l))
 
 -- an item that was read, and whose answer halts
-pub item_halts : (c : Client) (s x : Stage) (v w : World) (item : List ℕ) (act : Act) (halt : Fed) → Means c s.phase item (Ok act) → ActEnds c (Err halt) act s.serial v w → ItemEnds c (Err halt) s v item x w
-item_halts c s x v w item act WriteFault means ends = (act, means, ends)
-item_halts c s x v w item act Memory means ends = inr (act, means, ends)
-item_halts c s x v w item act More means ends = absurd ends
-item_halts c s x v w item act (Over ending) means ends = absurd ends
+pub item_halts : (c : Client) (s x : Stage) (v w : World) (item : List ℕ) (act : Act) (halt : Fed) → Means c s.phase item (Ok act) → ActEnds c (Err halt) act s.serial v w → LacksAt act halt → ItemEnds c (Err halt) s v item x w
+item_halts c s x v w item act WriteFault means ends lack = (act, means, ends)
+item_halts c s x v w item act Memory means ends lack = inr ((act, means, ends), lack)
+item_halts c s x v w item act More means ends lack = absurd ends
+item_halts c s x v w item act (Over ending) means ends lack = absurd ends
 
 -- the stage is the same where its phase is
 pub stage_stays : (s : Stage) (p : Phase) → p ≡ s.phase → record { phase = p; serial = s.serial } ≡ s

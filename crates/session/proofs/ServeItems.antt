@@ -10,6 +10,7 @@ use Rattle.session.specs.declared.served.Stop.TheVariants as stop
 use Rattle.session.specs.Asked.{Means}
 use Rattle.session.specs.Cuts.{Cuts, no_item, whole_item}
 use Rattle.session.specs.Items.{Remains}
+use Rattle.session.specs.Lacks.{MayLack}
 use Rattle.session.specs.Ledger.{Began, Broke, BrokeUnsaid, Declines, Did, Halted, ItemEnds, Unsaid, World}
 use Rattle.session.proofs.NextCut.{whole_alone}
 use Rattle.session.proofs.DidItems.{did_on, did_one}
@@ -56,9 +57,9 @@ module _ (c : Client) (s t : Stage) (v m w : World) (bytes : List ℕ) (used n :
     halted = halted;
   }
 
-  pub broke_unsaid : (act : Act) → Means c t.phase (take n (drop used bytes)) (Ok act) → Unsaid c act t.serial m w → BrokeUnsaid c s v bytes w
+  pub broke_unsaid : (act : Act) → Means c t.phase (take n (drop used bytes)) (Ok act) → Unsaid c act t.serial m w → MayLack act → BrokeUnsaid c s v bytes w
   unfolding broke
-  broke_unsaid act means h = (broke act means h.0, h.1, h.2 ∙ did.sound)
+  broke_unsaid act means h lack = (broke act means h.0, h.1, h.2 ∙ did.sound, lack)
 
 -- a front, and nothing more
 pub began : (c : Client) (s t : Stage) (v w : World) (bytes : List ℕ) (used : ℕ) → Did c s v (take used bytes) t w → Began c s v bytes w

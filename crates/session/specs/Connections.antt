@@ -15,6 +15,7 @@ use Rattle.session.specs.declared.served.Served.TheVariants as served
 use Rattle.session.specs.Cuts.{first_phase}
 use Rattle.session.specs.Items.{IsItem, AreItems, Items, joined, phase_after}
 use Rattle.session.specs.Answers.{Outcome, Made, Denied, Gives, Answers}
+use Rattle.session.specs.Lacks.{MayLack}
 use Rattle.session.specs.Ledger.{World, Grows}
 use Rattle.session.specs.Pumps.{CameLast, Spring, IsDry, longest_piece}
 use Rattle.session.specs.Sessions.{enter}
@@ -88,9 +89,11 @@ pub record Half (c : Client) (read : List ℕ) (v w : World) : Type 0 where
   pub bytes : read ≡ joined first.items ++ (then.item ++ after)
   pub asked : Enclosed c (first.outcomes ++ then.outcomes) (first.pieces ++ then.written) v w
 
--- The same, and nothing of the last answer is written, and no write failed.
+-- The same, and nothing of the last answer is written, and no write failed. What was asked last is
+-- none that is sure of the memory for its answer.
 abbrev pub HalfUnsaid : Client → List ℕ → World → World → Type 0
-HalfUnsaid c read v w = (h : Half c read v w) × (h.then.written ≡ []) × (w.faults ≡ v.faults)
+HalfUnsaid c read v w =
+    (h : Half c read v w) × (h.then.written ≡ []) × (w.faults ≡ v.faults) × MayLack h.then.act
 
 -- Nothing was read or written, and no read or write failed.
 abbrev pub IsUntouched : List ℕ → Spring → Spring → World → World → Type 0

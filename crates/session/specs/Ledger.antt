@@ -21,6 +21,7 @@ use Rattle.session.specs.declared.served.Stop.TheVariants as stop
 use Rattle.session.specs.Cuts.{next_phase}
 use Rattle.session.specs.Asked.{Means}
 use Rattle.session.specs.Items.{IsItem, AreItems, Remains, joined, phase_after}
+use Rattle.session.specs.Lacks.{MayLack}
 use Rattle.session.specs.Answers.{Outcome, Made, Denied, kept, denied, signals_in, AreOf, Gives, Answers}
 
 -- ---- the desk and the sink
@@ -138,7 +139,8 @@ ItemEnds c (Ok None) s v item t w = (act : Act) × Means c s.phase item (Ok act)
     × (t.phase ≡ next_phase c s.phase item) × ActEnds c (Ok t.serial) act s.serial v w
 ItemEnds c (Ok (Some what)) s v item t w = Declines c s.phase item what × (t ≡ s) × (w ≡ v)
 ItemEnds c (Err WriteFault) s v item t w = HaltsAt c WriteFault s v item w
-ItemEnds c (Err Memory) s v item t w = (w ≡ v) ⊎ HaltsAt c Memory s v item w
+ItemEnds c (Err Memory) s v item t w =
+    (w ≡ v) ⊎ ((h : HaltsAt c Memory s v item w) × MayLack h.0)
 ItemEnds c (Err More) s v item t w = ⊥
 ItemEnds c (Err (Over ending)) s v item t w = ⊥
 
@@ -172,10 +174,11 @@ pub record Broke (c : Client) (s : Stage) (v : World) (bytes : List ℕ) (w : Wo
   pub is_item : IsItem c mid.phase item act
   pub halted : Halted c act mid.serial then w
 
--- The same, and nothing of the last answer is written, and no write failed.
+-- The same, and nothing of the last answer is written, and no write failed. What was asked last is
+-- none that is sure of the memory for its answer.
 abbrev pub BrokeUnsaid : Client → Stage → World → List ℕ → World → Type 0
 BrokeUnsaid c s v bytes w =
-    (b : Broke c s v bytes w) × (b.halted.written ≡ []) × (w.faults ≡ v.faults)
+    (b : Broke c s v bytes w) × (b.halted.written ≡ []) × (w.faults ≡ v.faults) × MayLack b.act
 
 -- These bytes begin with items that are asked and answered, and nothing more is done.
 pub record Began (c : Client) (s : Stage) (v : World) (bytes : List ℕ) (w : World) : Type 0 where

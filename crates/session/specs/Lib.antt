@@ -4,8 +4,10 @@ pub mod Items
 pub mod Frames
 pub mod FrameLengths
 pub mod Answers
+pub mod Lacks
 pub mod Ledger
 pub mod Dues
+pub mod Rooms
 pub mod Standings
 pub mod Sessions
 pub mod Pushes

@@ -3,7 +3,8 @@
 //! Who asks stands between the two: a desk that waits, or one that may say that
 //! it is busy.
 
-ghost use Rattle.std.specs.Prelude.{◌≡◌, ◌∷◌, [], ◌++◌, map, option_to_list, true, IfOk, IfSome};
+ghost use Rattle.std.specs.Prelude.{◌≡◌, ◌<◌, ◌≤◌, ◌∷◌, [], ◌++◌, map, option_to_list, true, IfOk, IfSome};
+ghost use Rattle.std.specs.Prelude.{IsOk, OnErr, vec_capacity};
 ghost use Rattle.std.specs.List.{list_all};
 ghost use Rattle.dbus_dispatch.specs.Signals.{signal_of};
 ghost use Rattle.dbus_dispatch.specs.Writable.{IsWritable};
@@ -12,10 +13,12 @@ ghost use Rattle.session.specs.Answers.{last_spoken, spoken};
 ghost use Rattle.dbus_types.specs.declared.message.OutMessage.{OutMessage as AnOutMessage};
 ghost use Rattle.session.specs.Asked.{asked_by, collect_requests, reply_to as message_to};
 ghost use Rattle.session.specs.Dues.{CanTell, due_of, frames_due, said_of, signals_told};
+ghost use Rattle.session.specs.Rooms.{AreShort, IsLonger, IsTaken, frame_room};
 
 use crate::act::{Act, Client};
 use crate::frame::{answer_frame, has_no_reply, refusal_frame, told_frame};
 use crate::item::reply_to;
+use crate::room::{Room, handed_out};
 use crate::speech::{Speech, spoken};
 use dbus_dispatch::refused::refused_message;
 use dbus_dispatch::reply::reply_message;
@@ -130,47 +133,66 @@ fn collect_request(collects: bool) -> Option<Request>
 
 /// The pieces that answer an item, behind this serial, and the last serial.
 ///
-/// What became of the item's request can be told.
+/// What became of the item's request can be told. Where the room is taken there is memory for
+/// whatever frame isn't longer.
 pub fn answer(
     alloc: Global,
     client: &Client,
     due: Due,
     told: Told,
     serial: u32,
+    room: &mut Room,
 ) -> Result<Speech, WantOfMemory>
     requires { CanTell due told }
     ensures pieces { IfOk result (λ speech. speech.pieces
         ≡ frames_due due told ++ spoken serial (said_of client.now due told)) }
     ensures serial { IfOk result (λ speech. speech.serial
         ≡ last_spoken serial (said_of client.now due told)) }
+    ensures lacks { IsTaken room.old → OnErr result (IsLonger due told) }
 {
     match due {
         Due::Nothing => Ok(Speech {
             pieces: List::new(alloc),
             serial,
         }),
-        Due::Line { reply } => one_piece(alloc, serial, Some(reply)),
+        Due::Line { reply } => one_piece(alloc, &mut room.pieces, serial, Some(reply)),
         Due::Call { reply } => answer_locally(alloc, serial, &reply, told),
         Due::Portal { call } => answer_call(alloc, client, serial, &call, told),
         Due::Node { unique, is_quiet } => {
-            one_piece(alloc, serial, node_frame(alloc, unique, is_quiet, told)?)
+            let frame = node_frame(alloc, &mut room.frame, unique, is_quiet, told)?;
+            one_piece(alloc, &mut room.pieces, serial, frame)
         }
         Due::Local { unique, answer } => {
-            one_piece(alloc, serial, told_frame(alloc, unique, &answer)?)
+            let frame = told_frame(alloc, &mut room.frame, unique, &answer)?;
+            one_piece(alloc, &mut room.pieces, serial, frame)
         }
     }
 }
 
-/// One piece, where there is one, and no message: the serial stays.
-fn one_piece(alloc: Global, serial: u32, piece: Option<ByteList>) -> Result<Speech, WantOfMemory>
+/// One piece, where there is one, and no message: the serial stays. It stands in this list, which
+/// is handed out then.
+fn one_piece(
+    alloc: Global,
+    list: &mut Vec<ByteList>,
+    serial: u32,
+    piece: Option<ByteList>,
+) -> Result<Speech, WantOfMemory>
     ensures pieces { IfOk result (λ speech. speech.pieces ≡ option_to_list piece) }
     ensures serial { IfOk result (λ speech. speech.serial ≡ serial) }
+    ensures room { 0 < vec_capacity list.old → IsOk result }
 {
-    let mut pieces = List::new(alloc);
-    if let Some(piece) = piece {
-        pieces.push(piece)?;
-    }
-    Ok(Speech { pieces, serial })
+    let Some(piece) = piece else {
+        return Ok(Speech {
+            pieces: List::new(alloc),
+            serial,
+        });
+    };
+    let mut pieces = handed_out(alloc, list);
+    pieces.push(piece)?;
+    Ok(Speech {
+        pieces: List::from_vec(pieces),
+        serial,
+    })
 }
 
 /// The signals that tell what the host was not told yet, and behind them the
@@ -252,18 +274,21 @@ fn say(
 /// The frame that tells what became of a request on a node, where it has one.
 fn node_frame(
     alloc: Global,
+    buffer: &mut Vec<u8>,
     unique: u64,
     is_quiet: bool,
     told: Told,
 ) -> Result<Option<ByteList>, WantOfMemory>
-    ensures { IfOk result (λ frame. option_to_list frame
+    ensures frame { IfOk result (λ frame. option_to_list frame
         ≡ frames_due (Due.Node unique is_quiet) told) }
+    ensures room { frame_room ≤ vec_capacity buffer.old
+        → AreShort (frames_due (Due.Node unique is_quiet) told) → IsOk result }
 {
     match told {
         Told::Nothing => Ok(None),
         // What rides in the reply is passed over: a mount waits for no change, so there is none.
-        Told::Reply(reply) => answer_frame(alloc, unique, reply.answer),
+        Told::Reply(reply) => answer_frame(alloc, buffer, unique, reply.answer),
         Told::Refused(_) if is_quiet => Ok(None),
-        Told::Refused(refused) => refusal_frame(alloc, unique, refused),
+        Told::Refused(refused) => refusal_frame(alloc, buffer, unique, refused),
     }
 }

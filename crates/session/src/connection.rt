@@ -1,6 +1,7 @@
 //! Serving one connection over a source and a sink.
 
-ghost use Rattle.std.specs.Prelude.{◌≡◌, length, false};
+ghost use Rattle.std.specs.Prelude.{◌≡◌, ◌<◌, ◌≤◌, length, false};
+ghost use Rattle.portal_base.specs.Outside.{ReadCounts, Reads};
 ghost use Rattle.portal_desk.specs.Knowing.{Known};
 ghost use Rattle.portal_model.specs.Seated.{is_open, state_seen};
 ghost use Rattle.session.specs.Ledger.{world};
@@ -21,8 +22,11 @@ use portal_desk::Desk;
 use portal_model::reply::Refused;
 use std::alloc::Global;
 
+/// How many bytes are asked of the source at first.
+const FIRST_PIECE: usize = 16_384;
+
 // A WRITE of 128 KiB, the greatest that INIT grants, fits in.
-/// How many bytes are asked of the source at a time.
+/// How many bytes are asked of the source at a time, once so many came as were asked.
 const LONGEST_PIECE: usize = 262_144;
 
 /// Why no more pieces are read.
@@ -36,6 +40,29 @@ pub enum Pumped {
     Over,
 }
 
+/// Reads the next bytes into the front of the buffer.
+fn read_piece<S: Source>(source: &mut S, buffer: &mut Vec<u8>) -> ReadAnswer
+    requires { 0 < length buffer.old.items }
+    ensures reads { Reads (S.left source.old) buffer.new.items result (S.left source.new) }
+    ensures counts { ReadCounts (S.faults source.old) result (S.faults source.new) }
+    ensures long { length buffer.new.items ≡ length buffer.old.items }
+{
+    source.read(buffer.as_mut_slice())
+}
+
+/// Behind a piece that filled the buffer, that is made as long as pieces may be.
+fn widen(buffer: &mut Vec<u8>, came: usize)
+    requires { length buffer.old.items ≤ longest_piece }
+    ensures least { length buffer.old.items ≤ length buffer.new.items }
+    ensures most { length buffer.new.items ≤ longest_piece }
+{
+    // So a client that is idle, or sends little at a time, holds little.
+    if came == buffer.len() {
+        // Where there is no memory for that it goes on as it is.
+        let _ = buffer.resize(LONGEST_PIECE, 0);
+    }
+}
+
 /// Feeds the pieces of the source to the session, one after another, each as it
 /// came.
 fn pump<D: Desk, S: Source, K: Sink>(
@@ -44,10 +71,11 @@ fn pump<D: Desk, S: Source, K: Sink>(
     desk: &mut D,
     source: &mut S,
     sink: &mut K,
-    buffer: &mut [u8],
+    buffer: &mut Vec<u8>,
 ) -> Pumped
     requires fresh { session.old ≡ fresh session.old.client }
-    requires long { length buffer.old ≡ longest_piece }
+    requires some { 0 < length buffer.old.items }
+    requires most { length buffer.old.items ≤ longest_piece }
     ensures pumps { Pumps session.old.client result
         (spring (S.left source.old) (S.faults source.old))
         (spring (S.left source.new) (S.faults source.new))
@@ -58,13 +86,15 @@ fn pump<D: Desk, S: Source, K: Sink>(
     ensures goes { D.goes desk.old desk.new }
 {
     'pieces: loop {
-        match source.read(buffer) {
+        match read_piece(source, buffer) {
             ReadAnswer::End => return Pumped::End,
             ReadAnswer::Failed => return Pumped::Fault,
-            ReadAnswer::Got(len) => match session.feed(alloc, desk, front(buffer, len), sink) {
-                Fed::More => {}
-                _ => return Pumped::Over,
-            },
+            ReadAnswer::Got(len) => {
+                match session.feed(alloc, desk, front(buffer.as_slice(), len), sink) {
+                    Fed::More => widen(buffer, len),
+                    _ => return Pumped::Over,
+                }
+            }
         }
     }
 }
@@ -106,7 +136,7 @@ pub fn serve_connection<D: Desk, S: Source, K: Sink>(
     ensures goes { D.goes desk.old desk.new }
 {
     desk.known();
-    let Ok(mut buffer) = vec![in alloc; 0; LONGEST_PIECE] else {
+    let Ok(mut buffer) = vec![in alloc; 0; FIRST_PIECE] else {
         return Served::Memory;
     };
     let mut session = match Session::begin(alloc, desk, who, kind, settings) {

@@ -4,7 +4,7 @@
 //! `Fed::Memory`, and no other.
 
 ghost use Rattle.std.specs.Prelude.{◌≡◌, ◌≤◌, ◌∷◌, [], ◌++◌, length, map, take};
-ghost use Rattle.std.specs.Prelude.{IfOk, IfSome, option_to_list, true};
+ghost use Rattle.std.specs.Prelude.{IfErr, IfOk, IfSome, option_to_list, true};
 ghost use Rattle.std.specs.List.{list_all};
 ghost use Rattle.dbus_dispatch.specs.Signals.{signal_of};
 ghost use Rattle.dbus_dispatch.specs.Writable.{IsWritable};
@@ -15,6 +15,8 @@ ghost use Rattle.session.specs.Answers.{last_spoken, spoken};
 ghost use Rattle.session.specs.Asked.{MayAnswer, asked_by};
 ghost use Rattle.session.specs.Cuts.{Cuts, no_item, whole_item};
 ghost use Rattle.session.specs.Dues.{Became, CanTell, due_of};
+ghost use Rattle.session.specs.Lacks.{LacksAt};
+ghost use Rattle.session.specs.Rooms.{FitsItsOp, IsTakenFor};
 ghost use Rattle.session.specs.declared.served.Stop.TheVariants as stop;
 ghost use Rattle.session.specs.Pushes.{Tells};
 ghost use Rattle.session.specs.Ledger.{world, Sends, ActEnds, Collected, ItemEnds, Stops};
@@ -24,6 +26,7 @@ use crate::answer::{Parted, Told, answer, part};
 use crate::item::read_item;
 use crate::parts::{behind, front};
 use crate::phase::{Phase, next_cut};
+use crate::room::Room;
 use crate::served::{Fed, Stop};
 use crate::speech::spoken;
 use dbus_types::message::OutMessage;
@@ -57,6 +60,7 @@ fn send_each<K: Sink>(sink: &mut K, pieces: &[ByteList], serial: u32) -> Result<
     ensures sends { Sends pieces.now result (K.told sink.old) (K.faults sink.old)
         (K.told sink.new) (K.faults sink.new) }
     ensures last { IfOk result (λ last. last ≡ serial) }
+    ensures fault { IfErr result (λ halt. halt ≡ Fed.WriteFault) }
 {
     for piece in pieces {
         match sink.write(piece.as_slice()) {
@@ -137,6 +141,8 @@ fn ask<D: Desk>(alloc: Global, request: Option<Request>, desk: &mut D) -> Told
         (D.seated desk.new) }
     ensures fits { (c : AClient) (act : AnAct) → MayAnswer c act
         → asked_by act ≡ option_to_list request → CanTell (due_of act) result }
+    ensures short { (act : AnAct) → asked_by act ≡ option_to_list request
+        → FitsItsOp act result }
     ensures goes { D.goes desk.old desk.new }
 {
     let Some(request) = request else {
@@ -158,6 +164,7 @@ pub fn serve_act<D: Desk, K: Sink>(
     client: &Client,
     act: Act,
     serial: u32,
+    room: &mut Room,
     desk: &mut D,
     sink: &mut K,
 ) -> Result<u32, Fed>
@@ -165,14 +172,20 @@ pub fn serve_act<D: Desk, K: Sink>(
     ensures ends { ActEnds client.now result act serial
         (world (D.seated desk.old) (K.told sink.old) (K.faults sink.old))
         (world (D.seated desk.new) (K.told sink.new) (K.faults sink.new)) }
+    // Where the room was taken, there was memory for the frame of all but a READ and a READDIR.
+    ensures lacks { IsTakenFor act room.old → IfErr result (LacksAt act) }
     ensures goes { D.goes desk.old desk.new }
 {
     let Parted { request, due } = part(act);
     let told = ask(alloc, request, desk);
     // All of the answer is spelled before the first piece is written: where there is no memory for
     // one piece nothing of it is written.
-    match answer(alloc, client, due, told, serial) {
-        Ok(speech) => send_each(sink, speech.pieces.as_slice(), speech.serial),
+    match answer(alloc, client, due, told, serial, room) {
+        Ok(speech) => {
+            let sent = send_each(sink, speech.pieces.as_slice(), speech.serial);
+            room.keep(client.kind, speech.pieces);
+            sent
+        }
         Err(_) => Err(Fed::Memory),
     }
 }
@@ -183,6 +196,7 @@ fn serve_item<D: Desk, K: Sink>(
     alloc: Global,
     client: &Client,
     stage: &mut Stage,
+    room: &mut Room,
     item: &[u8],
     desk: &mut D,
     sink: &mut K,
@@ -194,13 +208,19 @@ fn serve_item<D: Desk, K: Sink>(
     ensures goes { D.goes desk.old desk.new }
 {
     match read_item(alloc, client, &mut stage.phase, item) {
-        Ok(act) => match serve_act(alloc, client, act, stage.serial, desk, sink) {
-            Ok(serial) => {
-                stage.serial = serial;
-                Ok(None)
+        Ok(act) => {
+            // Behind a change there has to be memory to tell it.
+            if room.take(&act).is_err() {
+                return Err(Fed::Memory);
             }
-            Err(halt) => Err(halt),
-        },
+            match serve_act(alloc, client, act, stage.serial, room, desk, sink) {
+                Ok(serial) => {
+                    stage.serial = serial;
+                    Ok(None)
+                }
+                Err(halt) => Err(halt),
+            }
+        }
         Err(ItemError::Breaks { rule }) => Ok(Some(Stop::Bad { rule })),
         Err(ItemError::Memory) => Err(Fed::Memory),
     }
@@ -214,6 +234,7 @@ pub fn serve_items<D: Desk, K: Sink>(
     alloc: Global,
     client: &Client,
     stage: &mut Stage,
+    room: &mut Room,
     bytes: &[u8],
     seen: usize,
     desk: &mut D,
@@ -234,7 +255,7 @@ pub fn serve_items<D: Desk, K: Sink>(
             Ok(len) => front(left, len),
             Err(stop) => return Ok(Run { len, stop }),
         };
-        match serve_item(alloc, client, stage, item, desk, sink) {
+        match serve_item(alloc, client, stage, room, item, desk, sink) {
             Ok(None) => {
                 len += item.len();
                 seen = 0;

@@ -14,6 +14,7 @@ ghost use Rattle.session.specs.declared.served.Stop.TheVariants as stop;
 use crate::act::Client;
 use crate::parts::behind;
 use crate::phase::{Phase, first_phase};
+use crate::room::Room;
 use crate::serve::{Run, Stage, serve_items, serve_untold};
 use crate::served::{Fed, Served, Stop};
 use bytes::BytesMut;
@@ -38,6 +39,7 @@ pub const LONGEST_STREAM: u64 = 1 << 40;
 pub struct Session {
     client: Client,
     stage: Stage,
+    room: Room,
     before: u64,
     rest: BytesMut,
     fed: Fed,
@@ -92,6 +94,7 @@ impl Session {
                 phase: first_phase(kind),
                 serial: 0,
             },
+            room: Room::new(alloc),
             before: 0,
             rest: BytesMut::new(alloc),
             fed: Fed::More,
@@ -138,6 +141,7 @@ impl Session {
             alloc,
             &self.client,
             &mut self.stage,
+            &mut self.room,
             &mut self.rest,
             piece,
             desk,
@@ -233,6 +237,7 @@ fn take<D: Desk, K: Sink>(
     alloc: Global,
     client: &Client,
     stage: &mut Stage,
+    room: &mut Room,
     held: &mut BytesMut,
     piece: &[u8],
     desk: &mut D,
@@ -247,9 +252,9 @@ fn take<D: Desk, K: Sink>(
     ensures goes { D.goes desk.old desk.new }
 {
     if held.is_empty() {
-        return take_in_place(alloc, client, stage, held, piece, desk, sink);
+        return take_in_place(alloc, client, stage, room, held, piece, desk, sink);
     }
-    take_behind(alloc, client, stage, held, piece, desk, sink)
+    take_behind(alloc, client, stage, room, held, piece, desk, sink)
 }
 
 /// The same where nothing is held: the piece is served where it lies.
@@ -257,6 +262,7 @@ fn take_in_place<D: Desk, K: Sink>(
     alloc: Global,
     client: &Client,
     stage: &mut Stage,
+    room: &mut Room,
     held: &mut BytesMut,
     piece: &[u8],
     desk: &mut D,
@@ -272,7 +278,7 @@ fn take_in_place<D: Desk, K: Sink>(
 {
     // A piece that comes while nothing is held is served where it lies, and only what stands
     // behind its last item is copied.
-    let run = serve_items(alloc, client, stage, piece, 0, desk, sink)?;
+    let run = serve_items(alloc, client, stage, room, piece, 0, desk, sink)?;
     match held.extend_from_slice(behind(piece, run.len)) {
         Ok(()) => Ok(run),
         Err(_) => Err(Fed::Memory),
@@ -284,6 +290,7 @@ fn take_behind<D: Desk, K: Sink>(
     alloc: Global,
     client: &Client,
     stage: &mut Stage,
+    room: &mut Room,
     held: &mut BytesMut,
     piece: &[u8],
     desk: &mut D,
@@ -303,7 +310,16 @@ fn take_behind<D: Desk, K: Sink>(
     if held.extend_from_slice(piece).is_err() {
         return Err(Fed::Memory);
     }
-    match serve_items(alloc, client, stage, held.as_slice(), seen, desk, sink) {
+    match serve_items(
+        alloc,
+        client,
+        stage,
+        room,
+        held.as_slice(),
+        seen,
+        desk,
+        sink,
+    ) {
         Ok(run) => {
             held.advance(run.len);
             Ok(run)

@@ -19,7 +19,7 @@ use Rattle.portal_model.specs.Bus.{bus_answer, is_tree, settled, moment_given}
 use Rattle.portal_model.specs.Outside.{LawfulBus, files_told}
 use Rattle.portal_model.specs.State.{State}
 use Rattle.portal_model.specs.Verdict.{Verdict, Refuses, Does, refuses, unless, walk_unless}
-use Rattle.portal_model.specs.Walk.{Walk, Answers, Looks, Ends, Gives, looks_at_all, walked}
+use Rattle.portal_model.specs.Walk.{Walk, Answers, Looks, Ends, Lists, Gives, looks_at_all, walked}
 use Rattle.add_files.specs.Plans.{IsAsked, IsOfCall, IsPlan, IsRefused}
 use Rattle.add_files.specs.declared.plan.AddError.{AddError}
 use Rattle.add_files.specs.declared.plan.AddError.TheVariants.{InvalidArgument, NotAllowed, Memory}
@@ -40,6 +40,7 @@ is_refused (Answers (Refuses code)) = true
 is_refused (Answers (Does d)) = false
 is_refused (Looks target next) = false
 is_refused (Ends call done missing) = false
+is_refused (Lists path done missing) = false
 
 module _ (s : State) (c : Connection) (a : AddRequest) (numbers : List DocId) where
   none-of-kind : are_of_kind a [] ≡ true

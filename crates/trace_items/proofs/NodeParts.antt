@@ -4,17 +4,20 @@ use Rattle.portal_base.specs.declared.files.Look.{Look}
 use Rattle.portal_model.specs.declared.entry.Entry.{Entry}
 use Rattle.portal_model.specs.declared.entry.Given.{Given}
 use Rattle.portal_model.specs.declared.handle.Handle.{Handle}
+use Rattle.portal_model.specs.declared.naming.Naming.{Naming}
 use Rattle.portal_model.specs.declared.request.NodeRequest.{NodeRequest}
 use Rattle.portal_model.specs.declared.request.Request.{Request}
 use Rattle.portal_model.specs.declared.state.Connection.{Connection}
+use Rattle.portal_model.specs.declared.state.Document.{Document}
 use Rattle.portal_model.specs.Bus.{moment_given}
 use Rattle.portal_model.specs.Lawful.{Lawful, LawfulGiven}
 use Rattle.portal_model.specs.NodeVerdict.{FileChange, FilesStay}
 use Rattle.portal_model.specs.Open.{truncates}
-use Rattle.portal_model.specs.Place.{Sight, place_of}
+use Rattle.portal_model.specs.Place.{Sight, naming_on, place_of, sight_at_path}
 use Rattle.portal_model.specs.SetAttr.{sets_by_handle, sets_size}
-use Rattle.portal_model.specs.State.{State, connection_of, is_mount}
+use Rattle.portal_model.specs.State.{State, connection_of}
 use Rattle.portal_model.specs.Step.{mount_of}
+use Rattle.portal_model.specs.Valid.{Valid}
 use Rattle.portal_model.proofs.ListLookups.{found_passes, nat_is}
 use Rattle.open_handles.specs.Opened.{handle_of as handle_in, opened_on}
 use Rattle.app_view.specs.Books.{Lends}
@@ -23,12 +26,19 @@ use Rattle.trace_items.specs.Awaited.{Comes, Shows, is_node, silent}
 use Rattle.trace_items.specs.FilesChanged.{attributes_set, file_change, file_open, file_shown_at, opened, path_of_file, resizes}
 use Rattle.trace_items.proofs.ComingLaws.{Heard, heard, mount-silent, nobody-heard}
 use Rattle.named_paths.proofs.OpenPaths.{handle-found}
-use Rattle.trace_items.proofs.Touched.{change_at, change_over, comes-node}
+use Rattle.trace_items.proofs.Touched.{change_at, change_over, comes-node, mount-there}
 
 -- what is said of a value may be said otherwise
 pub if-ok : {X E : Type 0} {P Q : X → Type 0} (r : Result X E) → IfOk r P → ((x : X) → P x → Q x) → IfOk r Q
 if-ok (Ok x) p f = f x p
 if-ok (Err e) p f = tt
+
+-- ---- what is seen of a document
+
+-- one that is a folder has no file
+pub path-of-document : (view : ℕ) (d : Document) (folder may_write : Bool) → cond folder None (Some d.path) ≡ path_of_file (Some (sight_at_path view d folder may_write))
+path-of-document view d true may_write = refl
+path-of-document view d false may_write = refl
 
 -- ---- SETATTR and OPEN
 
@@ -59,42 +69,37 @@ module _ (flags : ℕ) (sight : Option Sight) (looks : List Look) (now : ℕ) wh
 
 -- ---- over the lists that are lent
 
-mount-there : (o : Option Connection) (c : Connection) → mount_of o ≡ Some c → o ≡ Some c
-mount-there None c e = cc
-mount-there (Some d) c e = by_kind (is_mount d.kind) e
-  where
-    by_kind : (b : Bool) → cond b (Some d) None ≡ Some c → Some d ≡ Some c
-    by_kind true f = f
-    by_kind false f = cc
-
 seat-there : (cs : List Connection) (seat : ℕ) (c : Connection) → connection_of cs seat ≡ Some c → c.seat ≡ seat
 seat-there cs seat c e = nat_is c.seat seat (found_passes (λ (x : Connection). x.seat == seat) cs c e)
 
 mount-heard : (s : State) (seat : ℕ) (o : Option Connection) (d : Connection) → o ≡ option_map silent (connection_of s.connections seat) → mount_of o ≡ Some d → Heard (mount_of (connection_of s.connections seat)) d
 mount-heard s seat o d e m = heard (mount_of (connection_of s.connections seat)) d (sym (mount-silent (connection_of s.connections seat)) ∙ (ap mount_of (sym e) ∙ m))
 
-abbrev pub change_by : State → (ℕ → Option Handle) → NodeRequest → Given → Connection → FileChange
-change_by s handle r given c = file_change (place_of s c.who r.node) handle given.looks (moment_given given.now) r.op
+-- whatever the connection has named below exported folders
+abbrev pub change_by : State → (ℕ → Option Handle) → NodeRequest → Given → Option Naming → Connection → FileChange
+change_by s handle r given naming c = file_change (place_of s c.who naming r.node) handle given.looks (moment_given given.now) r.op
 
 module _ (lent : Lent) (s : State) (shows : Shows lent s) (seat : ℕ) (r : NodeRequest) (given : Given) where
-  change-of-heard : (d : Connection) → Heard (mount_of (connection_of s.connections seat)) d → change_by s (handle_in (opened_on lent.handles.now.seats d.seat)) r given d ≡ change_at s seat r given
-  change-of-heard d k =
+  change-of-heard : (d : Connection) (change : FileChange) → Heard (mount_of (connection_of s.connections seat)) d → ((naming : Option Naming) → change ≡ change_by s (handle_in (opened_on lent.handles.now.seats d.seat)) r given naming d) → change ≡ change_at s seat r given
+  change-of-heard d change k is =
       let c : Connection = k.connection in
+      let naming : Option Naming = naming_on c r.node in
       let there : connection_of s.connections seat ≡ Some c = mount-there (connection_of s.connections seat) c k.here in
       let here : connection_of s.connections c.seat ≡ Some c = ap (connection_of s.connections) (seat-there s.connections seat c there) ∙ there in
-      ap (λ (x : Connection). change_by s (handle_in (opened_on lent.handles.now.seats x.seat)) r given x) k.is_silent
-      ∙ ((λ i. change_by s (λ fh. handle-found s c.seat c (opened_on lent.handles.now.seats c.seat) fh (shows.handles c.seat c here) i) r given c)
-      ∙ ap (change_over s r given) (sym k.here))
+      is naming
+      ∙ (ap (λ (x : Connection). change_by s (handle_in (opened_on lent.handles.now.seats x.seat)) r given naming x) k.is_silent
+      ∙ ((λ i. change_by s (λ fh. handle-found s c.seat c (opened_on lent.handles.now.seats c.seat) fh (shows.handles c.seat c here) i) r given naming c)
+      ∙ ap (change_over s r given) (sym k.here)))
 
 pub lends-book : (lent : Lent) (s : State) → Shows lent s → Lends lent.book s
 lends-book lent s shows = record { documents = shows.documents; rights = shows.rights; applications = shows.applications }
 
 -- an entry on a node
-pub node-come : (s : State) (e : Entry) (r : NodeRequest) (change : FileChange) → e.request ≡ Request.Node r → s.told ≡ true → Lawful s e → change ≡ change_at s e.seat r e.given → Comes s e change
-node-come s e r change q told l same =
+pub node-come : (s : State) (e : Entry) (r : NodeRequest) (change : FileChange) → e.request ≡ Request.Node r → Valid s → s.told ≡ true → Lawful s e → change ≡ change_at s e.seat r e.given → Comes s e change
+node-come s e r change q valid told l same =
     subst (Comes s e) (sym same)
     (subst (λ (request : Request). Comes s (record { seat = e.seat; request = request; given = e.given }) (change_at s e.seat r e.given)) (sym q)
-    (comes-node s e.seat r e.given told (subst (λ (request : Request). LawfulGiven s e.seat request e.given) q l.given)))
+    (comes-node s e.seat r e.given valid told (subst (λ (request : Request). LawfulGiven s e.seat request e.given) q l.given)))
 
 pub not-node : (q : Request) → ((r : NodeRequest) → q ≡ Request.Node r → ⊥) → is_node q ≡ false
 not-node (Request.Node r) f = absurd (f r refl)
@@ -112,14 +117,14 @@ not-node (Request.ListDocuments name) f = refl
 not-node (Request.Store call) f = refl
 
 -- over a mount
-pub mount-come : (lent : Lent) (s : State) (e : Entry) (r : NodeRequest) (o : Option Connection) (d : Connection) (change : FileChange) → Shows lent s → Lawful s e → e.request ≡ Request.Node r →
-    o ≡ option_map silent (connection_of s.connections e.seat) → mount_of o ≡ Some d → change ≡ change_by s (handle_in (opened_on lent.handles.now.seats d.seat)) r e.given d → Comes s e change
-mount-come lent s e r o d change shows l q lend m is =
-    node-come s e r change q shows.told l (is ∙ change-of-heard lent s shows e.seat r e.given d (mount-heard s e.seat o d lend m))
+pub mount-come : (lent : Lent) (s : State) (e : Entry) (r : NodeRequest) (o : Option Connection) (d : Connection) (change : FileChange) → Shows lent s → Valid s → Lawful s e → e.request ≡ Request.Node r →
+    o ≡ option_map silent (connection_of s.connections e.seat) → mount_of o ≡ Some d → ((naming : Option Naming) → change ≡ change_by s (handle_in (opened_on lent.handles.now.seats d.seat)) r e.given naming d) → Comes s e change
+mount-come lent s e r o d change shows valid l q lend m is =
+    node-come s e r change q valid shows.told l (change-of-heard lent s shows e.seat r e.given d change (mount-heard s e.seat o d lend m) is)
 
 -- over none
-pub unmounted-come : (lent : Lent) (s : State) (e : Entry) (r : NodeRequest) (o : Option Connection) → Shows lent s → Lawful s e → e.request ≡ Request.Node r →
+pub unmounted-come : (lent : Lent) (s : State) (e : Entry) (r : NodeRequest) (o : Option Connection) → Shows lent s → Valid s → Lawful s e → e.request ≡ Request.Node r →
     o ≡ option_map silent (connection_of s.connections e.seat) → mount_of o ≡ None → Comes s e FilesStay
-unmounted-come lent s e r o shows l q lend m =
+unmounted-come lent s e r o shows valid l q lend m =
     let none : mount_of (connection_of s.connections e.seat) ≡ None = nobody-heard (mount_of (connection_of s.connections e.seat)) (sym (mount-silent (connection_of s.connections e.seat)) ∙ (ap mount_of (sym lend) ∙ m)) in
-    node-come s e r FilesStay q shows.told l (sym (ap (change_over s r e.given) none))
+    node-come s e r FilesStay q valid shows.told l (sym (ap (change_over s r e.given) none))

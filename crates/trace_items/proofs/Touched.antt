@@ -12,15 +12,17 @@ use Rattle.portal_model.specs.Lawful.{LawfulOnNode}
 use Rattle.portal_model.specs.Node.{bytes_named, facts_of, files_after, node_given, settled_on_node, walk_on_node}
 use Rattle.portal_model.specs.NodeOutside.{LawfulNode}
 use Rattle.portal_model.specs.NodeVerdict.{FileChange, FilesStay, NodeVerdict, Errs, Yields}
-use Rattle.portal_model.specs.Place.{Sight, SightOfFile, SightOfFolder, Folder, FolderOf, RootOf, Views, place_of}
-use Rattle.portal_model.specs.State.{State, connection_of, handle_of}
+use Rattle.portal_model.specs.Place.{Exported, Sight, SightBelow, SightOfFile, SightOfFolder, Folder, FolderOf, RootOf, Views, sight_on}
+use Rattle.portal_model.specs.State.{State, connection_of, handle_of, is_mount}
 use Rattle.portal_model.specs.Step.{after, all_told, bus_of, bus_step, collect_step, mount_of, node_step, reply_at, request_step}
+use Rattle.portal_model.specs.Valid.{Valid}
 use Rattle.portal_model.specs.Walk.{Gives}
 use Rattle.portal_model.proofs.BusLaws.{bus_step-holds}
+use Rattle.portal_model.proofs.ValidLaws.{told-sight}
 use Rattle.app_world.specs.Node.{bytes_effects, node_touch, verdict_touch}
 use Rattle.app_world.specs.Touched.{is_done}
 use Rattle.app_world.specs.View.{view}
-use Rattle.app_world.proofs.NamedPaths.{FolderOn, HandleOn, SightOn}
+use Rattle.app_world.proofs.NamedPaths.{FolderOn, HandleOn, Plain, SightOn, sound-plain}
 use Rattle.app_world.proofs.WalksAlong.{CanBe, given-can, walk-along}
 use Rattle.trace_items.specs.Awaited.{Comes, is_node}
 use Rattle.trace_items.specs.FilesChanged.{changed_name, file_change, told_of_file}
@@ -49,10 +51,12 @@ any-folder : (f : Folder) → FolderOn Any f
 any-folder (RootOf view numbers has_views) = tt
 any-folder (Views applications) = tt
 any-folder (FolderOf view d may_write) = tt
+any-folder (Exported view d path may_write) = tt
 
 any-sight : (o : Option Sight) → SightOn Any o
 any-sight None = tt
 any-sight (Some (SightOfFile d may_write)) = tt
+any-sight (Some (SightBelow view d path may_write)) = tt
 any-sight (Some (SightOfFolder f)) = any-folder f
 
 any-handle : (o : Option Handle) → HandleOn Any o
@@ -61,12 +65,12 @@ any-handle (Some (Handle.File name node document strict read write)) = tt
 any-handle (Some (Handle.Folder node names)) = tt
 
 -- what is done can be done with these files
-can-be : (s : State) (c : Connection) (r : NodeRequest) (given : Given) → s.told ≡ true → LawfulNode (all_told c.seat s) c r given → CanBe s.files Any (node_given (walk_on_node s c r) given)
-can-be s c r given told l =
-    given-can s.files Any (λ target. Unit {0}) (λ call. Unit {0}) (walk_on_node s c r) (moment_given given.now) given.looks (is_tree given.fault)
+can-be : (s : State) (c : Connection) (r : NodeRequest) (given : Given) → Plain (sight_on s c r.node) → s.told ≡ true → LawfulNode (all_told c.seat s) c r given → CanBe s.files Any (node_given (walk_on_node s c r) given)
+can-be s c r given plain told l =
+    given-can s.files Any (λ target. Unit {0}) (λ call. Unit {0}) (walk_on_node s c r) (moment_given given.now) given.listed given.looks (is_tree given.fault)
     (subst (λ (b : Bool). Gives (cond b (Some s.files) None) (walk_on_node s c r) given.looks (is_tree given.fault)) told l.looks)
-    (walk-along s.files Any (λ target. Unit {0}) (λ call. Unit {0}) (λ path h. tt) (λ name h. tt) (λ name h. tt) (λ name h. tt) (λ path h e. tt) (facts_of s c r.node) r r.op
-    (any-sight (place_of s c.who r.node)) (λ fh. any-handle (handle_of s.handles c.seat fh)))
+    (walk-along s.files Any (λ target. Unit {0}) (λ call. Unit {0}) (λ path h. tt) (λ name h. tt) (λ name h. tt) (λ name h. tt) (λ path h e. tt) (facts_of s c r.node) r r.op plain
+    (any-sight (sight_on s c r.node)) (λ fh. any-handle (handle_of s.handles c.seat fh)))
 
 module _ (s : State) (told : s.told ≡ true) (change : FileChange) where
   settled-files : (c : Connection) (v : Option NodeVerdict) → Changes change v → (settled_on_node (all_told c.seat s) c v).0.files ≡ cond (is_done (settled_on_node (all_told c.seat s) c v).1) (files_after true change s.files) s.files
@@ -84,7 +88,7 @@ module _ (s : State) (told : s.told ≡ true) (change : FileChange) where
       ∙ (λ i. told_of_file (view s app) (changed_name (h i)) (files_after (sym told i) d.file s.files)))
 
 abbrev pub change_on : State → NodeRequest → Given → Connection → FileChange
-change_on s r given c = file_change (place_of s c.who r.node) (handle_of s.handles c.seat) given.looks (moment_given given.now) r.op
+change_on s r given c = file_change (sight_on s c r.node) (handle_of s.handles c.seat) given.looks (moment_given given.now) r.op
 
 abbrev pub change_over : State → NodeRequest → Given → Option Connection → FileChange
 change_over s r given None = FilesStay
@@ -94,20 +98,30 @@ change_over s r given (Some c) = change_on s r given c
 abbrev pub change_at : State → ℕ → NodeRequest → Given → FileChange
 change_at s seat r given = change_over s r given (mount_of (connection_of s.connections seat))
 
-node-comes : (s : State) (told : s.told ≡ true) (r : NodeRequest) (given : Given) (o : Option Connection) → LawfulOnNode s r given o →
+-- a seat's mount is its open connection
+pub mount-there : (o : Option Connection) (c : Connection) → mount_of o ≡ Some c → o ≡ Some c
+mount-there None c e = cc
+mount-there (Some d) c e = by_kind (is_mount d.kind) e
+  where
+    by_kind : (b : Bool) → cond b (Some d) None ≡ Some c → Some d ≡ Some c
+    by_kind true f = f
+    by_kind false f = cc
+
+node-comes : (s : State) (valid : Valid s) (told : s.told ≡ true) (seat : ℕ) (r : NodeRequest) (given : Given) (o : Option Connection) → mount_of (connection_of s.connections seat) ≡ o → LawfulOnNode s r given o →
     ((node_step s r given o).0.files ≡ cond (is_done (node_step s r given o).1.answer) (files_after true (change_over s r given o) s.files) s.files)
     × ((app : List ℕ) → is_done (node_step s r given o).1.answer ≡ true → node_touch app s r given o ≡ told_of_file (view s app) (changed_name (change_over s r given o)) (node_step s r given o).0.files)
-node-comes s told r given None l = (refl, λ app e. cc)
-node-comes s told r given (Some c) l =
+node-comes s valid told seat r given None m l = (refl, λ app e. cc)
+node-comes s valid told seat r given (Some c) m l =
+    let plain : Plain (sight_on s c r.node) = sound-plain _ r.node _ (told-sight s seat c (mount-there (connection_of s.connections seat) c m) valid r.node) in
     let v : Option NodeVerdict = node_given (walk_on_node s c r) given in
-    let h : Changes (change_on s r given c) v = node-changes (facts_of s c r.node) r r.op (moment_given given.now) given.looks (is_tree given.fault) in
-    (settled-files s told (change_on s r given c) c v h, λ app e. settled-told s told (change_on s r given c) app c v h (can-be s c r given told l) e)
+    let h : Changes (change_on s r given c) v = node-changes (facts_of s c r.node) r r.op plain (moment_given given.now) given.listed given.looks (is_tree given.fault) in
+    (settled-files s told (change_on s r given c) c v h, λ app e. settled-told s told (change_on s r given c) app c v h (can-be s c r given plain told l) e)
 
 -- an entry on a node
-pub comes-node : (s : State) (seat : ℕ) (r : NodeRequest) (given : Given) → s.told ≡ true → LawfulOnNode s r given (mount_of (connection_of s.connections seat)) →
+pub comes-node : (s : State) (seat : ℕ) (r : NodeRequest) (given : Given) → Valid s → s.told ≡ true → LawfulOnNode s r given (mount_of (connection_of s.connections seat)) →
     Comes s (record { seat = seat; request = Request.Node r; given = given }) (change_at s seat r given)
-comes-node s seat r given told l =
-    let both = node-comes s told r given (mount_of (connection_of s.connections seat)) l in
+comes-node s seat r given valid told l =
+    let both = node-comes s valid told seat r given (mount_of (connection_of s.connections seat)) refl l in
     record { files = both.0; node = λ app n. both.1 app }
 
 -- any other entry leaves the files

@@ -10,7 +10,7 @@ use Rattle.portal_model.specs.declared.request.NodeOp.{NodeOp}
 use Rattle.portal_model.specs.Content.{Content, OfFile, NotThere}
 use Rattle.portal_model.specs.NodeVerdict.{FileChange, FilesStay, Writes, Resizes, Creates}
 use Rattle.portal_model.specs.Open.{truncates}
-use Rattle.portal_model.specs.Place.{FolderOf, RootOf, Views, Folder, Sight, SightOfFile, SightOfFolder}
+use Rattle.portal_model.specs.Place.{Exported, FolderOf, RootOf, Views, Folder, Sight, SightBelow, SightOfFile, SightOfFolder}
 use Rattle.portal_model.specs.SetAttr.{sets_by_handle, sets_size}
 use Rattle.app_world.specs.Effect.{Effect, Bytes}
 use Rattle.app_world.specs.View.{AppView, names}
@@ -26,17 +26,20 @@ file_open (Some (Handle.Folder node names)) = None
 abbrev pub path_of_file : Option Sight → Option (List ℕ)
 path_of_file None = None
 path_of_file (Some (SightOfFile d may_write)) = Some d.path
+path_of_file (Some (SightBelow view d path may_write)) = None
 path_of_file (Some (SightOfFolder f)) = None
 
 abbrev pub path_in_folder : Folder → Option (List ℕ)
 path_in_folder (RootOf view numbers has_views) = None
 path_in_folder (Views applications) = None
 path_in_folder (FolderOf view d may_write) = Some d.path
+path_in_folder (Exported view d path may_write) = None
 
 -- the path of the file in a document's folder, where that is seen
 abbrev pub path_of_folder : Option Sight → Option (List ℕ)
 path_of_folder None = None
 path_of_folder (Some (SightOfFile d may_write)) = None
+path_of_folder (Some (SightBelow view d path may_write)) = None
 path_of_folder (Some (SightOfFolder f)) = path_in_folder f
 
 -- the file at a path, as the first look showed it

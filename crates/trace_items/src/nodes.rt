@@ -1,7 +1,8 @@
 //! Requests on nodes: how they change the files, where they are done, and what
 //! an application is told of that.
 
-ghost use Rattle.std.specs.Prelude.{◌≡◌, ◌∷◌, [], Option, cond, map, option_copied, IfOk};
+ghost use Rattle.std.specs.Prelude.{◌≡◌, ◌∷◌, [], None, Option, Some, cond, map, option_copied, IfOk};
+ghost use Rattle.portal_model.specs.declared.naming.Naming.{Naming};
 ghost use Rattle.app_view.specs.Books.{Lends};
 ghost use Rattle.app_world.specs.TraceItem.{item_of};
 ghost use Rattle.open_handles.specs.Opened.{handle_of as handle_in, opened_on};
@@ -21,6 +22,7 @@ use app_trace::contents::file_content;
 use app_trace::trace::TraceItem;
 use app_trace::view::Content;
 use app_view::{ViewBook, place_of, seen_document};
+use document_records::Document;
 use portal_base::files::{FileName, Look};
 use portal_base::memory::{Replica, WantOfMemory};
 use portal_base::names::HostPath;
@@ -49,8 +51,9 @@ pub fn update_of<'a>(
     request: &'a NodeRequest,
     given: &Given,
 ) -> Result<FileUpdate<'a>, WantOfMemory>
-    ensures { IfOk result (λ update. (s : State) → Lends lent.now.book s →
-        change_of update ≡ file_change (place_of_node s connection.now.who request.now.node)
+    ensures { IfOk result (λ update. (s : State) (naming : Option Naming) →
+        Lends lent.now.book s → change_of update
+        ≡ file_change (place_of_node s connection.now.who naming request.now.node)
         (handle_in (opened_on lent.now.handles.now.seats connection.now.seat))
         given.entry.now.looks (moment_given given.entry.now.now) request.now.op) }
 {
@@ -84,23 +87,34 @@ pub fn update_of<'a>(
 
 /// The path of the document's file that a caller sees at a node.
 fn file_seen<'a>(book: &ViewBook<'a>, who: &Who, node: u64) -> Option<&'a HostPath>
-    ensures { (s : State) → Lends book.now s →
-        option_copied result ≡ path_of_file (place_of_node s who.now node) }
+    ensures { (s : State) (naming : Option Naming) → Lends book.now s →
+        option_copied result ≡ path_of_file (place_of_node s who.now naming node) }
 {
     match place_of(node)? {
-        Place::File { view, id } => Some(&seen_document(book, who, view, id)?.document.path),
-        Place::Root { .. } | Place::ByApp | Place::Folder { .. } => None,
+        Place::File { view, id } => file_path(seen_document(book, who, view, id)?.document),
+        Place::Root { .. } | Place::ByApp | Place::Folder { .. } | Place::Named { .. } => None,
+    }
+}
+
+/// The path of a document's file; a document that is a folder has none.
+fn file_path(document: &Document) -> Option<&HostPath>
+    ensures { option_copied result ≡ cond document.now.folder None (Some document.now.path) }
+{
+    if document.folder {
+        None
+    } else {
+        Some(&document.path)
     }
 }
 
 /// The path of the file in the document's folder that a caller sees at a node.
 fn folder_seen<'a>(book: &ViewBook<'a>, who: &Who, node: u64) -> Option<&'a HostPath>
-    ensures { (s : State) → Lends book.now s →
-        option_copied result ≡ path_of_folder (place_of_node s who.now node) }
+    ensures { (s : State) (naming : Option Naming) → Lends book.now s →
+        option_copied result ≡ path_of_folder (place_of_node s who.now naming node) }
 {
     match place_of(node)? {
         Place::Folder { view, id } => Some(&seen_document(book, who, view, id)?.document.path),
-        Place::Root { .. } | Place::ByApp | Place::File { .. } => None,
+        Place::Root { .. } | Place::ByApp | Place::File { .. } | Place::Named { .. } => None,
     }
 }
 

@@ -13,8 +13,9 @@ use record_keeper::Keeper;
 use std::alloc::Global;
 
 impl<T: HostTree, K: Keeper, C: Clock, W: Words> Portal<T, K, C, W> {
-    /// Takes memory ahead for `count` requests out of LOOKUP, GETATTR, ACCESS, FLUSH,
-    /// RELEASE, RELEASEDIR, FORGET and BATCH_FORGET: the next `count` of them don't want
+    /// Takes memory ahead for `count` requests out of LOOKUP in a root, in the folder of all
+    /// views or in a document's folder, GETATTR, ACCESS, FLUSH, RELEASE, RELEASEDIR, FORGET
+    /// and BATCH_FORGET: the next `count` of them don't want
     /// memory, where no other request comes between, as the clauses `reserved` and `spare`
     /// of [`Portal::ask`] say of each. Nothing else changes; where memory is wanted some may
     /// have been taken, and none is let go.

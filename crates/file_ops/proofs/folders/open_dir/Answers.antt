@@ -1,5 +1,12 @@
-use Rattle.file_ops.proofs.OpenedDirs.{open-dir-does}
+use Rattle.std.proofs.Common.{◌∙◌, sym}
+use Rattle.std.specs.Option.{option_copied}
+use Rattle.std.proofs.lemmas.Result.{IfOk-weaker}
+use Rattle.file_ops.proofs.OpenedDirs.{open-dir-does, placed-dir}
 use Rattle.file_ops.proofs.folders.open_dir.Goals as goal
 
-pub returns-clause-ok : goal.returns-clause-ok
-returns-clause-ok g c = λ op. open-dir-does c.args.book.now c.args.call.now c.args.handles.now _ c.in_ok-asked.asked c.done.result _ _ c.done.ensures op c.in_ok-asked.ensures.ok
+pub returns-in-Some-clause-ok : goal.returns-in-Some-clause-ok
+returns-in-Some-clause-ok g c = λ op.
+    IfOk-weaker c.at_place.result _ _
+    (λ done h. open-dir-does (option_copied c.args.naming) c.args.book.now c.args.call.now c.args.handles.now _ done _ _ op
+    (placed-dir (option_copied c.args.naming) c.args.call.now c.in-Some.place c.args.book.now.view c.args.handles.now _ done _ _ (sym c.in-Some.is ∙ c.place_of.ensures.place) h))
+    c.at_place.ensures.ok

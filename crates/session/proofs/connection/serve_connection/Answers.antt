@@ -13,7 +13,8 @@ use Rattle.session.proofs.connection.serve_connection.Goals as goal
 pub pump-pumped-requires : goal.pump-pumped-requires
 pump-pumped-requires g c = record {
   fresh = begun_fresh (client c.args.who.now c.args.kind c.args.settings.now) _ c.in-Ok-begin.ensures.opens.1;
-  long = omega (arith, ap length c.deref_mut.ensures.value, c.in-Ok.ensures.len);
+  some = omega (arith, c.in-Ok.ensures.len);
+  most = omega (arith, c.in-Ok.ensures.len);
 }
 
 pub end-served-requires : goal.end-served-requires

@@ -1,5 +1,6 @@
 use Rattle.std.proofs.Common.{◌≡◌, [], sym, ap, ◌∙◌, subst}
 use Rattle.session.proofs.Dues.{became_err, became_none, became_ok, can_tell_none, can_tell_refused, can_tell_reply}
+use Rattle.session.proofs.FrameRoom.{fits_none, fits_refused, fits_reply}
 use Rattle.session.proofs.serve.ask.Goals as goal
 
 pub returns-in_default-clause-became : goal.returns-in_default-clause-became
@@ -22,3 +23,13 @@ returns-in-Err-clause-became g c =
 
 pub returns-in-Err-clause-fits : goal.returns-in-Err-clause-fits
 returns-in-Err-clause-fits g c client act may asked = can_tell_refused client act c.in-Err.refused may
+
+pub returns-in_default-clause-short : goal.returns-in_default-clause-short
+returns-in_default-clause-short g c act asked = fits_none act
+
+pub returns-in-Ok-clause-short : goal.returns-in-Ok-clause-short
+returns-in-Ok-clause-short g c act asked =
+    fits_reply act c.in-Some.request (g.D.Desk.seated c.args.desk.now) (g.D.Desk.seated c.ask.new.self) c.in-Ok.reply (rw c.in-Some.is at asked) c.in-Ok.ensures.asks
+
+pub returns-in-Err-clause-short : goal.returns-in-Err-clause-short
+returns-in-Err-clause-short g c act asked = fits_refused act c.in-Err.refused

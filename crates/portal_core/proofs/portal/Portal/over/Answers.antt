@@ -12,19 +12,19 @@ invariant_of-result g c =
     let lists = c.args.lists in
     let are = c.requires.lists in
     rw (c.new-2.ensures, c.new-history.ensures.entries) (
-      stands_first tree.began lists.opening lists.documents lists.rights lists.applications are.documents are.rights are.applications c.new-history.result.limit c.new-handles.result tree.told c.requires.valid c.known.ensures.began
-          c.new-history.ensures.limit c.new-handles.ensures.limit c.new-handles.ensures.seats c.requires.told,
+      stands_first tree.began lists.opening lists.documents lists.rights lists.applications are.documents are.rights are.applications c.new-history.result.limit c.new-handles.result c.new-3.result tree.told c.requires.valid c.known.ensures.began
+          c.new-history.ensures.limit c.new-handles.ensures.limit c.new-handles.ensures.seats c.new-3.ensures c.requires.told,
       omega arith,
       c.requires.kept,
       record { stored = sym are.tables; waiting = λ q. ap (λ (boxes : Boxes). unsent_on boxes q) c.new.ensures },
       c.requires.started,
-      λ seat node. ap (λ (counts : List (SeatNode × ℕ)). count_of counts seat node) c.new-3.ensures,
+      λ seat node. ap (λ (counts : List (SeatNode × ℕ)). count_of counts seat node) c.new-4.ensures,
     )
 
 pub returns : goal.returns
 returns g c =
     let tree = g.T.HostTree.is c.args.tree in
-    let none : room_in (length c.new-2.result) c.new-history.result.spare c.new-3.result.room c.new-4.result ≡ 0 = omega (arith, c.new-4.ensures) in
+    let none : room_in (length c.new-2.result) c.new-history.result.spare c.new-4.result.room c.new-5.result ≡ 0 = omega (arith, c.new-5.ensures) in
     λ i. record {
       tree = c.args.tree;
       keeper = c.args.keeper;

@@ -1,0 +1,2 @@
+mod BrokenPaths
+mod NamedLemmas
