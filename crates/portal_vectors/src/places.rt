@@ -29,9 +29,7 @@ fn numbered(place: Place) -> Option<u64> {
         Place::Root { view } if view < VIEWS => Some(node_of(Place::Root { view })),
         Place::Folder { view, id } if view < VIEWS => Some(node_of(Place::Folder { view, id })),
         Place::File { view, id } if view < VIEWS => Some(node_of(Place::File { view, id })),
-        Place::Named { view, k } if view < VIEWS && k != 0 => {
-            Some(node_of(Place::Named { view, k }))
-        }
+        Place::Named { view, k } if view < VIEWS => Some(node_of(Place::Named { view, k })),
         _ => None,
     }
 }
