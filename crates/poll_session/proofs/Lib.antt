@@ -1,0 +1,11 @@
+pub mod Sending
+pub mod Flat
+pub mod Joining
+pub mod StepRuns
+pub mod Asking
+pub mod StageRuns
+pub mod Serving
+pub mod Connected
+pub mod EnterLeave
+pub mod Acting
+pub mod LawsOfPolls
