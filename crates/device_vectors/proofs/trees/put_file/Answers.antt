@@ -6,7 +6,7 @@ use Rattle.portal_base.specs.Content.{ArePlaced, paths_of, is_above}
 use Rattle.portal_base.specs.declared.files.File.{File}
 use Rattle.host_tree.specs.Trees.{put_file}
 use Rattle.portal_base.proofs.PathsAbove.{above_longer}
-use Rattle.device_vectors.proofs.trees.tree_of.Goals as goal
+use Rattle.device_vectors.proofs.trees.put_file.Goals as goal
 
 alone : (f : File) → IsStrictlySortedBy path_order (f.path ∷ [])
 unfolding IsStrictlySortedBy
@@ -28,11 +28,11 @@ not-root : (x y p q : List ℕ) (b : Bool) → b ≡ not (is_same x y) → b ≡
 not-root x y p q b e h r s t = (λ i. is_same ((t ∙ sym s) i) (sym r i)) ∙ not-true (is_same x y) b e h
 
 pub add_file-requires-clause-began : goal.add_file-requires-clause-began
-add_file-requires-clause-began c = one-file c.new-tree.result.began _ (ap (λ t. t.began) c.new-tree.ensures)
+add_file-requires-clause-began c = one-file _ _ c.requires.began
     (not-root c.as_bytes-then-not-is_empty.result.now c.as_slice.result.now c.in_ok-path.path c.path.inside.text c.ne.result
     c.ne.ensures c.if-ne.true c.as_slice.ensures c.as_bytes-then-not-is_empty.ensures.bytes c.path.view_is)
 
 pub add_file-requires-clause-files : goal.add_file-requires-clause-files
-add_file-requires-clause-files c = one-file c.new-tree.result.files _ (ap (λ t. t.files) c.new-tree.ensures)
+add_file-requires-clause-files c = one-file _ _ c.requires.files
     (not-root c.as_bytes-then-not-is_empty.result.now c.as_slice.result.now c.in_ok-path.path c.path.inside.text c.ne.result
     c.ne.ensures c.if-ne.true c.as_slice.ensures c.as_bytes-then-not-is_empty.ensures.bytes c.path.view_is)
