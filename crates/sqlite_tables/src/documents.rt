@@ -188,21 +188,60 @@ pub fn set_grants<S: Alter>(
     number: u32,
     grants: &[GrantRecord],
 ) -> Result<(), DatabaseFault> {
-    let lines = lines_of(transaction, FIND, params![number])?;
-    let Some(line) = lines.as_slice().first() else {
+    let Some(document) = place_of(transaction, number)? else {
         return Ok(());
     };
-    let document = place_at(line, 0)?;
     let kept = kept_grants(alloc, transaction, document)?;
-    for old in kept.as_slice() {
+    let renewed = renew_grants(transaction, document, kept.as_slice(), grants);
+    drop(kept);
+    renewed
+}
+
+/// The place of the document of a number.
+fn place_of<S: Alter>(
+    transaction: &mut Transaction<'_, S>,
+    number: u32,
+) -> Result<Option<i64>, DatabaseFault> {
+    let lines = lines_of(transaction, FIND, params![number])?;
+    let place = first_place(lines.as_slice());
+    drop(lines);
+    place
+}
+
+fn first_place(lines: &[Line]) -> Result<Option<i64>, DatabaseFault> {
+    match lines.first() {
+        Some(line) => Ok(Some(place_at(line, 0)?)),
+        None => Ok(None),
+    }
+}
+
+/// The document of a place has these rights given in place of those that are kept.
+fn renew_grants<S: Alter>(
+    transaction: &mut Transaction<'_, S>,
+    document: i64,
+    kept: &[KeptGrant],
+    grants: &[GrantRecord],
+) -> Result<(), DatabaseFault> {
+    for old in kept {
         renew_grant(transaction, old, grants)?;
     }
     for grant in grants {
-        if !is_kept(kept.as_slice(), grant) {
-            add_grant(transaction, document, grant)?;
-        }
+        add_new(transaction, document, kept, grant)?;
     }
     Ok(())
+}
+
+/// Gives an application rights, if it was given none.
+fn add_new<S: Alter>(
+    transaction: &mut Transaction<'_, S>,
+    document: i64,
+    kept: &[KeptGrant],
+    grant: &GrantRecord,
+) -> Result<(), DatabaseFault> {
+    if is_kept(kept, grant) {
+        return Ok(());
+    }
+    add_grant(transaction, document, grant)
 }
 
 /// The rights in the document of a place, in byte order of the applications.
@@ -212,15 +251,25 @@ fn kept_grants<S: Alter>(
     document: i64,
 ) -> Result<Vec<KeptGrant>, DatabaseFault> {
     let lines = lines_of(transaction, READ_GRANTS, params![document])?;
+    let kept = grants_of(alloc, lines.as_slice());
+    drop(lines);
+    kept
+}
+
+fn grants_of(alloc: Global, lines: &[Line]) -> Result<Vec<KeptGrant>, DatabaseFault> {
     let mut kept = Vec::new(alloc);
-    for line in lines.as_slice() {
-        kept.push(KeptGrant {
-            place: place_at(line, 0)?,
-            app: bytes_at(alloc, line, 1)?,
-            rights: rights_at(line, 2)?,
-        })?;
+    for line in lines {
+        kept.push(grant_of(alloc, line)?)?;
     }
     Ok(kept)
+}
+
+fn grant_of(alloc: Global, line: &Line) -> Result<KeptGrant, DatabaseFault> {
+    Ok(KeptGrant {
+        place: place_at(line, 0)?,
+        app: bytes_at(alloc, line, 1)?,
+        rights: rights_at(line, 2)?,
+    })
 }
 
 /// Changes what an application was given, or removes it, as the new rights say.

@@ -90,15 +90,33 @@ pub fn renew_tables<S: Alter>(
     transaction: &mut Transaction<'_, S>,
 ) -> Result<(), DatabaseFault> {
     let documents = read_documents(alloc, transaction)?;
-    let entries = read_entries(alloc, transaction)?;
+    let renewed = match read_entries(alloc, transaction) {
+        Ok(entries) => {
+            let renewed = renew(alloc, transaction, documents.as_slice(), entries.as_slice());
+            drop(entries);
+            renewed
+        }
+        Err(error) => Err(error),
+    };
+    drop(documents);
+    renewed
+}
+
+/// Puts tables of this version in the place of the others, which hold these records.
+fn renew<S: Alter>(
+    alloc: Global,
+    transaction: &mut Transaction<'_, S>,
+    documents: &[DocRecord],
+    entries: &[EntryRecord],
+) -> Result<(), DatabaseFault> {
     for drop in DROPS {
         run(transaction, drop, &[])?;
     }
     add_tables(transaction)?;
-    for document in documents.iter() {
+    for document in documents {
         add_document(transaction, document)?;
     }
-    for entry in entries.iter() {
+    for entry in entries {
         add_entry(alloc, transaction, entry)?;
     }
     Ok(())

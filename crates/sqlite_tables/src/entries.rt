@@ -207,7 +207,13 @@ fn kept_entry<S: Alter>(
         FIND,
         params![entry.table.as_str(), entry.id.as_str()],
     )?;
-    match lines.as_slice().first() {
+    let kept = first_entry(lines.as_slice(), entry);
+    drop(lines);
+    kept
+}
+
+fn first_entry(lines: &[Line], entry: &EntryRecord) -> Result<Option<KeptEntry>, DatabaseFault> {
+    match lines.first() {
         Some(line) => Ok(Some(KeptEntry {
             place: place_at(line, 0)?,
             has_datum: slice_at(line, 1)? == entry.datum.as_slice(),

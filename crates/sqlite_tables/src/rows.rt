@@ -7,7 +7,7 @@ use crate::names::text_of_names;
 use portal_base::list::ByteList;
 use portal_model::records::Row;
 use sqlite::types::{ToSql, ValueRef};
-use sqlite::{Alter, Transaction, params};
+use sqlite::{Alter, Row as Line, Transaction, params};
 use std::alloc::Global;
 
 const READ: &str =
@@ -51,15 +51,40 @@ pub fn renew_rows<S: Alter>(
     // A change of one application's permissions writes that application's row alone, however many
     // others the entry has.
     let kept = kept_rows(alloc, transaction, entry)?;
-    for old in kept.as_slice() {
+    let renewed = renew_kept(alloc, transaction, entry, kept.as_slice(), rows);
+    drop(kept);
+    renewed
+}
+
+/// The same in place of these.
+fn renew_kept<S: Alter>(
+    alloc: Global,
+    transaction: &mut Transaction<'_, S>,
+    entry: i64,
+    kept: &[KeptRow],
+    rows: &[Row],
+) -> Result<(), DatabaseFault> {
+    for old in kept {
         renew_row(alloc, transaction, old, rows)?;
     }
     for row in rows {
-        if !is_kept(kept.as_slice(), row) {
-            add_row(alloc, transaction, entry, row)?;
-        }
+        add_new(alloc, transaction, entry, kept, row)?;
     }
     Ok(())
+}
+
+/// Adds a row, if its application has none.
+fn add_new<S: Alter>(
+    alloc: Global,
+    transaction: &mut Transaction<'_, S>,
+    entry: i64,
+    kept: &[KeptRow],
+    row: &Row,
+) -> Result<(), DatabaseFault> {
+    if is_kept(kept, row) {
+        return Ok(());
+    }
+    add_row(alloc, transaction, entry, row)
 }
 
 /// The rows of an entry, in byte order of the applications.
@@ -69,15 +94,25 @@ fn kept_rows<S: Alter>(
     entry: i64,
 ) -> Result<Vec<KeptRow>, DatabaseFault> {
     let lines = lines_of(transaction, READ, params![entry])?;
+    let kept = rows_of(alloc, lines.as_slice());
+    drop(lines);
+    kept
+}
+
+fn rows_of(alloc: Global, lines: &[Line]) -> Result<Vec<KeptRow>, DatabaseFault> {
     let mut kept = Vec::new(alloc);
-    for line in lines.as_slice() {
-        kept.push(KeptRow {
-            place: place_at(line, 0)?,
-            app: bytes_at(alloc, line, 1)?,
-            names: bytes_at(alloc, line, 2)?,
-        })?;
+    for line in lines {
+        kept.push(row_of(alloc, line)?)?;
     }
     Ok(kept)
+}
+
+fn row_of(alloc: Global, line: &Line) -> Result<KeptRow, DatabaseFault> {
+    Ok(KeptRow {
+        place: place_at(line, 0)?,
+        app: bytes_at(alloc, line, 1)?,
+        names: bytes_at(alloc, line, 2)?,
+    })
 }
 
 /// Changes the names of a row that is kept, or removes it, as the new rows say.
@@ -91,9 +126,19 @@ fn renew_row<S: Alter>(
     let Ok(at) = rows.binary_search_by(|row| row.app.as_bytes().cmp(app)) else {
         return run(transaction, REMOVE, params![old.place]);
     };
-    let Some(row) = rows.get(at) else {
-        return Ok(());
-    };
+    match rows.get(at) {
+        Some(row) => renew_names(alloc, transaction, old, row),
+        None => Ok(()),
+    }
+}
+
+/// Changes the names of a row that is kept, where the new row has others.
+fn renew_names<S: Alter>(
+    alloc: Global,
+    transaction: &mut Transaction<'_, S>,
+    old: &KeptRow,
+    row: &Row,
+) -> Result<(), DatabaseFault> {
     let names = text_of_names(alloc, row.names.as_slice())?;
     if names.as_slice() == old.names.as_slice() {
         return Ok(());

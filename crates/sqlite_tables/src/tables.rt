@@ -5,7 +5,7 @@
 
 use crate::calls::{lines_of, number_at, run};
 use crate::fault::DatabaseFault;
-use sqlite::{Alter, Transaction, params};
+use sqlite::{Alter, Row as Line, Transaction, params};
 
 /// The version of the tables that are made here.
 pub const TABLES_VERSION: u32 = 2;
@@ -61,7 +61,9 @@ const VERSION: &str = "SELECT version FROM version";
 /// Whether there are tables, of whichever version.
 pub fn have_tables<S: Alter>(transaction: &mut Transaction<'_, S>) -> Result<bool, DatabaseFault> {
     let lines = lines_of(transaction, FIND, &[])?;
-    Ok(!lines.is_empty())
+    let have = !lines.is_empty();
+    drop(lines);
+    Ok(have)
 }
 
 /// Adds the tables, which are empty but for the version.
@@ -78,7 +80,13 @@ pub fn add_tables<S: Alter>(transaction: &mut Transaction<'_, S>) -> Result<(), 
 /// The version of the tables, which is in the one row of its table.
 pub fn read_version<S: Alter>(transaction: &mut Transaction<'_, S>) -> Result<u32, DatabaseFault> {
     let lines = lines_of(transaction, VERSION, &[])?;
-    match lines.as_slice() {
+    let version = version_of(lines.as_slice());
+    drop(lines);
+    version
+}
+
+fn version_of(lines: &[Line]) -> Result<u32, DatabaseFault> {
+    match lines {
         [line] => number_at(line, 0),
         _ => Err(DatabaseFault::NoRecord),
     }
