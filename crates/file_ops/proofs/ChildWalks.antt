@@ -36,15 +36,15 @@ use Rattle.node_looks.specs.Walks.{ComesToBehind}
 use Rattle.node_looks.specs.declared.served.NodeDone.{NodeDone}
 use Rattle.node_looks.proofs.DoneLemmas.{handles-stay, room-stays}
 use Rattle.file_ops.specs.Children.{IsRefused, IsThere, NumberingBelow, attr_shown, found_below, made_below, named_below, naming_below, parent_sight, refusal_at, refused_there, shown_below, there_below}
-use Rattle.file_ops.specs.Creates.{Numbering, NumberingBehind, NumberingWith, Opening}
+use Rattle.file_ops.specs.Creates.{Numbering, NumberingBehind, NumberingWith}
 use Rattle.file_ops.specs.SeatNames.{SeatNamed, namings_after, namings_on}
-use Rattle.file_ops.specs.Tries.{done_after, done_behind, done_behind_first, done_of_below, done_of_ended, done_of_tried, ended_by, moment_of, refuses, says}
+use Rattle.file_ops.specs.Tries.{done_behind, done_behind_first, done_of_below, done_of_ended, done_of_tried, ended_by, moment_of, refuses, says}
 use Rattle.file_ops.specs.declared.children.Parent.{Parent}
 use Rattle.file_ops.specs.declared.tried.Came.TheVariants as came
 use Rattle.file_ops.specs.declared.tried.Ended.{Ended}
 use Rattle.file_ops.specs.declared.tried.Tried.{Tried}
 use Rattle.file_ops.specs.declared.tried.TriedBelow.{TriedBelow}
-use Rattle.file_ops.proofs.Creates.{first_of, made-done, made-failed, made-missing}
+use Rattle.file_ops.proofs.Creates.{made-done, made-failed, made-missing}
 use Rattle.file_ops.proofs.Numberings.{entry-numbering, errs-numbering, named-behind, numbering-after, numbering-along, numbering-before, numbering-behind, refused-numbering, same-named}
 use Rattle.file_ops.proofs.OneLook.{IsNoFolder}
 use Rattle.file_ops.proofs.Tries.{if-right, if-wrong}

@@ -1,5 +1,5 @@
 -- Requests by which nothing is named, and what connections have named behind them.
-use Rattle.std.proofs.Common.{◌≡◌, ◌==◌, ◌+◌, ◌&&◌, ◌||◌, ℕ, nat_lt, length, List, [], ◌∷◌, map, Bool, true, false, not, cond, Option, Some, None, refl, sym, ap, subst, ◌∙◌}
+use Rattle.std.proofs.Common.{◌≡◌, ◌==◌, ◌+◌, ◌&&◌, ◌||◌, ℕ, nat_lt, length, List, [], ◌∷◌, map, Bool, true, false, not, cond, Option, Some, None, refl, sym, ap, ◌∙◌}
 use Rattle.std.specs.Option.{option_map}
 use Rattle.portal_base.specs.Names.{is_same, name_of}
 use Rattle.portal_base.specs.declared.files.ChildName.{ChildName}

@@ -1,5 +1,5 @@
 -- What a table of namings has of a seat is what a connection has named, and its numbers are those of the nodes.
-use Rattle.std.proofs.Common.{◌≡◌, ◌==◌, ◌&&◌, ◌<◌, ◌≤◌, ℕ, nat_lt, List, length, Bool, true, false, not, Option, Some, None, IfSome, IsSomeAnd, refl, sym, ap, arith, ◌∙◌}
+use Rattle.std.proofs.Common.{◌≡◌, ◌&&◌, ◌<◌, ◌≤◌, ℕ, nat_lt, List, length, Bool, true, false, not, Option, Some, None, IfSome, IsSomeAnd, refl, sym, ap, arith, ◌∙◌}
 use Rattle.std.specs.Option.{option_map}
 use Rattle.std.proofs.lemmas.Bool.Decides.{nat_tests}
 use Rattle.folder_documents.specs.Named.{AtSeat, Both, CanName, Keeps, Named, Names as GetsNumber, named_on, number_of, with_naming as with_other}

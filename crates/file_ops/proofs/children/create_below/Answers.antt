@@ -1,4 +1,3 @@
-use Rattle.std.proofs.Common.{sym}
 use Rattle.node_looks.specs.Done.{room_in}
 use Rattle.file_ops.proofs.ChildWalks.{create-long, create-none, create-numbering, reads-below}
 use Rattle.file_ops.proofs.Tries.{called-more, on-err}

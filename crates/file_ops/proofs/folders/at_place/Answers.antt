@@ -1,4 +1,4 @@
-use Rattle.std.proofs.Common.{◌∙◌, Option, Some, None, ap, subst, sym}
+use Rattle.std.proofs.Common.{◌∙◌, Option, Some, ap, subst, sym}
 use Rattle.std.specs.Option.{option_copied, option_map}
 use Rattle.std.proofs.lemmas.Result.{IfOk-weaker}
 use Rattle.portal_model.specs.declared.request.NodeOp.TheVariants as NodeOp

@@ -2,7 +2,6 @@ use Rattle.std.proofs.Common.{◌∙◌, Bool, None, Option, Some, ap, not, subs
 use Rattle.host_tree.specs.Trees.{Asks}
 use Rattle.host_tree.specs.declared.tree.TreeCall.TheVariants as TreeCall
 use Rattle.portal_base.specs.declared.files.Look.TheVariants as Look
-use Rattle.portal_model.specs.declared.reply.Answer.{Answer}
 use Rattle.portal_model.specs.declared.request.NodeOp.TheVariants as NodeOp
 use Rattle.portal_model.specs.OpenDir.{open_dir}
 use Rattle.portal_model.specs.Place.{Sight}

@@ -1,4 +1,4 @@
-use Rattle.std.proofs.Common.{◌∙◌, List, ap, not, refl, subst, sym}
+use Rattle.std.proofs.Common.{◌∙◌, List, ap, not, refl, subst}
 use Rattle.portal_base.specs.declared.files.ChildName.{ChildName}
 use Rattle.file_ops.specs.OpenedFolders.{ListedBelow}
 use Rattle.file_ops.proofs.OpenedDirs.{failed-below, full-below, names-below, nothing-below}
