@@ -1,6 +1,8 @@
--- Looks at folders and files in them, two by two.
-use Rattle.std.proofs.Common.{◌≡◌, ℕ, ◌+◌, ◌<◌, ◌≤◌, ◌==◌, List, [], ◌∷◌, drop, get_or, length, Bool, true, false, not, ◌&&◌, refl, sym, ◌∙◌, arith, zero, suc}
+-- Looks at folders and files in them, two by two; and the paths of a plan.
+use Rattle.std.proofs.Common.{◌≡◌, ℕ, ◌+◌, ◌<◌, ◌≤◌, ◌==◌, List, [], ◌∷◌, drop, get_or, length, map, Bool, true, false, not, ◌&&◌, ◌||◌, refl, sym, ap, ◌∙◌, arith, zero, suc}
 use Rattle.std.proofs.lemmas.Bool.Decides.{nat_tests}
+use Rattle.std.specs.List.{list_any}
+use Rattle.add_files.specs.declared.plan.PlanItem.{PlanItem}
 use Rattle.portal_base.specs.declared.files.Look.{Look}
 use Rattle.portal_model.specs.Add.{are_folders_and_files, is_folder_look}
 
@@ -45,3 +47,9 @@ goes-on looks i d e b h k n = sym (two-more looks i d e h ∙ joined (is_folder_
     joined true true z e = refl
     joined true false z e = cc
     joined false y z e = cc
+
+-- a test of the paths of a plan is one of its files
+pub any-path : (test : List ℕ → Bool) (items : List PlanItem) →
+    list_any (λ (item : PlanItem). test item.path) items ≡ list_any test (map (λ (item : PlanItem). item.path) items)
+any-path test [] = refl
+any-path test (item ∷ items) = ap (λ (b : Bool). test item.path || b) (any-path test items)

@@ -193,14 +193,14 @@ module _ (s : State) (c : Connection) (a : AddRequest) (documents : List Documen
 
   are-arguments : Checks a paths → are_add_arguments c.queue a ≡ true
   are-arguments k =
-      all-met (nat_le (length a.handles) files_limit) (are_flags a.flags) (has_app a) (are_right_names a.names) (is_named_well c.queue a) true
+      all-met (nat_le (length a.handles) files_limit) (are_flags a) (has_app a) (are_right_names a.names) (is_named_well c.queue a) true
       (list_all (is_joined_well a) (presented_of paths a.handles)) (has_file_name a) k.few k.file k.known k.app k.joined well-named
 
   not-arguments : (are_few a ≡ false) ⊎ ((has_app a ≡ false) ⊎ ((are_right_names a.names ≡ false) ⊎ ((has_file_name a && list_all (is_joined_well a) (presented_of paths a.handles)) ≡ false))) →
       are_add_arguments c.queue a ≡ false
   not-arguments h =
-      ap (λ (b : Bool). nat_le (length a.handles) files_limit && (are_flags a.flags && (has_app a && (are_right_names a.names && b)))) well-named
-      ∙ one-fails (nat_le (length a.handles) files_limit) (are_flags a.flags) (has_app a) (are_right_names a.names) (has_file_name a && list_all (is_joined_well a) (presented_of paths a.handles)) h
+      ap (λ (b : Bool). nat_le (length a.handles) files_limit && (are_flags a && (has_app a && (are_right_names a.names && b)))) well-named
+      ∙ one-fails (nat_le (length a.handles) files_limit) (are_flags a) (has_app a) (are_right_names a.names) (has_file_name a && list_all (is_joined_well a) (presented_of paths a.handles)) h
 
   pub refused-argument : (numbers : List DocId) →
       (are_few a ≡ false) ⊎ ((has_app a ≡ false) ⊎ ((are_right_names a.names ≡ false) ⊎ ((has_file_name a && list_all (is_joined_well a) (presented_of paths a.handles)) ≡ false))) →

@@ -8,7 +8,7 @@ use Rattle.add_files.specs.declared.plan.AddError.{AddError}
 use Rattle.add_files.specs.declared.plan.AddError.TheVariants.{InvalidArgument, NotAllowed, Memory}
 
 abbrev pub are_few : AddRequest → Bool
-are_few a = nat_le (length a.handles) files_limit && are_flags a.flags
+are_few a = nat_le (length a.handles) files_limit && are_flags a
 
 abbrev pub has_app : AddRequest → Bool
 has_app a = names_nobody a || is_app_name a.app

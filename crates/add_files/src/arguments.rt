@@ -29,7 +29,7 @@ pub fn few(add: &AddRequest) -> Result<(), AddError>
     ensures ok { OnOk result (are_few add.now ≡ true) }
     ensures err { IfErr result (FailsCheck (are_few add.now)) }
 {
-    if add.handles.len() <= FILES_LIMIT && are_flags(add.flags) {
+    if add.handles.len() <= FILES_LIMIT && are_flags(add) {
         Ok(())
     } else {
         Err(AddError::InvalidArgument)

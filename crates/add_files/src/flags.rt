@@ -16,15 +16,18 @@ const AS_NEEDED_BY_APP: u32 = 4;
 /// Let open handles of the document follow later revocations.
 const STRICT: u32 = 16;
 
-/// The first flag that there isn't: to export a folder. All below it are known.
+/// Export a folder.
 const EXPORT_DIRECTORY: u32 = 8;
 
-/// Says whether each flag is one that there is.
-pub fn are_flags(flags: u32) -> bool
-    ensures { result ≡ are_flags flags }
+/// The first flag that there isn't. All below it are known.
+const UNKNOWN: u32 = 32;
+
+/// Says whether each flag is one that there is. A folder is exported under its
+/// own name, and for a run alone.
+pub fn are_flags(add: &AddRequest) -> bool
+    ensures { result ≡ are_flags add.now }
 {
-    let others = flags / EXPORT_DIRECTORY;
-    others == 0 || others == STRICT / EXPORT_DIRECTORY
+    add.flags < UNKNOWN && (!exports(add) || (!add.named && !persists(add)))
 }
 
 /// Says whether a live document of the same path may be used again, by the flag 1.

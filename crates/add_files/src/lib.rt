@@ -29,5 +29,5 @@ mod flags;
 mod plan;
 
 pub use add::plan_add;
-pub use flags::persists;
+pub use flags::{exports, persists};
 pub use plan::{AddError, AddPlan, PlanItem, PlanUse};

@@ -1,7 +1,8 @@
 -- An addition over the portal's lists is that of the sequential portal.
 use Rattle.std.proofs.Common.{◌≡◌, ℕ, ◌+◌, ◌-◌, ◌≤◌, nat_le, length, length-append, List, [], ◌∷◌, ◌++◌, drop, map, take, Bool, true, false, not, ◌&&◌, cond, Option, Some, None, is_some, option_map, Result, IfOk, IfSome, refl, sym, ap, subst, ◌∙◌, arith}
-use Rattle.std.specs.List.{flat_map}
+use Rattle.std.specs.List.{flat_map, list_all}
 use Rattle.std.proofs.lemmas.Bool.Decides.{nat_tests}
+use Rattle.portal_base.specs.Names.{child_of}
 use Rattle.portal_base.specs.declared.files.File.{File}
 use Rattle.portal_base.specs.declared.files.Look.{Look}
 use Rattle.portal_base.specs.declared.memory.WantOfMemory.{WantOfMemory}
@@ -16,8 +17,9 @@ use Rattle.portal_model.specs.declared.reply.Code.{Code}
 use Rattle.portal_model.specs.declared.request.AddRequest.{AddRequest}
 use Rattle.portal_model.specs.declared.request.Request.{Request}
 use Rattle.portal_model.specs.declared.state.Connection.{Connection}
-use Rattle.portal_model.specs.Add.{Added, add, add_presented, add_shown, added, added_files, are_of_kind, taken_from_queue}
-use Rattle.portal_model.specs.AddArguments.{are_presented, paths_looked_at, paths_shown}
+use Rattle.portal_model.specs.Add.{Added, add, add_presented, add_shown, added, added_files, are_exported, are_folders_and_files, are_of_kind, is_file, taken_from_queue}
+use Rattle.portal_model.specs.AddArguments.{are_presented, document_path, exports, paths_looked_at, paths_shown}
+use Rattle.portal_model.specs.Arguments.{ahead_of_end}
 use Rattle.portal_model.specs.Bus.{is_tree, moment_given, settled}
 use Rattle.portal_model.specs.Grant.{exceeds_limits}
 use Rattle.portal_model.specs.Kept.{records_of}
@@ -29,7 +31,7 @@ use Rattle.portal_model.specs.Valid.{Valid}
 use Rattle.portal_model.specs.Verdict.{Verdict, Refuses, Does, refuses, unless, walk_unless}
 use Rattle.portal_model.specs.Walk.{Walk, Answers, Gives, looks_at_all, reads_clock, walked}
 use Rattle.portal_model.proofs.DrawnNumbers.{drawn-length}
-use Rattle.add_files.specs.Items.{are_below, presented_of}
+use Rattle.add_files.specs.Items.{are_below, paths_of, presented_of}
 use Rattle.add_files.specs.Plans.{IsAsked, IsOfCall, IsPlan, IsRefused, as_added, followed, id_told}
 use Rattle.add_files.specs.declared.plan.AddError.{AddError}
 use Rattle.add_files.specs.declared.plan.AddError.TheVariants.{InvalidArgument, NotAllowed, Memory}
@@ -71,7 +73,7 @@ told-changed changes (Some x) r after h e = ap (λ (y : Records). Some y) (ap (c
 
 module _ (s : State) (c : Connection) (a : AddRequest) (plan : AddPlan) (is : IsPlan s c a plan) (g : Given) (now : g.now ≡ None) (unlisted : g.listed ≡ None) (unmade : g.generation ≡ None) (shown : Shows (files_told s) (paths_shown c.queue a) g.looks (is_tree g.fault)) where
   abbrev looked : List Look → Verdict
-  looked looks = unless (not (are_of_kind a looks)) Code.InvalidArgument (added s (added_files s c a g.numbers))
+  looked looks = unless (not (are_of_kind a (paths_shown c.queue a) looks)) Code.InvalidArgument (added s (added_files s c a g.numbers))
 
   verdict-is : verdict_of s c (Request.Add a) g ≡ cond (is_tree g.fault) None (Some (looked g.looks))
   verdict-is =
@@ -157,13 +159,13 @@ module _ (s : State) (c : Connection) (a : AddRequest) (who : Who) (paths : List
         })
 
     -- a file is of the wrong kind
-    pub kinds-add : (k : KeeperIs) → Shows told shown_paths looks false → are_of_kind a looks ≡ false →
+    pub kinds-add : (k : KeeperIs) → Shows told shown_paths looks false → are_of_kind a (paths_shown c.queue a) looks ≡ false →
         ServesKept s c (Request.Add a) (refused_call Code.InvalidArgument looks).given (left_by Fault.None c a (with_lists s before)) (refused_call Code.InvalidArgument looks).answer k k
     kinds-add k h kinds =
         let g : Given = undrawn looks false Fault.None in
         let shown = shown-are false h in
         let v : Option Verdict = Some (Refuses Code.InvalidArgument) in
-        let e : Some (unless (not (are_of_kind a looks)) Code.InvalidArgument (added s (added_files s c a []))) ≡ v = ap (λ (b : Bool). Some (unless (not b) Code.InvalidArgument (added s (added_files s c a [])))) kinds in
+        let e : Some (unless (not (are_of_kind a (paths_shown c.queue a) looks)) Code.InvalidArgument (added s (added_files s c a []))) ≡ v = ap (λ (b : Bool). Some (unless (not b) Code.InvalidArgument (added s (added_files s c a [])))) kinds in
         subst (λ (t : State). ServesKept s c (Request.Add a) g t (Answer.Refused Code.InvalidArgument) k k) left-lists
         (record {
           serves = looked-serves s c a plan is g refl refl refl shown v e (taken_from_queue c a s) (Answer.Refused Code.InvalidArgument) refl tt refl (λ f. no-keeper f) refl;
@@ -181,14 +183,14 @@ module _ (s : State) (c : Connection) (a : AddRequest) (who : Who) (paths : List
           ∙ (p.exceeds ∙ ap (λ (apps : List (List ℕ)). exceeds_planned before.documents apps who plan) r.book.numbered)
 
       -- a limit is met
-      pub full-adds : (k : KeeperIs) → Shows told shown_paths looks false → are_of_kind a looks ≡ true → exceeds_planned before.documents before.applications who plan ≡ true →
+      pub full-adds : (k : KeeperIs) → Shows told shown_paths looks false → are_of_kind a (paths_shown c.queue a) looks ≡ true → exceeds_planned before.documents before.applications who plan ≡ true →
           ServesKept s c (Request.Add a) (full_call looks).given (left_by Fault.None c a (with_lists s before)) (full_call looks).answer k k
       full-adds k h kinds met =
           let g : Given = undrawn looks true Fault.None in
           let shown = shown-are false h in
           let done : Added = added_files s c a [] in
           let v : Option Verdict = Some (Does (record { state = done.state; answer = Answer.Ids done.ids; makes = length done.state.made - length s.made; exceeds = true })) in
-          let e : Some (unless (not (are_of_kind a looks)) Code.InvalidArgument (added s done)) ≡ v =
+          let e : Some (unless (not (are_of_kind a (paths_shown c.queue a) looks)) Code.InvalidArgument (added s done)) ≡ v =
           ap (λ (b : Bool). Some (unless (not b) Code.InvalidArgument (added s done))) kinds
           ∙ ap (λ (b : Bool). Some (Does (record { state = done.state; answer = Answer.Ids done.ids; makes = length done.state.made - length s.made; exceeds = b }))) (exceeds-is [] ∙ met) in
           subst (λ (t : State). ServesKept s c (Request.Add a) g t (Answer.Refused Code.LimitsExceeded) k k) left-lists
@@ -199,7 +201,7 @@ module _ (s : State) (c : Connection) (a : AddRequest) (who : Who) (paths : List
 
       -- the files are placed
       module _ (words_told words_after : Option (List ℕ)) (after : Book) (old new : KeeperIs) (files : AddedFiles) (placed : PlacedKept who a plan before after words_told words_after old new files)
-          (h : Shows told shown_paths looks false) (kinds : are_of_kind a looks ≡ true) (within : exceeds_planned before.documents before.applications who plan ≡ false) where
+          (h : Shows told shown_paths looks false) (kinds : are_of_kind a (paths_shown c.queue a) looks ≡ true) (within : exceeds_planned before.documents before.applications who plan ≡ false) where
         abbrev then : Book
         then = placed.between
 
@@ -230,7 +232,7 @@ module _ (s : State) (c : Connection) (a : AddRequest) (who : Who) (paths : List
         abbrev doing : Option Verdict
         doing = Some (Does (record { state = with_lists left then; answer = Answer.Ids files.ids; makes = length files.drawn.words; exceeds = false }))
 
-        doing-is : Some (unless (not (are_of_kind a looks)) Code.InvalidArgument (added s (added_files s c a numbers))) ≡ doing
+        doing-is : Some (unless (not (are_of_kind a (paths_shown c.queue a) looks)) Code.InvalidArgument (added s (added_files s c a numbers))) ≡ doing
         doing-is =
             ap (λ (b : Bool). Some (unless (not b) Code.InvalidArgument (added s (added_files s c a numbers)))) kinds
             ∙ (λ i. Some (Does (record {
@@ -370,6 +372,26 @@ not-presented a who queue before told k served p e s c b q f v w =
     (stays ∙ (sym (same-queue s c v queue s.limits.queued q) ∙ ap (λ (u : State). queue_set u c queue) (sym same)))
     (refused-add s c a Code.InvalidArgs k walk))
 
+-- ---- kinds of files
+
+each-alone : (paths : List (List ℕ)) → flat_map (λ path. path ∷ []) paths ≡ map (λ path. path) paths
+each-alone [] = refl
+each-alone (path ∷ paths) = ap (λ (ps : List (List ℕ)). path ∷ ps) (each-alone paths)
+
+-- kinds go by what the tree is asked for, which are the paths of the documents where no file is named
+kinds-of : (a : AddRequest) (paths : List (List ℕ)) (looks : List Look) → are_of_kind a (flat_map (paths_looked_at a) paths) looks ≡ are_of_kind a (map (document_path a) paths) looks
+kinds-of a paths looks = by_named a.named
+  where
+    by_named : (b : Bool) → cond b (are_folders_and_files looks) (cond (exports a) (are_exported (flat_map (λ path. cond b (path ∷ document_path a path ∷ []) (path ∷ [])) paths) looks) (list_all is_file looks))
+        ≡ cond b (are_folders_and_files looks) (cond (exports a) (are_exported (map (λ path. cond b (child_of path (ahead_of_end a.name)) path) paths) looks) (list_all is_file looks))
+    by_named true = refl
+    by_named false = ap (λ (ps : List (List ℕ)). cond (exports a) (are_exported ps looks) (list_all is_file looks)) (each-alone paths)
+
+kinds-asked : (a : AddRequest) (queue paths items : List (List ℕ)) (looks : List Look) → take a.fds queue ≡ paths → items ≡ paths_of a paths a.handles → are_of_kind a (paths_shown queue a) looks ≡ are_of_kind a items looks
+kinds-asked a queue paths items looks taken planned =
+    ap (λ (ps : List (List ℕ)). are_of_kind a (flat_map (paths_looked_at a) (presented_of ps a.handles)) looks) taken
+    ∙ (kinds-of a (presented_of paths a.handles) looks ∙ ap (λ (ps : List (List ℕ)). are_of_kind a ps looks) (sym planned))
+
 -- ---- what the code was given
 
 abbrev pub paths_asked : AddRequest → List (List ℕ) → List (List ℕ)
@@ -381,19 +403,19 @@ module _ (a : AddRequest) (who : Who) (paths : List (List ℕ)) (before : Book) 
       subst (λ (x : ServedCall). ServesKept s c (Request.Add a) x.given (left_by x.given.fault c a (with_lists s before)) x.answer k k) (sym e)
       (unseen-adds s c a who paths before told r plan (is s c r.asked) looks k (subst (λ (b : Bool). Shows told (paths_asked a paths) looks b) f shows))
 
-  pub kinds-follow : (k : KeeperIs) (served : ServedCall) (slice : List Look) → failed ≡ false → slice ≡ looks → are_of_kind a slice ≡ false → served ≡ refused_call Code.InvalidArgument looks → Adds a who paths before before told k k served
-  kinds-follow k served slice f l kinds e s c r =
+  pub kinds-follow : (k : KeeperIs) (served : ServedCall) (slice : List Look) (items : List (List ℕ)) → failed ≡ false → slice ≡ looks → items ≡ paths_of a paths a.handles → are_of_kind a items slice ≡ false → served ≡ refused_call Code.InvalidArgument looks → Adds a who paths before before told k k served
+  kinds-follow k served slice items f l planned kinds e s c r =
       subst (λ (x : ServedCall). ServesKept s c (Request.Add a) x.given (left_by x.given.fault c a (with_lists s before)) x.answer k k) (sym e)
-      (kinds-add s c a who paths before told r plan (is s c r.asked) looks k (subst (λ (b : Bool). Shows told (paths_asked a paths) looks b) f shows) (ap (are_of_kind a) (sym l) ∙ kinds))
+      (kinds-add s c a who paths before told r plan (is s c r.asked) looks k (subst (λ (b : Bool). Shows told (paths_asked a paths) looks b) f shows) (kinds-asked a c.queue paths items looks r.asked.taken planned ∙ (ap (are_of_kind a items) (sym l) ∙ kinds)))
 
-  pub full-follow : (k : KeeperIs) (served : ServedCall) (slice : List Look) → failed ≡ false → slice ≡ looks → are_of_kind a slice ≡ true → IsOfCall who a plan → exceeds_planned before.documents before.applications who plan ≡ true → served ≡ full_call looks →
+  pub full-follow : (k : KeeperIs) (served : ServedCall) (slice : List Look) (items : List (List ℕ)) → failed ≡ false → slice ≡ looks → items ≡ paths_of a paths a.handles → are_of_kind a items slice ≡ true → IsOfCall who a plan → exceeds_planned before.documents before.applications who plan ≡ true → served ≡ full_call looks →
       Adds a who paths before before told k k served
-  full-follow k served slice f l kinds call met e s c r =
+  full-follow k served slice items f l planned kinds call met e s c r =
       subst (λ (x : ServedCall). ServesKept s c (Request.Add a) x.given (left_by x.given.fault c a (with_lists s before)) x.answer k k) (sym e)
-      (full-adds s c a who paths before told r plan (is s c r.asked) looks call k (subst (λ (b : Bool). Shows told (paths_asked a paths) looks b) f shows) (ap (are_of_kind a) (sym l) ∙ kinds) met)
+      (full-adds s c a who paths before told r plan (is s c r.asked) looks call k (subst (λ (b : Bool). Shows told (paths_asked a paths) looks b) f shows) (kinds-asked a c.queue paths items looks r.asked.taken planned ∙ (ap (are_of_kind a items) (sym l) ∙ kinds)) met)
 
-  pub placed-follow : (words_told words_after : Option (List ℕ)) (after : Book) (old new : KeeperIs) (files : AddedFiles) (served : ServedCall) (slice : List Look) → failed ≡ false → slice ≡ looks → are_of_kind a slice ≡ true → IsOfCall who a plan →
+  pub placed-follow : (words_told words_after : Option (List ℕ)) (after : Book) (old new : KeeperIs) (files : AddedFiles) (served : ServedCall) (slice : List Look) (items : List (List ℕ)) → failed ≡ false → slice ≡ looks → items ≡ paths_of a paths a.handles → are_of_kind a items slice ≡ true → IsOfCall who a plan →
       exceeds_planned before.documents before.applications who plan ≡ false → PlacedKept who a plan before after words_told words_after old new files → served ≡ placed_call files looks → Adds a who paths before after told old new served
-  placed-follow words_told words_after after old new files served slice f l kinds call within placed e s c r =
+  placed-follow words_told words_after after old new files served slice items f l planned kinds call within placed e s c r =
       subst (λ (x : ServedCall). ServesKept s c (Request.Add a) x.given (left_by x.given.fault c a (with_lists s after)) x.answer old new) (sym e)
-      (placed-adds s c a who paths before told r plan (is s c r.asked) looks call words_told words_after after old new files placed (subst (λ (b : Bool). Shows told (paths_asked a paths) looks b) f shows) (ap (are_of_kind a) (sym l) ∙ kinds) within)
+      (placed-adds s c a who paths before told r plan (is s c r.asked) looks call words_told words_after after old new files placed (subst (λ (b : Bool). Shows told (paths_asked a paths) looks b) f shows) (kinds-asked a c.queue paths items looks r.asked.taken planned ∙ (ap (are_of_kind a items) (sym l) ∙ kinds)) within)

@@ -20,7 +20,7 @@ first-of true y e = refl
 first-of false y e = e
 
 few-files : (a : AddRequest) → are_few a ≡ true → nat_le (length a.handles) files_limit ≡ true
-few-files a e = first-of (nat_le (length a.handles) files_limit) (are_flags a.flags) e
+few-files a e = first-of (nat_le (length a.handles) files_limit) (are_flags a) e
 
 mapped : {X Y : Type 0} (f : X → Y) (xs : List X) → length (map f xs) ≡ length xs
 mapped f [] = refl

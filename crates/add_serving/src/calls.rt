@@ -206,7 +206,7 @@ fn add_planned<T: HostTree, W: Words, K: Keeper>(
     }
     // All looks are made first, also at files that are left out, and then the kinds of all files
     // are looked at.
-    if !are_of_kind(add, shown.looks.as_slice()) {
+    if !are_of_kind(add, plan.items.as_slice(), shown.looks.as_slice()) {
         return Ok(refused(alloc, Code::InvalidArgument, shown.looks));
     }
     if exceeds(documents, applications, who, plan) {

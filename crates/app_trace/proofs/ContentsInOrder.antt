@@ -11,17 +11,18 @@ use Rattle.portal_base.specs.Names.{is_same}
 use Rattle.portal_base.specs.declared.files.File.{File}
 use Rattle.portal_model.specs.Content.{content_at, content_of, file_at, has_room, is_folder}
 use Rattle.portal_model.specs.Ordered.{bytes_less, is_rising}
+use Rattle.portal_model.proofs.DocumentChanges.{both, first_of_both, second_of_both}
 use Rattle.portal_model.proofs.RisingLists.{put_all-rising}
 use Rattle.portal_model.proofs.TripleOrder.{bytes-through, bytes-total, is_same-eq, is_same-refl}
-use Rattle.app_world.specs.View.{PathContent, ahead, contents_at, is_among, path_content, path_of}
-use Rattle.app_world.proofs.ContentLaws.{contents-found, contents-rising}
+use Rattle.app_world.specs.View.{below_at, contents_at, folder_of, is_among, path_below, path_content, path_of}
+use Rattle.app_world.proofs.ContentLaws.{before_by, items, items-found, items-rising}
 use Rattle.app_world.proofs.Found.{told-apart}
 use Rattle.app_world.proofs.Orders.{paths}
 use Rattle.app_trace.specs.Contents.{comes_again, first_of, once_each, path_less}
 
 -- ---- the order of paths by their bytes
 
-compared : (a b : List ℕ) → path_less a b ≡ bytes_less a b
+pub compared : (a b : List ℕ) → path_less a b ≡ bytes_less a b
 compared a b = same_from_slice_cmp nat_cmp is_lt bytes_less refl (λ _ _. refl) (λ _ _. refl) (λ x y xs ys o h. grind (arith, nat_tests)) a b (slice_cmp nat_cmp a b) refl
 
 -- none of the paths stands ahead of this one
@@ -103,28 +104,41 @@ among-once path (p ∷ ps) = by_next (comes_again p (first_of ps)) refl (among-o
     by_next true c rest = rest ∙ sym (again-among path p ps c)
     by_next false c rest = ap (λ (b : Bool). is_same p path || b) rest
 
--- ---- their contents
+-- ---- what there is for each
 
-all-content : (files : List File) (path : List ℕ) (ps : List (List ℕ)) → list_all (bytes_less path) ps ≡ true → list_all (ahead (path_content files path)) (map (path_content files) ps) ≡ true
-all-content files path [] h = refl
-all-content files path (p ∷ ps) h = grind (arith, all-content files path ps)
+module _ {X : Type 0} (key : X → List ℕ) (item : List ℕ → X) (of : (p : List ℕ) → key (item p) ≡ p) where
+  all-item : (path : List ℕ) (ps : List (List ℕ)) → list_all (bytes_less path) ps ≡ true → list_all (before_by key item of (item path)) (map item ps) ≡ true
+  all-item path [] h = refl
+  all-item path (p ∷ ps) h =
+      both (bytes_less (key (item path)) (key (item p))) (list_all (before_by key item of (item path)) (map item ps))
+      ((λ i. bytes_less (of path i) (of p i)) ∙ first_of_both (bytes_less path p) (list_all (bytes_less path) ps) h)
+      (all-item path ps (second_of_both (bytes_less path p) (list_all (bytes_less path) ps) h))
 
-rising-content : (files : List File) (ps : List (List ℕ)) → is_rising bytes_less ps ≡ true → is_rising ahead (map (path_content files) ps) ≡ true
-rising-content files [] h = refl
-rising-content files (p ∷ ps) h = grind (arith, rising-content files ps, all-content files p ps)
+  rising-item : (ps : List (List ℕ)) → is_rising bytes_less ps ≡ true → is_rising (before_by key item of) (map item ps) ≡ true
+  rising-item [] h = refl
+  rising-item (p ∷ ps) h =
+      both (list_all (before_by key item of (item p)) (map item ps)) (is_rising (before_by key item of) (map item ps))
+      (all-item p ps (first_of_both (list_all (bytes_less p) ps) (is_rising bytes_less ps) h))
+      (rising-item ps (second_of_both (list_all (bytes_less p) ps) (is_rising bytes_less ps) h))
 
--- equal paths have equal contents
-contents-alike : (files : List File) (ps qs : List (List ℕ)) → ((path : List ℕ) → is_among ps path ≡ is_among qs path) → contents_at files ps ≡ contents_at files qs
-contents-alike files ps qs e =
-    told-apart _ _ path_of paths (contents_at files ps) (contents_at files qs) (contents-rising files ps) (contents-rising files qs) (λ path.
-    contents-found files path ps ∙ (ap (λ (b : Bool). cond b (Some (path_content files path)) None) (e path) ∙ sym (contents-found files path qs)))
+  -- equal paths have equal items
+  items-alike : (ps qs : List (List ℕ)) → ((path : List ℕ) → is_among ps path ≡ is_among qs path) → items key item of ps ≡ items key item of qs
+  items-alike ps qs e =
+      told-apart _ _ key paths (items key item of ps) (items key item of qs) (items-rising key item of ps) (items-rising key item of qs) (λ path.
+      items-found key item of path ps ∙ (ap (λ (b : Bool). cond b (Some (item path)) None) (e path) ∙ sym (items-found key item of path qs)))
+
+  items-once : (ps sorted : List (List ℕ)) → IsPermutation ps sorted → IsSortedBy path_less sorted → map item (once_each sorted) ≡ items key item of ps
+  items-once ps sorted s up =
+      let qs : List (List ℕ) = once_each sorted in
+      let rising : is_rising (before_by key item of) (map item qs) ≡ true = rising-item qs (rising-once sorted (sorted-from sorted (far sorted up))) in
+      sym (put_all-rising _ _ key paths (map item qs) rising)
+      ∙ items-alike qs ps (λ path. among-once path sorted ∙ sym (list_any-IsPermutation (λ p. is_same p path) ps sorted s))
 
 pub contents-once : (files : List File) (ps sorted : List (List ℕ)) → IsPermutation ps sorted → IsSortedBy path_less sorted → map (path_content files) (once_each sorted) ≡ contents_at files ps
-contents-once files ps sorted s up =
-    let qs : List (List ℕ) = once_each sorted in
-    let rising : is_rising ahead (map (path_content files) qs) ≡ true = rising-content files qs (rising-once sorted (sorted-from sorted (far sorted up))) in
-    sym (put_all-rising _ _ path_of paths (map (path_content files) qs) rising)
-    ∙ contents-alike files qs ps (λ path. among-once path sorted ∙ sym (list_any-IsPermutation (λ p. is_same p path) ps sorted s))
+contents-once files ps sorted s up = items-once path_of (path_content files) (λ p. refl) ps sorted s up
+
+pub below-once : (files : List File) (ps sorted : List (List ℕ)) → IsPermutation ps sorted → IsSortedBy path_less sorted → map (path_below files) (once_each sorted) ≡ below_at files ps
+below-once files ps sorted s up = items-once folder_of (path_below files) (λ p. refl) ps sorted s up
 
 -- ---- one path after another
 
@@ -144,20 +158,20 @@ once-drop ps i p h e =
     let next : suc i ≡ i + 1 = omega arith in
     once-from ps i p h e ∙ ap (λ (n : ℕ). cond (comes_again p (slice_get ps n)) (once_each (drop n ps)) (p ∷ once_each (drop n ps))) next
 
-pub once-more : (files : List File) (contents more : List PathContent) (ps : List (List ℕ)) (i : ℕ) (p : List ℕ) → i < length ps → p ≡ get_or ps i p →
-    more ≡ contents ++ cond (comes_again p (slice_get ps (i + 1))) [] (path_content files p ∷ []) →
-    contents ++ map (path_content files) (once_each (drop i ps)) ≡ map (path_content files) (once_each ps) →
-    more ++ map (path_content files) (once_each (drop (i + 1) ps)) ≡ map (path_content files) (once_each ps)
-once-more files contents more ps i p h e m invariant =
-    let rest : List PathContent = map (path_content files) (once_each (drop (i + 1) ps)) in
+pub once-more : {X : Type 0} (item : List ℕ → X) (found more : List X) (ps : List (List ℕ)) (i : ℕ) (p : List ℕ) → i < length ps → p ≡ get_or ps i p →
+    more ≡ found ++ cond (comes_again p (slice_get ps (i + 1))) [] (item p ∷ []) →
+    found ++ map item (once_each (drop i ps)) ≡ map item (once_each ps) →
+    more ++ map item (once_each (drop (i + 1) ps)) ≡ map item (once_each ps)
+once-more {X} item found more ps i p h e m invariant =
+    let rest : List X = map item (once_each (drop (i + 1) ps)) in
     let b : Bool = comes_again p (slice_get ps (i + 1)) in
-    ap (λ (l : List PathContent). l ++ rest) m
+    ap (λ (l : List X). l ++ rest) m
     ∙ (by_next b (once_each (drop (i + 1) ps))
-    ∙ (ap (λ (l : List (List ℕ)). contents ++ map (path_content files) l) (sym (once-drop ps i p h e)) ∙ invariant))
+    ∙ (ap (λ (l : List (List ℕ)). found ++ map item l) (sym (once-drop ps i p h e)) ∙ invariant))
   where
-    by_next : (b : Bool) (left : List (List ℕ)) → (contents ++ cond b [] (path_content files p ∷ [])) ++ map (path_content files) left ≡ contents ++ map (path_content files) (cond b left (p ∷ left))
-    by_next true left = append_assoc contents [] (map (path_content files) left)
-    by_next false left = append_assoc contents (path_content files p ∷ []) (map (path_content files) left)
+    by_next : (b : Bool) (left : List (List ℕ)) → (found ++ cond b [] (item p ∷ [])) ++ map item left ≡ found ++ map item (cond b left (p ∷ left))
+    by_next true left = append_assoc found [] (map item left)
+    by_next false left = append_assoc found (item p ∷ []) (map item left)
 
 -- ---- the file of a path
 

@@ -56,23 +56,23 @@ module _ {X : Type 0} (p : X → Bool) where
 same-flip : (a b : ℕ) → nat_eq a b ≡ nat_eq b a
 same-flip a b = grind (arith, nat_tests)
 
-module _ {X : Type 0} (key : X → ℕ) where
-  abbrev keyed : ℕ → X → Bool
-  keyed k x = key x == k
+numbers_apart : (a b k : ℕ) → nat_eq a b ≡ false → nat_eq b k ≡ true → nat_eq a k ≡ false
+numbers_apart a b k h e = grind (arith, nat_tests)
 
-  apart_from : (a b k : ℕ) → nat_eq a b ≡ false → (b == k) ≡ true → (a == k) ≡ false
-  apart_from a b k h e = grind (arith, nat_tests)
+module _ {X K : Type 0} (same : K → K → Bool) (apart_from : (a b k : K) → same a b ≡ false → same b k ≡ true → same a k ≡ false) (key : X → K) where
+  abbrev pub keyed : K → X → Bool
+  keyed k x = same (key x) k
 
-  behind : (k : ℕ) (o : Option X) (x : X) (zs : List X) → AllByRecursion (λ m. nat_eq (key x) m ≡ false) (map key zs) → AllByRecursion (passing (keyed k) o) zs → AllByRecursion (passing (keyed k) (cond (keyed k x) (Some x) o)) zs
+  behind : (k : K) (o : Option X) (x : X) (zs : List X) → AllByRecursion (λ m. same (key x) m ≡ false) (map key zs) → AllByRecursion (passing (keyed k) o) zs → AllByRecursion (passing (keyed k) (cond (keyed k x) (Some x) o)) zs
   behind k o x [] h q = tt
   behind k o x (z ∷ zs) h q = (λ e. rw (apart_from (key x) (key z) k h.0 e) (q.0 e), behind k o x zs h.1 q.1)
 
-  one_each : (k : ℕ) (xs : List X) → IsDistinct nat_eq (map key xs) → AllByRecursion (passing (keyed k) (find (keyed k) xs)) xs
+  one_each : (k : K) (xs : List X) → IsDistinct same (map key xs) → AllByRecursion (passing (keyed k) (find (keyed k) xs)) xs
   unfolding IsDistinct
   one_each k [] h = tt
   one_each k (x ∷ xs) h = (λ e. rw e refl, behind k (find (keyed k) xs) x xs h.0 (one_each k xs h.1))
 
-  pub keyed-shuffled : (k : ℕ) (xs ys : List X) → IsPermutation xs ys → IsDistinct nat_eq (map key xs) → find (keyed k) ys ≡ find (keyed k) xs
+  pub keyed-shuffled : (k : K) (xs ys : List X) → IsPermutation xs ys → IsDistinct same (map key xs) → find (keyed k) ys ≡ find (keyed k) xs
   keyed-shuffled k xs ys s h = found-shuffled (keyed k) xs ys s (All-from_recursion (passing (keyed k) (find (keyed k) xs)) xs (one_each k xs h))
 
 -- ---- a sorted list rises
@@ -139,7 +139,7 @@ module _ (rights : List Triple) (app : List ℕ) where
     | false ↦ differ_among ds h.1
   ]
 
-  found-told : (n : ℕ) (ds : List HeldDocument) → found_document (map held_told ds) n ≡ option_map held_told (find (keyed number_in n) ds)
+  found-told : (n : ℕ) (ds : List HeldDocument) → found_document (map held_told ds) n ≡ option_map held_told (find (keyed nat_eq numbers_apart number_in n) ds)
   found-told n ds = find-map (λ d. number_of d == n) held_told ds
 
   -- the collected documents, sorted by number
@@ -150,7 +150,7 @@ module _ (rights : List Triple) (app : List ℕ) where
       let apart : IsDistinct nat_eq (map number_in sorted) = IsDistinct-IsPermutation nat_eq same-flip (map number_in among) (map number_in sorted) (IsPermutation-map number_in among sorted s) differ in
       documents-are held (map document_kept items) (map held_told sorted) (rises sorted (far sorted up) apart) (λ n.
       found-told n sorted
-      ∙ (ap (option_map held_told) (keyed-shuffled number_in n among sorted s differ)
+      ∙ (ap (option_map held_told) (keyed-shuffled nat_eq numbers_apart number_in n among sorted s differ)
       ∙ (sym (found-told n among)
       ∙ (ap (λ (ds : List HeldDocument). found_document (map held_told ds) n) e
       ∙ (ap (λ (ds : List view.HeldDocument). found_document ds n) (told-among items)

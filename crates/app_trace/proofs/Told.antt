@@ -1,20 +1,25 @@
 -- What the plain data stand for tells them apart.
 use Rattle.std.proofs.Common.{◌≡◌, ℕ, List, map, refl}
+use Rattle.portal_base.specs.declared.files.File.{File as HostFile}
 use Rattle.portal_model.specs.Content as content
 use Rattle.portal_model.specs.declared.state.Document.{Document}
 use Rattle.rights_rule.specs.Rights.{RightSet}
 use Rattle.app_world.specs.Own as own
 use Rattle.app_world.specs.TraceItem as item
+use Rattle.app_world.specs.View as view
 use Rattle.app_trace.specs.declared.trace.TraceItem.{TraceItem}
 use Rattle.app_trace.specs.declared.trace.TraceItem.TheVariants.{Own, Gained, Lost, Gone, Bytes}
 use Rattle.app_trace.specs.declared.view.AppView.{AppView}
 use Rattle.app_trace.specs.declared.view.Content.{Content}
 use Rattle.app_trace.specs.declared.view.Content.TheVariants.{File, Folder, Missing}
 use Rattle.app_trace.specs.declared.view.HeldDocument.{HeldDocument}
+use Rattle.app_trace.specs.declared.view.Holding.{Holding}
+use Rattle.app_trace.specs.declared.view.Holding.TheVariants.{Alone, Below}
 use Rattle.app_trace.specs.declared.view.OwnConnection.{OwnConnection}
 use Rattle.app_trace.specs.declared.view.OwnHandle.{OwnHandle}
+use Rattle.app_trace.specs.declared.view.PathBelow.{PathBelow}
 use Rattle.app_trace.specs.declared.view.PathContent.{PathContent}
-use Rattle.app_trace.specs.Told.{content_told, held_told, handle_told, connection_told, path_told, view_told, item_told}
+use Rattle.app_trace.specs.Told.{below_told, content_told, held_told, handle_told, holding_told, connection_told, path_told, view_told, item_told}
 use Rattle.app_trace.proofs.FirstDifferences.{map-apart}
 
 pub content-apart : (a b : Content) → content_told a ≡ content_told b → a ≡ b
@@ -54,11 +59,31 @@ path-apart a b e =
     let there : a.content ≡ b.content = content-apart a.content b.content (λ i. (e i).content) in
     λ i. record { path = (e i).path; content = there i }
 
+below-apart : (a b : PathBelow) → below_told a ≡ below_told b → a ≡ b
+below-apart a b e = λ i. record { path = (e i).path; files = (e i).files }
+
+abbrev content_of_holding : content.Content → view.Holding → content.Content
+content_of_holding other (view.Alone c) = c
+content_of_holding other (view.Below files) = other
+
+abbrev files_of_holding : List HostFile → view.Holding → List HostFile
+files_of_holding other (view.Alone c) = other
+files_of_holding other (view.Below files) = files
+
+pub holding-apart : (a b : Holding) → holding_told a ≡ holding_told b → a ≡ b
+holding-apart (Alone c) (Alone d) e =
+    let there : c ≡ d = content-apart c d (λ i. content_of_holding (content_told c) (e i)) in
+    λ i. Alone (there i)
+holding-apart (Alone c) (Below gs) e = cc
+holding-apart (Below fs) (Alone d) e = cc
+holding-apart (Below fs) (Below gs) e = λ i. Below (files_of_holding fs (e i))
+
 pub view-apart : (a b : AppView) → view_told a ≡ view_told b → a ≡ b
 view-apart a b e =
     let documents : a.documents ≡ b.documents = map-apart held_told held-apart a.documents b.documents (λ i. (e i).documents) in
     let connections : a.connections ≡ b.connections = map-apart connection_told connection-apart a.connections b.connections (λ i. (e i).connections) in
     let contents : a.contents ≡ b.contents = map-apart path_told path-apart a.contents b.contents (λ i. (e i).contents) in
+    let below : a.below ≡ b.below = map-apart below_told below-apart a.below b.below (λ i. (e i).below) in
     λ i. record {
       handles = (e i).handles;
       queued = (e i).queued;
@@ -66,6 +91,7 @@ view-apart a b e =
       documents = documents i;
       connections = connections i;
       contents = contents i;
+      below = below i;
     }
 
 -- ---- items
@@ -79,10 +105,17 @@ asked_in other (item.Bytes path generation c) = other
 
 abbrev content_in : content.Content → item.TraceItem → content.Content
 content_in other (item.Own o) = other
-content_in other (item.Gained d rights c) = c
+content_in other (item.Gained d rights h) = other
 content_in other (item.Lost id rights) = other
 content_in other (item.Gone id) = other
 content_in other (item.Bytes path generation c) = c
+
+abbrev holding_in : view.Holding → item.TraceItem → view.Holding
+holding_in other (item.Own o) = other
+holding_in other (item.Gained d rights h) = h
+holding_in other (item.Lost id rights) = other
+holding_in other (item.Gone id) = other
+holding_in other (item.Bytes path generation c) = other
 
 abbrev document_in : Document → item.TraceItem → Document
 document_in other (item.Own o) = other
@@ -114,8 +147,8 @@ generation_in other (item.Bytes path generation c) = generation
 
 pub item-apart : (a b : TraceItem) → item_told a ≡ item_told b → a ≡ b
 item-apart (Own s r n u h p l f x g) (Own s' r' n' u' h' p' l' f' x' g') e =
-    let o : own.Own = record { seat = s; request = r; now = n; numbers = u; shown = map content_told h; reused = p; looks = l; full = f; fault = x; generation = g } in
-    let shown : h ≡ h' = map-apart content_told content-apart h h' (λ i. (asked_in o (e i)).shown) in
+    let o : own.Own = record { seat = s; request = r; now = n; numbers = u; shown = map holding_told h; reused = p; looks = l; full = f; fault = x; generation = g } in
+    let shown : h ≡ h' = map-apart holding_told holding-apart h h' (λ i. (asked_in o (e i)).shown) in
     λ i.
     let q : own.Own = asked_in o (e i) in
     Own q.seat q.request q.now q.numbers (shown i) q.reused q.looks q.full q.fault q.generation
@@ -125,7 +158,7 @@ item-apart (Own s r n u h p l f x g) (Gone j') e = cc
 item-apart (Own s r n u h p l f x g) (Bytes p' g' c') e = cc
 item-apart (Gained d r c) (Own s' r' n' u' h' p' l' f' x' g') e = cc
 item-apart (Gained d r c) (Gained d' r' c') e =
-    let there : c ≡ c' = content-apart c c' (λ i. content_in (content_told c) (e i)) in
+    let there : c ≡ c' = holding-apart c c' (λ i. holding_in (holding_told c) (e i)) in
     λ i. Gained (document_in d (e i)) (rights_in r (e i)) (there i)
 item-apart (Gained d r c) (Lost j' r') e = cc
 item-apart (Gained d r c) (Gone j') e = cc

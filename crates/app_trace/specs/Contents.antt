@@ -1,10 +1,12 @@
 -- Paths of which none is repeated, where equal ones stand together; and files that show the same.
 use Rattle.std.specs.Prelude.{◌≡◌, ℕ, List, [], ◌∷◌, Bool, false, cond, Option, Some, None}
 use Rattle.std.specs.Cmp.Lexicographic.{slice_cmp}
+use Rattle.std.specs.List.{flat_map}
 use Rattle.std.specs.Ordering.{is_lt, nat_cmp}
 use Rattle.portal_base.specs.Names.{is_same}
 use Rattle.portal_base.specs.declared.files.File.{File}
 use Rattle.portal_model.specs.Content.{content_at}
+use Rattle.portal_model.specs.Documents.{same_flag}
 use Rattle.app_trace.specs.declared.view.HeldDocument.{HeldDocument}
 
 abbrev pub first_of : List (List ℕ) → Option (List ℕ)
@@ -28,6 +30,16 @@ path_less a b = is_lt (slice_cmp nat_cmp a b)
 
 abbrev pub path_held : HeldDocument → List ℕ
 path_held d = d.document.path
+
+-- the path of a document that is a folder, or of one that is none
+abbrev pub path_if : Bool → HeldDocument → List (List ℕ)
+path_if folder d = cond (same_flag d.document.folder folder) (path_held d ∷ []) []
+
+abbrev pub paths_held : Bool → List HeldDocument → List (List ℕ)
+paths_held folder ds = flat_map (path_if folder) ds
+
+abbrev pub file_less : File → File → Bool
+file_less a b = path_less a.path b.path
 
 -- at each path the same is there
 abbrev pub ShowAlike : List File → List File → Type 0

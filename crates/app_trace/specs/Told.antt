@@ -11,8 +11,11 @@ use Rattle.app_trace.specs.declared.view.AppView.{AppView}
 use Rattle.app_trace.specs.declared.view.Content.{Content}
 use Rattle.app_trace.specs.declared.view.Content.TheVariants.{File, Folder, Missing}
 use Rattle.app_trace.specs.declared.view.HeldDocument.{HeldDocument}
+use Rattle.app_trace.specs.declared.view.Holding.{Holding}
+use Rattle.app_trace.specs.declared.view.Holding.TheVariants.{Alone, Below}
 use Rattle.app_trace.specs.declared.view.OwnConnection.{OwnConnection}
 use Rattle.app_trace.specs.declared.view.OwnHandle.{OwnHandle}
+use Rattle.app_trace.specs.declared.view.PathBelow.{PathBelow}
 use Rattle.app_trace.specs.declared.view.PathContent.{PathContent}
 
 -- ---- what an application holds
@@ -44,6 +47,13 @@ connection_told c = record {
 abbrev pub path_told : PathContent → view.PathContent
 path_told c = record { path = c.path; content = content_told c.content }
 
+abbrev pub below_told : PathBelow → view.PathBelow
+below_told b = record { path = b.path; files = b.files }
+
+abbrev pub holding_told : Holding → view.Holding
+holding_told (Alone content) = view.Alone (content_told content)
+holding_told (Below files) = view.Below files
+
 abbrev pub view_told : AppView → view.AppView
 view_told v = record {
   handles = v.handles;
@@ -52,6 +62,7 @@ view_told v = record {
   documents = map held_told v.documents;
   connections = map connection_told v.connections;
   contents = map path_told v.contents;
+  below = map below_told v.below;
 }
 
 -- ---- what happens to it
@@ -62,14 +73,14 @@ item_told (Own seat request now numbers shown reused looks full fault generation
   request = request;
   now = now;
   numbers = numbers;
-  shown = map content_told shown;
+  shown = map holding_told shown;
   reused = reused;
   looks = looks;
   full = full;
   fault = fault;
   generation = generation;
 })
-item_told (Gained document rights content) = item.Gained document rights (content_told content)
+item_told (Gained document rights holding) = item.Gained document rights (holding_told holding)
 item_told (Lost id rights) = item.Lost id rights
 item_told (Gone id) = item.Gone id
 item_told (Bytes path generation content) = item.Bytes path generation (content_told content)

@@ -1,47 +1,104 @@
-//! What the tree of files has at paths.
+//! What the tree of files has at paths, and at and below them.
 
-ghost use Rattle.std.specs.Prelude.{◌≡◌, ◌+◌, ◌<◌, ◌++◌, ◌∷◌, [], None, cond, length, map, option_copied, slice_get, IfOk, OnOk};
+ghost use Rattle.std.specs.Prelude.{◌≡◌, ◌+◌, ◌<◌, ◌++◌, ◌∷◌, [], None, cond, false, length, map, option_copied, slice_get, true, IfOk, OnOk};
 ghost use Rattle.std.specs.Cmp.Lexicographic.{slice_cmp};
 ghost use Rattle.std.specs.List.Sorted.{IsPermutation, IsSortedBy};
 ghost use Rattle.std.specs.Ordering.{nat_cmp};
-ghost use Rattle.app_world.specs.View.{contents_at as contents_of_view, path_content as content_of_path};
+ghost use Rattle.app_world.specs.View.{below_at as below_of_view, contents_at as contents_of_view, files_below as files_of_folder, holding_at, path_below as below_of_path, path_content as content_of_path};
 ghost use Rattle.portal_base.specs.Names.{parent_of};
 ghost use Rattle.portal_model.specs.Content.{OfFile, content_at as content_of_tree, content_of, is_folder as is_folder_of_tree};
-ghost use Rattle.app_trace.specs.Contents.{comes_again, once_each, path_held, path_less};
-ghost use Rattle.app_trace.specs.Told.{content_told, path_told};
+ghost use Rattle.app_trace.specs.Contents.{comes_again, file_less, once_each, path_if, path_less, paths_held};
+ghost use Rattle.app_trace.specs.Told.{below_told, content_told, holding_told, path_told};
 
-use crate::view::{Content, HeldDocument, PathContent};
+use crate::view::{Content, HeldDocument, Holding, PathBelow, PathContent};
+use portal_base::files::File;
 use portal_base::list::List;
 use portal_base::memory::{Replica, WantOfMemory};
 use portal_base::names::HostPath;
+use portal_model::state::Document;
 use std::alloc::Global;
 use std::cmp::Ordering;
 use tree_files::{KeptFile, TreeFiles};
 
-/// What is at the path of each document, in byte order of the paths, of which
-/// none is repeated. Of n files and k paths it takes about k log n steps.
+/// What is at the path of each document that is no folder, in byte order of the
+/// paths, of which none is repeated. Of n files and k paths it takes about k log n
+/// steps.
 pub fn contents_of(
     alloc: Global,
     files: &TreeFiles,
     held: &[HeldDocument],
 ) -> Result<List<PathContent>, WantOfMemory>
     ensures { IfOk result (λ contents. map path_told contents
-        ≡ contents_of_view files.now (map path_held held.now)) }
+        ≡ contents_of_view files.now (paths_held false held.now)) }
 {
-    let paths = paths_held(alloc, held)?;
+    let paths = paths_held(alloc, held, false)?;
     let paths = by_bytes(paths);
     contents_at(alloc, files, paths.as_slice())
 }
 
-/// The paths of documents.
-fn paths_held(alloc: Global, held: &[HeldDocument]) -> Result<List<HostPath>, WantOfMemory>
-    ensures { IfOk result (λ paths. paths ≡ map path_held held.now) }
+/// The files at and below the path of each document that is a folder, in byte order
+/// of the paths, of which none is repeated. Of n files and k paths it takes about
+/// k n steps, beside the sorting of what is found.
+pub fn below_of(
+    alloc: Global,
+    files: &TreeFiles,
+    held: &[HeldDocument],
+) -> Result<List<PathBelow>, WantOfMemory>
+    ensures { IfOk result (λ below. map below_told below
+        ≡ below_of_view files.now (paths_held true held.now)) }
+{
+    let paths = paths_held(alloc, held, true)?;
+    let paths = by_bytes(paths);
+    below_at(alloc, files, paths.as_slice())
+}
+
+/// What there is for a document.
+pub fn holding_of(
+    alloc: Global,
+    files: &TreeFiles,
+    document: &Document,
+) -> Result<Holding, WantOfMemory>
+    ensures { IfOk result
+        (λ holding. holding_told holding ≡ holding_at files.now document.now) }
+{
+    if document.folder {
+        return Ok(Holding::Below {
+            files: files_below(alloc, files, &document.path)?,
+        });
+    }
+    Ok(Holding::Alone {
+        content: content_at(alloc, files, &document.path)?,
+    })
+}
+
+/// The paths of the documents that are folders, or of those that are none.
+fn paths_held(
+    alloc: Global,
+    held: &[HeldDocument],
+    folder: bool,
+) -> Result<List<HostPath>, WantOfMemory>
+    ensures { IfOk result (λ paths. paths ≡ paths_held folder held.now) }
 {
     let mut paths = List::new(alloc);
     for item in held {
-        paths.push(item.document.path.replica(alloc)?)?;
+        push_path(alloc, &mut paths, item, folder)?;
     }
     Ok(paths)
+}
+
+/// Adds the path of a document, where it is a folder as told.
+fn push_path(
+    alloc: Global,
+    paths: &mut List<HostPath>,
+    item: &HeldDocument,
+    folder: bool,
+) -> Result<(), WantOfMemory>
+    ensures { OnOk result (paths.new ≡ paths.old ++ path_if folder item.now) }
+{
+    if item.document.folder != folder {
+        return Ok(());
+    }
+    paths.push(item.document.path.replica(alloc)?)
 }
 
 /// Paths in byte order.
@@ -78,6 +135,77 @@ fn contents_at(
         push_content(alloc, &mut contents, files, path, again)?;
     }
     Ok(contents)
+}
+
+/// The files at and below each of the paths, of which equal ones stand together.
+fn below_at(
+    alloc: Global,
+    files: &TreeFiles,
+    paths: &[HostPath],
+) -> Result<List<PathBelow>, WantOfMemory>
+    ensures { IfOk result (λ below. map below_told below
+        ≡ map (below_of_path files.now) (once_each paths.now)) }
+{
+    let mut below = List::new(alloc);
+    for index in 0..paths.len() {
+        let path = &paths[index];
+        let again = comes_again(path, next_of(paths, index));
+        push_below(alloc, &mut below, files, path, again)?;
+    }
+    Ok(below)
+}
+
+/// Adds the files at and below a path, unless the path comes again.
+fn push_below(
+    alloc: Global,
+    below: &mut List<PathBelow>,
+    files: &TreeFiles,
+    path: &HostPath,
+    repeats: bool,
+) -> Result<(), WantOfMemory>
+    ensures { OnOk result (map below_told below.new ≡ map below_told below.old
+        ++ cond repeats [] (below_of_path files.now path.now ∷ [])) }
+{
+    if repeats {
+        return Ok(());
+    }
+    below.push(path_below(alloc, files, path)?)
+}
+
+/// A path, and the files at and below it.
+fn path_below(
+    alloc: Global,
+    files: &TreeFiles,
+    path: &HostPath,
+) -> Result<PathBelow, WantOfMemory>
+    ensures { IfOk result (λ below. below_told below ≡ below_of_path files.now path.now) }
+{
+    Ok(PathBelow {
+        files: files_below(alloc, files, path)?,
+        path: path.replica(alloc)?,
+    })
+}
+
+/// The files at and below a path, in byte order of their paths.
+pub fn files_below(
+    alloc: Global,
+    files: &TreeFiles,
+    path: &HostPath,
+) -> Result<List<File>, WantOfMemory>
+    ensures { IfOk result (λ found. found ≡ files_of_folder files.now path.now) }
+{
+    let found = files.in_folder(alloc, path)?;
+    Ok(files_by_bytes(found))
+}
+
+/// Files in byte order of their paths, which differ.
+fn files_by_bytes(files: List<File>) -> List<File>
+    ensures same { IsPermutation files result }
+    ensures order { IsSortedBy file_less result }
+{
+    let mut files = files.into_vec();
+    files.sort_unstable_by(|first, second| byte_order(&first.path, &second.path));
+    List::from_vec(files)
 }
 
 /// Adds what is at a path, unless the path comes again.

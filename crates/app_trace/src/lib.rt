@@ -39,5 +39,7 @@ mod viewed;
 pub use files::files_of;
 pub use matching::{TraceMatch, same_trace};
 pub use trace::{Trace, TraceItem};
-pub use view::{AppView, Content, HeldDocument, OwnConnection, OwnHandle, PathContent};
+pub use view::{
+    AppView, Content, HeldDocument, Holding, OwnConnection, OwnHandle, PathBelow, PathContent,
+};
 pub use viewed::view_of;

@@ -4,8 +4,10 @@ ghost use Rattle.std.specs.Prelude.{◌≡◌, IsTrue, ◌↔◌};
 
 use crate::same::Same;
 use crate::trace::TraceItem;
-use crate::view::{AppView, Content, HeldDocument, OwnConnection, OwnHandle, PathContent};
-use portal_base::files::FileName;
+use crate::view::{
+    AppView, Content, HeldDocument, Holding, OwnConnection, OwnHandle, PathBelow, PathContent,
+};
+use portal_base::files::{File, FileName};
 use portal_model::entry::Fault;
 use portal_model::handle::Handle;
 use portal_model::naming::Naming;
@@ -113,6 +115,30 @@ impl Same for Content {
     }
 }
 
+impl Same for File {
+    fn is_same(&self, other: &File) -> bool {
+        self.path.is_same(&other.path)
+            && self.generation == other.generation
+            && self.bytes.is_same(&other.bytes)
+            && self.moment == other.moment
+    }
+}
+
+impl Same for Holding {
+    fn is_same(&self, other: &Holding) -> bool {
+        match self {
+            Holding::Alone { content } => match other {
+                Holding::Alone { content: c } => content.is_same(c),
+                _ => false,
+            },
+            Holding::Below { files } => match other {
+                Holding::Below { files: f } => files.is_same(f),
+                _ => false,
+            },
+        }
+    }
+}
+
 impl Same for HeldDocument {
     fn is_same(&self, other: &HeldDocument) -> bool {
         self.document.is_same(&other.document) && self.rights.is_same(&other.rights)
@@ -168,6 +194,12 @@ impl Same for PathContent {
     }
 }
 
+impl Same for PathBelow {
+    fn is_same(&self, other: &PathBelow) -> bool {
+        self.path.is_same(&other.path) && self.files.is_same(&other.files)
+    }
+}
+
 impl Same for AppView {
     fn is_same(&self, other: &AppView) -> bool {
         self.handles == other.handles
@@ -176,6 +208,7 @@ impl Same for AppView {
             && self.documents.is_same(&other.documents)
             && self.connections.is_same(&other.connections)
             && self.contents.is_same(&other.contents)
+            && self.below.is_same(&other.below)
     }
 }
 
@@ -222,13 +255,13 @@ impl Same for TraceItem {
             TraceItem::Gained {
                 document,
                 rights,
-                content,
+                holding,
             } => match other {
                 TraceItem::Gained {
                     document: d,
                     rights: r,
-                    content: c,
-                } => document.is_same(d) && rights.is_same(r) && content.is_same(c),
+                    holding: h,
+                } => document.is_same(d) && rights.is_same(r) && holding.is_same(h),
                 _ => false,
             },
             TraceItem::Lost { id, rights } => match other {

@@ -1,7 +1,7 @@
 //! The trace of an application: what it asks, and what others change of what it
 //! holds.
 
-use crate::view::{AppView, Content};
+use crate::view::{AppView, Content, Holding};
 use portal_base::list::List;
 use portal_base::names::doc_id::DocId;
 use portal_base::names::host_path::HostPath;
@@ -23,8 +23,8 @@ pub enum TraceItem {
         now: Option<u64>,
         /// The numbers of the new documents.
         numbers: List<DocId>,
-        /// Of an Add: what is at each path that the tree was asked for.
-        shown: List<Content>,
+        /// Of an Add: what there is at each path that the tree was asked for.
+        shown: List<Holding>,
         /// Of an Add that may use documents again: for each file that isn't
         /// left out the document that was there for it.
         reused: List<Option<DocId>>,
@@ -43,8 +43,8 @@ pub enum TraceItem {
         document: Document,
         /// The rights that it didn't have.
         rights: Rights,
-        /// What is at the document's path.
-        content: Content,
+        /// What there is for the document.
+        holding: Holding,
     },
     /// Rights in a document were taken from the application.
     Lost {
@@ -58,7 +58,7 @@ pub enum TraceItem {
         /// The document's number.
         id: DocId,
     },
-    /// A file at a path that the application's view names was changed or made.
+    /// A file at a path of which the application's view tells was changed or made.
     Bytes {
         /// The path.
         path: HostPath,

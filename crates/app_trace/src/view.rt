@@ -1,5 +1,6 @@
 //! What an application holds of a state of the portal.
 
+use portal_base::files::File;
 use portal_base::list::{ByteList, List};
 use portal_base::names::app_id::AppId;
 use portal_base::names::host_path::HostPath;
@@ -75,13 +76,38 @@ pub struct OwnConnection {
     pub added: u32,
 }
 
-/// What the tree has at a path that a document or an open file names.
+/// What the tree has at a path that a document which is no folder or an open file
+/// names.
 #[derive(Drop)]
 pub struct PathContent {
     /// The path.
     pub path: HostPath,
     /// What is there.
     pub content: Content,
+}
+
+/// What the tree has at and below the path of a document that is a folder.
+#[derive(Drop)]
+pub struct PathBelow {
+    /// The path.
+    pub path: HostPath,
+    /// The files there, in byte order of their paths.
+    pub files: List<File>,
+}
+
+/// What there is for a document.
+#[derive(Drop)]
+pub enum Holding {
+    /// What is at its path.
+    Alone {
+        /// What is there.
+        content: Content,
+    },
+    /// The files at and below the path of one that is a folder.
+    Below {
+        /// In byte order of their paths.
+        files: List<File>,
+    },
 }
 
 /// What an application holds.
@@ -98,6 +124,10 @@ pub struct AppView {
     pub documents: List<HeldDocument>,
     /// Its connections, in the order in which they were opened.
     pub connections: List<OwnConnection>,
-    /// What is at each path that these name, in byte order of the paths.
+    /// What is at each path that a document which is no folder or an open file
+    /// names, in byte order of the paths.
     pub contents: List<PathContent>,
+    /// And at and below that of each document which is a folder, in byte order of
+    /// these.
+    pub below: List<PathBelow>,
 }

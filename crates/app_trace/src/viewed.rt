@@ -6,7 +6,7 @@ ghost use Rattle.portal_model.specs.Opening.{opened};
 ghost use Rattle.portal_model.specs.Valid.{Valid};
 ghost use Rattle.app_trace.specs.Told.{view_told};
 
-use crate::contents::contents_of;
+use crate::contents::{below_of, contents_of};
 use crate::files::files_of;
 use crate::held::held_documents;
 use crate::view::AppView;
@@ -19,7 +19,7 @@ use std::alloc::Global;
 
 /// What an application holds of the state that a portal opens with, in which
 /// no connection is open: the limits that it meets, the documents in which it
-/// has a right, and what is at their paths.
+/// has a right, what is at their paths, and at and below those of folders.
 pub fn view_of(alloc: Global, opening: &OpeningState, app: &AppId) -> Result<AppView, WantOfMemory>
     requires { Valid (opened opening.now) }
     ensures { IfOk result (λ held. view_told held ≡ view (opened opening.now) app.now) }
@@ -29,6 +29,7 @@ pub fn view_of(alloc: Global, opening: &OpeningState, app: &AppId) -> Result<App
     let documents = held_documents(alloc, items, &rights, app)?;
     let files = files_of(alloc, opening)?;
     let contents = contents_of(alloc, &files, documents.as_slice())?;
+    let below = below_of(alloc, &files, documents.as_slice())?;
     Ok(AppView {
         handles: opening.limits.handles,
         queued: opening.limits.queued,
@@ -36,5 +37,6 @@ pub fn view_of(alloc: Global, opening: &OpeningState, app: &AppId) -> Result<App
         documents,
         connections: List::new(alloc),
         contents,
+        below,
     })
 }

@@ -66,10 +66,10 @@ pub fn listing(
 const UNNAMED_NODE: u64 = 0xffff_ffff;
 
 /// The entries of a folder at a path at or below a document that is a folder: itself,
-/// by its node, and its parent first: of the exported folder that is its document's,
-/// of one below it a folder that is told without a number; then the names that the tree listed in it,
-/// which have no nodes before they are named. Of n names it takes about n steps, and
-/// memory for them.
+/// by its node, and its parent first, which of the exported folder is the document's own
+/// folder, and of one below it is told without a number; then the names that the tree
+/// listed in it, which have no nodes before they are named. Of n names it takes about n
+/// steps, and memory for them.
 pub fn listing_below(
     alloc: Global,
     view: u32,

@@ -20,13 +20,13 @@ use portal_model::place::Place;
 /// The place that a node's number names; `None` exactly where the caller
 /// doesn't see it. Of n documents it takes about log n steps.
 ///
-/// The caller sees the root of its own view, and of each document in which the view's
-/// subject has the right to read the folder, and in it the file or the folder that the
+/// The caller sees the root of its own view, and the folder of each document in which
+/// the view's subject has the right to read, and in it the file or the folder that the
 /// document is; the host sees the folder of all views, and that of each numbered
-/// application, too. `naming` is what
-/// the connection that asks named by the number in the node below a folder that is a
-/// document, and is passed over at other nodes: it is seen in its own view, by whoever
-/// may read its document. Whether the tree has something there is not looked at.
+/// application, too. `naming` is what the connection that asks named by the number in the
+/// node below a folder that is a document, and is passed over at other nodes: it is seen
+/// in its own view, by whoever may read its document. Whether the tree has something
+/// there is not looked at.
 pub fn resolve(book: &ViewBook, who: &Who, node: u64, naming: Option<&Naming>) -> Option<Place>
     ensures seen { (s : State) → Lends book.now s →
         result ≡ place_seen s who.now (option_copied naming.entry) node }

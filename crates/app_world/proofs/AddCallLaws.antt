@@ -94,7 +94,7 @@ add-other app s c a numbers f e o now looks failed n =
     touched-check app s fs (not (are_add_arguments c.queue a)) Code.InvalidArgument (add_allowed s c a numbers) now looks failed (λ j.
     touched-check app s fs (not (may_list_all s c.who a (document_paths c.queue a))) Code.NotAllowed (add_looking s c a numbers) now looks failed (λ k.
     touched-walk app s fs (paths_shown c.queue a) (add_shown s c a numbers) now looks failed (λ all now2 more failed2 m.
-    touched-kind app s fs (not (are_of_kind a all)) Code.InvalidArgument (added s (added_files s c a numbers)) (λ w. (refl, done (n (i ∙ (j ∙ (k ∙ (m ∙ w)))))))))))
+    touched-kind app s fs (not (are_of_kind a (paths_shown c.queue a) all)) Code.InvalidArgument (added s (added_files s c a numbers)) (λ w. (refl, done (n (i ∙ (j ∙ (k ∙ (m ∙ w)))))))))))
 
 -- ---- of the application itself: what it may list
 

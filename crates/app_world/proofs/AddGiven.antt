@@ -1,8 +1,9 @@
 -- What the outside gives to an Add: the numbers that it takes as it is done are free, and the looks that its own
 -- machine is told of are those that were given.
-use Rattle.std.proofs.Common.{◌≡◌, ℕ, ◌+◌, ◌-◌, ◌≤◌, length, List, [], ◌∷◌, ◌++◌, drop, map, take, Bool, true, false, not, ◌&&◌, cond, Option, Some, None, refl, sym, ap, ◌∙◌, subst, arith}
+use Rattle.std.proofs.Common.{◌≡◌, ℕ, ◌+◌, ◌-◌, ◌≤◌, length, List, [], ◌∷◌, ◌++◌, drop, map, nat_le, nat_lt, take, Bool, true, false, not, ◌&&◌, ◌||◌, cond, Option, Some, None, refl, sym, ap, ◌∙◌, subst, arith}
+use Rattle.std.specs.List.{list_all, list_any}
 use Rattle.std.specs.Option.{option_map}
-use Rattle.portal_base.specs.Names.{doc_text}
+use Rattle.portal_base.specs.Names.{doc_text, is_same, root}
 use Rattle.portal_base.specs.declared.files.File.{File}
 use Rattle.portal_base.specs.declared.files.Look.{Look}
 use Rattle.portal_base.specs.declared.names.doc_id.DocId.{DocId}
@@ -13,10 +14,10 @@ use Rattle.portal_model.specs.declared.reply.Code.{Code}
 use Rattle.portal_model.specs.declared.request.AddRequest.{AddRequest}
 use Rattle.portal_model.specs.declared.request.Request.{Request}
 use Rattle.portal_model.specs.declared.state.Connection.{Connection}
-use Rattle.portal_model.specs.Add.{Added, add, add_allowed, add_file, add_looking, add_presented, added, added_files, caller_rights, first_number, are_of_kind, listed_rights, may_list_all, new_document, taken_from_queue, use_document, used_again, with_new_document, with_rights_of}
-use Rattle.portal_model.specs.AddArguments.{are_add_arguments, are_presented, document_paths, is_left_out, names_nobody, paths_shown, reuses}
+use Rattle.portal_model.specs.Add.{Added, add, add_allowed, add_file, add_looking, add_presented, added, added_files, are_exported, are_folders_and_files, caller_rights, first_number, are_of_kind, is_file, is_folder_look, listed_rights, may_list_all, new_document, taken_from_queue, use_document, used_again, with_new_document, with_rights_of}
+use Rattle.portal_model.specs.AddArguments.{are_add_arguments, are_flags, are_presented, document_paths, exports, files_limit, is_left_out, names_nobody, paths_shown, persists, reuses}
 use Rattle.portal_model.specs.Bus.{bus_answer, is_tree, moment_given}
-use Rattle.portal_model.specs.Content.{content_at, look_of}
+use Rattle.portal_model.specs.Content.{content_at}
 use Rattle.portal_model.specs.Grant.{exceeds_limits, given_rights}
 use Rattle.portal_model.specs.Outside.{AreDrawn, LawfulBus, meets_limit, words_drawn}
 use Rattle.portal_model.specs.Present.{with_queue}
@@ -26,17 +27,17 @@ use Rattle.portal_model.specs.Valid.{Valid}
 use Rattle.portal_model.specs.Verdict.{Verdict, unless, walk_unless}
 use Rattle.portal_model.specs.Walk.{Gives, Walk, walked}
 use Rattle.portal_model.proofs.DrawnNumbers.{Unused, drawn-length, drawn-unused}
-use Rattle.app_world.specs.Add.{add_touch, asked, file_touch, files_touch, own_add, own_files, own_taken_from_queue, reused_by, reused_of, shown_to}
+use Rattle.app_world.specs.Add.{add_touch, asked, file_touch, files_touch, look_of_holding, own_add, own_files, own_taken_from_queue, reused_by, reused_of, shown_at_path, shown_to}
 use Rattle.app_world.specs.Bus.{bus_touch, own_bus_answer, own_settled}
 use Rattle.app_world.specs.Effect.{Effect, apply_all}
 use Rattle.app_world.specs.Own.{Own}
 use Rattle.app_world.specs.Touched.{is_done}
-use Rattle.app_world.specs.View.{AppView, OwnConnection, found_connection, own_connection, own_connections, view}
+use Rattle.app_world.specs.View.{AppView, Holding, OwnConnection, found_connection, own_connection, own_connections, view}
 use Rattle.app_world.proofs.AddCallLaws.{add-other, begun, taken-other, taken-own}
 use Rattle.app_world.proofs.AddFree.{HasNumbers, LiveMade, files-free, valid-live}
 use Rattle.app_world.proofs.AddLaws.{Free, valid-facts}
 use Rattle.app_world.proofs.AddMadeLaws.{IsTold, add-own}
-use Rattle.app_world.proofs.AddTold.{contents-told, looks-told, none-given, reused-told}
+use Rattle.app_world.proofs.AddTold.{contents-told, folder-among, holding-shown, looks-told, looks-whole, none-given, reused-told}
 use Rattle.app_world.proofs.BusLaws.{seen_answer, settled-other, settled-own, settled-same}
 use Rattle.app_world.proofs.ReachedLaws.{seen_verdict}
 
@@ -67,24 +68,24 @@ module _ (s : State) (c : Connection) (a : AddRequest) (given : Given) (v : Vali
 
 -- ---- looks
 
-module _ (files : List File) (paths : List (List ℕ)) (n : ℕ) (looks : List Look) (failed : Bool) where
+module _ (files : List File) (exported : Bool) (paths : List (List ℕ)) (n : ℕ) (looks : List Look) (failed : Bool) where
   abbrev AreTold : Type 0
-  AreTold = map look_of (take (length looks) (map (content_at files) (take n paths))) ≡ looks
+  AreTold = map look_of_holding (take (length looks) (map (shown_at_path files exported) (take n paths))) ≡ looks
 
   told-check : (wrong : Bool) (code : Code) (w : Walk Verdict) → (Gives (Some files) w looks failed → AreTold) → Gives (Some files) (walk_unless wrong code w) looks failed → AreTold
-  told-check true code w h g = none-given looks (map (content_at files) (take n paths)) g.0
+  told-check true code w h g = none-given looks (map (shown_at_path files exported) (take n paths)) g.0
   told-check false code w h g = h g
 
 -- over a tree that tells
-pub add-looks : (s : State) (c : Connection) (a : AddRequest) (given : Given) → s.told ≡ true → LawfulBus s c (Request.Add a) given → map look_of (take (length given.looks) (shown_to s c a given)) ≡ given.looks
+pub add-looks : (s : State) (c : Connection) (a : AddRequest) (given : Given) → s.told ≡ true → LawfulBus s c (Request.Add a) given → map look_of_holding (take (length given.looks) (shown_to s c a given)) ≡ given.looks
 add-looks s c a given t l =
     let failed : Bool = is_tree given.fault in
     let paths : List (List ℕ) = paths_shown c.queue a in
     let g : Gives (Some s.files) (add s c a given.numbers) given.looks failed = subst (λ (b : Bool). Gives (cond b (Some s.files) None) (add s c a given.numbers) given.looks failed) t l.looks in
-    told-check s.files paths (asked given) given.looks failed (not (are_presented c.queue a)) Code.InvalidArgs (add_presented s c a given.numbers)
-    (told-check s.files paths (asked given) given.looks failed (not (are_add_arguments c.queue a)) Code.InvalidArgument (add_allowed s c a given.numbers)
-    (told-check s.files paths (asked given) given.looks failed (not (may_list_all s c.who a (document_paths c.queue a))) Code.NotAllowed (add_looking s c a given.numbers)
-    (looks-told s.files paths (λ all. unless (not (are_of_kind a all)) Code.InvalidArgument (added s (added_files s c a given.numbers))) given.looks failed (asked given) (omega arith)))) g
+    told-check s.files (exports a) paths (asked given) given.looks failed (not (are_presented c.queue a)) Code.InvalidArgs (add_presented s c a given.numbers)
+    (told-check s.files (exports a) paths (asked given) given.looks failed (not (are_add_arguments c.queue a)) Code.InvalidArgument (add_allowed s c a given.numbers)
+    (told-check s.files (exports a) paths (asked given) given.looks failed (not (may_list_all s c.who a (document_paths c.queue a))) Code.NotAllowed (add_looking s c a given.numbers)
+    (looks-told s.files (exports a) paths (λ all. unless (not (are_of_kind a paths all)) Code.InvalidArgument (added s (added_files s c a given.numbers))) given.looks failed (asked given) (omega arith)))) g
 
 -- ---- the application's own
 
@@ -106,12 +107,40 @@ told_of_add seat s c a given = record {
 both-in-order : (r p q : Bool) → p ≡ true → q ≡ true → (r && (p && q)) ≡ r
 both-in-order r p q e f = grind arith
 
-is-told : (seat : ℕ) (s : State) (c : Connection) (a : AddRequest) (given : Given) → IsTold s c a (told_of_add seat s c a given) given.looks
-is-told seat s c a given =
+second : (a : Bool) {b : Bool} → (a && b) ≡ true → b ≡ true
+second true e = e
+second false e = cc
+
+first : (a b : Bool) → (a && b) ≡ true → a ≡ true
+first true b e = refl
+first false b e = cc
+
+not_named : (exported named persists : Bool) → (not exported || (not named && not persists)) ≡ true → exported ≡ true → named ≡ false
+not_named true true persists h e = cc
+not_named true false persists h e = refl
+not_named false named persists h e = cc
+
+-- where a folder is exported, all looks show folders
+exported-kind : (a : AddRequest) (queue paths : List (List ℕ)) (looks : List Look) → are_add_arguments queue a ≡ true → are_of_kind a paths looks ≡ true → exports a ≡ true → list_all is_folder_look looks ≡ true
+exported-kind a queue paths looks g k e =
+    let flags : are_flags a ≡ true = first (are_flags a) _ (second (nat_le (length a.handles) files_limit) g) in
+    let plain : a.named ≡ false = not_named (exports a) a.named (persists a) (second (nat_lt a.flags 32) flags) e in
+    let kind : are_exported paths looks ≡ true = (λ i. cond (sym plain i) (are_folders_and_files looks) (cond (sym e i) (are_exported paths looks) (list_all is_file looks))) ∙ k in
+    second (not (list_any (λ (path : List ℕ). is_same path root) paths)) kind
+
+is-told : (seat : ℕ) (s : State) (c : Connection) (a : AddRequest) (given : Given) → s.told ≡ true → LawfulBus s c (Request.Add a) given → IsTold s c a (told_of_add seat s c a given) given.looks
+is-told seat s c a given t l =
     let paths : List (List ℕ) = document_paths c.queue a in
+    let at : List ℕ → Holding = shown_at_path s.files (exports a) in
     record {
       files = λ p q. ap (λ (b : Bool). own_files a paths (cond b (reused_of s.documents a paths) [])) (both-in-order (reuses a) (are_presented c.queue a) (are_add_arguments c.queue a) p q) ∙ reused-told s.documents a paths (reuses a) refl;
-      contents = λ e path h. contents-told s.files (paths_shown c.queue a) (asked given) (grind arith) path h;
+      contents = λ e g k path h.
+          let shown : take (length (paths_shown c.queue a)) given.looks ≡ map look_of_holding (map at (paths_shown c.queue a)) =
+          looks-whole at (paths_shown c.queue a) given.looks (asked given) (omega arith) e (add-looks s c a given t l) in
+          contents-told at (paths_shown c.queue a) (asked given) (grind arith) path h
+          ∙ holding-shown s.files path (exports a) (content_at s.files path) (λ x.
+          folder-among at (paths_shown c.queue a) path
+          (ap (list_all is_folder_look) (sym shown) ∙ exported-kind a c.queue (paths_shown c.queue a) (take (length (paths_shown c.queue a)) given.looks) g k x) h);
     }
 
 -- its own machine comes to the same
@@ -125,7 +154,7 @@ add_answer-own app s seat c a given v t l named =
     let verdict : Option Verdict = walked (add s c a given.numbers) now given.looks failed in
     ap (λ (looks : List Look). own_settled (view s app) (own_taken_from_queue o a (view s app)) own (walked (own_add (view s app) o a own) now looks failed)) (add-looks s c a given t l)
     ∙ (settled-same (view s app) (own_taken_from_queue o a (view s app)) own given.full refl (walked (own_add (view s app) o a own) now given.looks failed) (option_map (seen_verdict app) verdict)
-    (add-own app s c a own (valid-facts app s v) named given.full now given.looks failed (is-told seat s c a given) (lawful-free s c a given v l))
+    (add-own app s c a own (valid-facts app s v) named given.full now given.looks failed (is-told seat s c a given t l) (lawful-free s c a given v l))
     ∙ (ap (λ (refused : AppView). own_settled (view s app) refused own (option_map (seen_verdict app) verdict)) (taken-own app c a s)
     ∙ settled-own app s (taken_from_queue c a s) given own refl refl verdict))
 

@@ -17,7 +17,6 @@ use Rattle.portal_model.specs.declared.state.Document.{Document}
 use Rattle.portal_model.specs.declared.state.Triple.{Triple}
 use Rattle.portal_model.specs.Add.{Added, add_file, adding_rights, caller_rights, first_number, new_document, use_document, used_again, with_new_document, with_rights_of}
 use Rattle.portal_model.specs.AddArguments.{exports, is_left_out, makes_strict, names_nobody, persists, reuses}
-use Rattle.portal_model.specs.Content.{content_at}
 use Rattle.portal_model.specs.Documents.{id_of_document, same_flag, serves}
 use Rattle.portal_model.specs.Grant.{given_rights}
 use Rattle.portal_model.specs.State.{State, app_has, document_of, gives, held_of, is_app}
@@ -26,7 +25,7 @@ use Rattle.portal_model.proofs.ListLookups.{found_passes, is_same-eq, nat_is}
 use Rattle.app_world.specs.Add.{document_used, file_touch, files_touch, names_app}
 use Rattle.app_world.specs.Effect.{Effect, Gained, apply, apply_all}
 use Rattle.app_world.specs.Grant.{gained_in}
-use Rattle.app_world.specs.View.{AppView, view}
+use Rattle.app_world.specs.View.{AppView, holding_at, view}
 use Rattle.app_world.proofs.UseLaws.{Joins, joined-gained, joined-same, joined-touched, joins-again, joins-new, rights-other, rights-own}
 
 -- ---- what rights leave
@@ -228,7 +227,7 @@ module _ (app : List ℕ) (a : AddRequest) (s base : State) (id : DocId) (path :
       rights-own app a id base (λ e. ap (λ (k : RightSet). contains (union k (adding_rights a)) (rights_named a.names)) (was-is app (Who.App app) a s base id path b id.number) ∙ covers e) n
       ∙ ap (λ (k : RightSet). cond (id.number == n) (union k (adding_rights a)) k) (was-is app (Who.App app) a s base id path b n)
 
-  pub used-own : apply (view s app) (Gained (new_document a id path) (adding_rights a) (content_at s.files path)) ≡ view own_t app
+  pub used-own : apply (view s app) (Gained (new_document a id path) (adding_rights a) (holding_at s.files (new_document a id path))) ≡ view own_t app
   used-own =
       joined-gained app s own_t (new_document a id path) (t-limits app (Who.App app) a s base id path b) (t-files app (Who.App app) a s base id path b) (t-connections app (Who.App app) a s base id path b) (t-handles app (Who.App app) a s base id path b)
       (j app (Who.App app) a s base id path b) (adding_rights a) now-own

@@ -12,12 +12,12 @@ use Rattle.portal_model.specs.declared.request.AddRequest.{AddRequest}
 use Rattle.portal_model.specs.declared.state.Document.{Document}
 use Rattle.portal_model.specs.Add.{Added, add_file, adding_rights, first_number, new_document, use_document, used_again, with_new_document}
 use Rattle.portal_model.specs.AddArguments.{exports, is_left_out, makes_strict, persists, reuses}
-use Rattle.portal_model.specs.Content.{Content, content_at}
+use Rattle.portal_model.specs.Content.{content_at}
 use Rattle.portal_model.specs.Documents.{id_of_document, serves}
 use Rattle.portal_model.specs.State.{State, document_of, held_of}
 use Rattle.app_world.specs.Add.{OwnAdded, OwnFile, first_reused, id_or, names_app, own_add_file, own_again, own_files, own_use_document, reused_of}
 use Rattle.app_world.specs.Effect.{Gained, apply}
-use Rattle.app_world.specs.View.{view}
+use Rattle.app_world.specs.View.{Alone, Below, Holding, files_below, view}
 use Rattle.app_world.proofs.AddLaws.{Facts, Free, IsBase, base-again, base-new, facts-own, grows-own, t-documents, t-files, used-own}
 
 -- ---- a document that was there before the call, or that the call made
@@ -83,7 +83,12 @@ still-covers a held now (Some id) made fresh listed g e = contains-more (held id
 
 -- ---- what is the same while files are added
 
-module _ (app : List ℕ) (a : AddRequest) (before : List Document) (held : ℕ → RightSet) (tree : List File) (content : List ℕ → Content) where
+-- what there is for a document of a path that the call makes
+abbrev pub holds_for : AddRequest → List File → List ℕ → Holding
+holds_for a files path = cond (exports a) (Below (files_below files path)) (Alone (content_at files path))
+
+module _ (app : List ℕ) (a : AddRequest) (before : List Document) (held : ℕ → RightSet) (tree : List File) (content : List ℕ → Holding) where
+
   pub record Same (done : Added) (mine : OwnAdded) : Type 0 where
     pub seen : mine.view ≡ view done.state app
     pub numbers : mine.numbers ≡ done.numbers
@@ -95,12 +100,12 @@ module _ (app : List ℕ) (a : AddRequest) (before : List Document) (held : ℕ 
 
   -- one file, used again or new
   use-same : (done : Added) (mine : OwnAdded) (path : List ℕ) (again : Option DocId) → Same done mine → used_again done.state.documents a path ≡ again →
-      (again ≡ None → document_of done.state.documents (first_number done.numbers).number ≡ None) → content path ≡ content_at tree path →
+      (again ≡ None → document_of done.state.documents (first_number done.numbers).number ≡ None) → content path ≡ holds_for a tree path →
       (names_app app a ≡ true → contains (union (held_of done.state.rights app (id_or again (first_number done.numbers)).number) (adding_rights a)) (rights_named a.names) ≡ true) →
       Same (use_document (Who.App app) a path done again) (own_use_document a content path mine again)
   use-same done mine path (Some id) s e n c h =
       let b : IsBase app (Who.App app) a done.state done.state id path = base-again app (Who.App app) a done.state id path s.facts e in
-      let shown : content path ≡ content_at done.state.files path = c ∙ ap (λ fs. content_at fs path) (sym s.files) in
+      let shown : content path ≡ holds_for a done.state.files path = c ∙ ap (λ fs. holds_for a fs path) (sym s.files) in
       record {
         seen = (λ i. apply (s.seen i) (Gained (new_document a id path) (adding_rights a) (shown i))) ∙ used-own app a done.state done.state id path b h;
         numbers = s.numbers;
@@ -114,7 +119,7 @@ module _ (app : List ℕ) (a : AddRequest) (before : List Document) (held : ℕ 
       let id : DocId = first_number done.numbers in
       let base : State = with_new_document (new_document a id path) done.state in
       let b : IsBase app (Who.App app) a done.state base id path = base-new app (Who.App app) a done.state id path s.facts (n refl) in
-      let shown : content path ≡ content_at done.state.files path = c ∙ ap (λ fs. content_at fs path) (sym s.files) in
+      let shown : content path ≡ holds_for a done.state.files path = c ∙ ap (λ fs. holds_for a fs path) (sym s.files) in
       let same : new_document a id path ≡ new_document a (first_number mine.numbers) path = ap (λ ns. new_document a (first_number ns) path) (sym s.numbers) in
       record {
         seen = (λ i. apply (s.seen i) (Gained (new_document a (first_number (s.numbers i)) path) (adding_rights a) (shown i))) ∙ used-own app a done.state base id path b h;
@@ -130,14 +135,14 @@ module _ (app : List ℕ) (a : AddRequest) (before : List Document) (held : ℕ 
 
   -- of each file that isn't left out: what is listed is held, and its content is shown
   abbrev pub IsRead : List ℕ → Type 0
-  IsRead path = (is_left_out a path ≡ false → names_app app a ≡ true → contains (then_held held a (used_again before a path)) (rights_named a.names) ≡ true) × (content path ≡ content_at tree path)
+  IsRead path = (is_left_out a path ≡ false → names_app app a ≡ true → contains (then_held held a (used_again before a path)) (rights_named a.names) ≡ true) × (content path ≡ holds_for a tree path)
 
   abbrev pub AreRead : List (List ℕ) → Type 0
   AreRead [] = Unit {0}
   AreRead (path ∷ paths) = IsRead path × AreRead paths
 
   file-same : (done : Added) (mine : OwnAdded) (path : List ℕ) (first : Option DocId) → Same done mine → first ≡ used_again before a path →
-      (used_again done.state.documents a path ≡ None → document_of done.state.documents (first_number done.numbers).number ≡ None) → content path ≡ content_at tree path →
+      (used_again done.state.documents a path ≡ None → document_of done.state.documents (first_number done.numbers).number ≡ None) → content path ≡ holds_for a tree path →
       (names_app app a ≡ true → contains (then_held held a (used_again before a path)) (rights_named a.names) ≡ true) →
       Same (use_document (Who.App app) a path done (used_again done.state.documents a path)) (own_use_document a content path mine (own_again first (used_again mine.made a path)))
   file-same done mine path first s e n c h =

@@ -26,7 +26,7 @@ use Rattle.portal_model.specs.StoreRequest.{store_request}
 use Rattle.portal_model.specs.Valid.{Valid}
 use Rattle.portal_model.specs.Verdict.{Verdict, does}
 use Rattle.portal_model.proofs.ListLookups.{found_passes, nat_is}
-use Rattle.portal_model.proofs.ValidLaws.{all_told-Valid, told-kept, told-sight}
+use Rattle.portal_model.proofs.ValidLaws.{all_told-Valid, told-sight}
 use Rattle.app_world.specs.Bus.{bus_touch, own_bus_answer, own_bus_step, own_bus_verdict, own_refused_view, own_settled}
 use Rattle.app_world.specs.DeleteDocument.{delete_touch, own_delete_document}
 use Rattle.app_world.specs.Effect.{Effect, apply_all}
@@ -44,9 +44,8 @@ use Rattle.app_world.proofs.AddGiven.{add_answer-other, add_answer-own, told_of_
 use Rattle.app_world.proofs.BusLaws.{seen_answer, settled-other, settled-own}
 use Rattle.app_world.proofs.DeleteDocumentLaws.{delete-other, delete-own}
 use Rattle.app_world.proofs.GrantLaws.{grant-other, grant-own}
-use Rattle.app_world.proofs.NamedPaths.{sound-plain}
 use Rattle.app_world.proofs.NodeLaws.{node-other, node-own}
-use Rattle.app_world.proofs.NamesHostPaths.{none-empty}
+use Rattle.app_world.proofs.NamesHostPaths.{folders-there, no-roots, none-empty}
 use Rattle.app_world.proofs.PresentLaws.{own-other, present-other, present-own}
 use Rattle.app_world.proofs.ReachedLaws.{IsTouched, seen_verdict}
 use Rattle.app_world.proofs.ReadingLaws.{info-other, list-other, lookup-other}
@@ -74,7 +73,7 @@ module _ (app : List ℕ) (s : State) (seat : ℕ) (r : NodeRequest) (given : Gi
       ap (λ (cs : List OwnConnection). found_connection cs c.seat) (own_told app s.handles c.seat s.connections) ∙ own-some app s.handles c.seat s.connections c (ap (connection_of s.connections) same ∙ e) h in
       ap (λ (x : AppView). with_signals [] (own_node_answer x (own_connection app t.handles c) r own)) (sym (view-told app s c.seat))
       ∙ (ap (λ (done : AppView × Answer). with_signals [] done)
-      (node-own app t c r (is_app-named app c.who h) (sound-plain _ r.node _ (told-sight s seat c e v r.node)) v.files_differ (none-empty app t (all_told-Valid s c.seat v)) found given own refl refl refl told l (told-kept s seat c e v r given l))
+      (node-own app t c r (is_app-named app c.who h) _ (told-sight s seat c e v r.node) v.files_differ v.files_apart (none-empty app t (all_told-Valid s c.seat v)) (folders-there app t (all_told-Valid s c.seat v) told) (no-roots app t (all_told-Valid s c.seat v)) found given own refl refl refl told l)
       ∙ (λ i. seen_step app (with_signals (sym (own_unsent app s seat c v e h) i) (node_answer t c r given))))
 
   pub node_own : (o : Option Connection) → connection_of s.connections seat ≡ o → made_by app o (Request.Node r) ≡ true → s.told ≡ true → LawfulOnNode s r given (mount_of o) →
@@ -96,7 +95,7 @@ module _ (app : List ℕ) (s : State) (seat : ℕ) (r : NodeRequest) (given : Gi
       let t : State = all_told c.seat s in
       let there : found_connection (own_connections app t.handles t.connections) c.seat ≡ None = ap (λ (cs : List OwnConnection). found_connection cs c.seat) (own_told app s.handles c.seat s.connections) ∙ e in
       (λ i. apply_all (sym (view-told app s c.seat) i) (cond (is_done (node_answer t c r given).1) (touch-told c.seat (node_given (walk_on_node t c r) given) i) []))
-      ∙ node-other app t c r (sound-plain _ r.node _ (told-sight s seat c here v r.node)) v.files_differ (none-empty app t (all_told-Valid s c.seat v)) there given l (told-kept s seat c here v r given l)
+      ∙ node-other app t c r v.files_differ (none-empty app t (all_told-Valid s c.seat v)) there given l
 
   pub node_other : (o : Option Connection) → connection_of s.connections seat ≡ o → is_by app (maker o (Request.Node r)) ≡ false → LawfulOnNode s r given (mount_of o) →
       apply_all (view s app) (cond (is_done (node_step s r given (mount_of o)).1.answer) (node_touch app s r given (mount_of o)) []) ≡ view (node_step s r given (mount_of o)).0 app

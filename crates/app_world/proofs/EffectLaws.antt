@@ -1,6 +1,6 @@
 -- What the effects of others do to a view: rights that are gained and lost, and documents that go.
-use Rattle.std.proofs.Common.{◌≡◌, ℕ, ◌==◌, List, [], ◌∷◌, map, Bool, true, false, not, ◌||◌, cond, Option, Some, None, refl, sym, ap, ◌∙◌, arith}
-use Rattle.std.specs.List.{filter}
+use Rattle.std.proofs.Common.{◌≡◌, ℕ, ◌==◌, List, [], ◌∷◌, map, Bool, true, false, not, ◌&&◌, ◌||◌, cond, Option, Some, None, refl, sym, ap, ◌∙◌, arith}
+use Rattle.std.specs.List.{filter, list_any}
 use Rattle.std.specs.Option.{option_map}
 use Rattle.portal_base.specs.Names.{is_same}
 use Rattle.portal_base.specs.declared.files.File.{File}
@@ -10,30 +10,54 @@ use Rattle.rights_rule.specs.Rights.{RightSet, holds_any, minus, union}
 use Rattle.portal_model.specs.declared.state.Document.{Document}
 use Rattle.portal_model.specs.Content.{content_at}
 use Rattle.portal_model.specs.State.{document_of}
-use Rattle.portal_model.proofs.ListLookups.{is_same-eq, nat_is, find-filter, found_passes}
+use Rattle.portal_model.proofs.ListLookups.{nat_is, find-filter, found_passes}
 use Rattle.portal_model.specs.Ordered.{put, is_rising}
-use Rattle.app_world.specs.Effect.{Gained, Lost, Gone, apply, is_other, less_held, with_content, with_more}
-use Rattle.app_world.specs.View.{HeldDocument, OwnConnection, PathContent, ahead, contents_at, found_content, found_document, held_documents, is_among, is_held, lower, named_paths, number_of, path_content, path_of, seen, view_over}
-use Rattle.app_world.proofs.ContentLaws.{contents-are, contents-fewer, contents-found, contents-rising}
+use Rattle.app_world.specs.Effect.{Gained, Lost, Gone, apply, is_other, less_held, with_below, with_content, with_more}
+use Rattle.app_world.specs.View.{Alone, Below, HeldDocument, OwnConnection, PathBelow, PathContent, below_at, contents_at, files_below, folder_paths, found_below, found_content, found_document, held_documents, holding_at, is_among, is_folder_document, is_held, is_plain_document, lower, named_paths, number_of, path_below, path_content, paths_where, seen, view_over}
+use Rattle.app_world.proofs.ContentLaws.{below-fewer, below-found, below-joined, contents-fewer, contents-found, contents-joined}
 use Rattle.app_world.proofs.DocumentLaws.{documents-are, documents-found, documents-rising, kept-seen, seen-nothing}
 use Rattle.app_world.proofs.Found.{find-changed, find-kept, find-put, kept}
 use Rattle.app_world.proofs.HeldLaws.{nothing-minus, nothing-union}
-use Rattle.app_world.proofs.Orders.{numbers, paths}
+use Rattle.app_world.proofs.Orders.{numbers}
 use Rattle.portal_model.proofs.RisingLists.{rising-filter, rising-map, rising-put}
 use Rattle.app_world.proofs.ViewLaws.{among-joined, documents-same, names-fewer-documents}
 
 -- ---- what is named
 
-abbrev doc_paths : List HeldDocument → List (List ℕ)
-doc_paths ds = map (λ d. d.document.path) ds
+any-filter : (p q : HeldDocument → Bool) (xs : List HeldDocument) → list_any p (filter q xs) ≡ true → list_any p xs ≡ true
+any-filter p q [] h = h
+any-filter p q (x ∷ xs) h = grind (arith, any-filter p q xs)
 
-paths-filter : (q : HeldDocument → Bool) (xs : List HeldDocument) (path : List ℕ) → is_among (doc_paths (filter q xs)) path ≡ true → is_among (doc_paths xs) path ≡ true
-paths-filter q [] path h = h
-paths-filter q (x ∷ xs) path h = grind (arith, paths-filter q xs path)
+any-put : (p : HeldDocument → Bool) (x : HeldDocument) (xs : List HeldDocument) → list_any p (put lower x xs) ≡ true → (p x || list_any p xs) ≡ true
+any-put p x [] h = grind arith
+any-put p x (y ∷ ys) h = grind (arith, any-put p x ys)
 
-paths-put : (x : HeldDocument) (xs : List HeldDocument) (path : List ℕ) → is_among (doc_paths (put lower x xs)) path ≡ true → (is_same x.document.path path || is_among (doc_paths xs) path) ≡ true
-paths-put x [] path h = grind arith
-paths-put x (y ∷ ys) path h = grind (arith, paths-put x ys path)
+module _ (test : Document → Bool) where
+  abbrev has_path : List ℕ → HeldDocument → Bool
+  has_path path d = test d.document && is_same d.document.path path
+
+  among-where : (xs : List HeldDocument) (path : List ℕ) → is_among (paths_where test xs) path ≡ list_any (has_path path) xs
+  among-where [] path = refl
+  among-where (x ∷ xs) path = elim (test x.document) as (λ b. is_among (map (λ (d : HeldDocument). d.document.path) (cond b (x ∷ filter (λ (d : HeldDocument). test d.document) xs) (filter (λ (d : HeldDocument). test d.document) xs))) path ≡ ((b && is_same x.document.path path) || list_any (has_path path) xs)) [
+    | true ↦ ap (λ (c : Bool). is_same x.document.path path || c) (among-where xs path)
+    | false ↦ among-where xs path
+  ]
+
+  pub where-filter : (q : HeldDocument → Bool) (xs : List HeldDocument) (path : List ℕ) → is_among (paths_where test (filter q xs)) path ≡ true → is_among (paths_where test xs) path ≡ true
+  where-filter q xs path h = among-where xs path ∙ any-filter (has_path path) q xs (sym (among-where (filter q xs) path) ∙ h)
+
+  where-put : (x : HeldDocument) (xs : List HeldDocument) (path : List ℕ) → is_among (paths_where test (put lower x xs)) path ≡ true → ((test x.document && is_same x.document.path path) || is_among (paths_where test xs) path) ≡ true
+  where-put x xs path h =
+      ap (λ (b : Bool). (test x.document && is_same x.document.path path) || b) (among-where xs path)
+      ∙ any-put (has_path path) x xs (sym (among-where (put lower x xs) path) ∙ h)
+
+  -- documents that change in their rights alone
+  where-same : (f : HeldDocument → HeldDocument) → ((x : HeldDocument) → (f x).document ≡ x.document) → (xs : List HeldDocument) (path : List ℕ) → is_among (paths_where test (map f xs)) path ≡ is_among (paths_where test xs) path
+  where-same f e xs path = among-where (map f xs) path ∙ (any-same xs ∙ sym (among-where xs path))
+    where
+      any-same : (ys : List HeldDocument) → list_any (has_path path) (map f ys) ≡ list_any (has_path path) ys
+      any-same [] = refl
+      any-same (y ∷ ys) = λ i. (test (e y i) && is_same (e y i).path path) || any-same ys i
 
 -- what was seen of the document stays
 with_more-document : (d : Document) (more k : RightSet) (b : Bool) → (with_more d more (cond b (Some (record { document = d; rights = k })) None)).document ≡ d
@@ -50,6 +74,10 @@ gain-case d more k false e = ap (λ (m : RightSet). seen m (Some d)) (sym (nothi
 content-stays : (files : List File) (path : List ℕ) (b : Bool) → with_content path (content_at files path) (cond b (Some (path_content files path)) None) ≡ path_content files path
 content-stays files path true = refl
 content-stays files path false = refl
+
+below-stays : (files : List File) (path : List ℕ) (b : Bool) → with_below path (files_below files path) (cond b (Some (path_below files path)) None) ≡ path_below files path
+below-stays files path true = refl
+below-stays files path false = refl
 
 module _ (limits : Limits) (files : List File) (documents documents' : List Document) (held held' : ℕ → RightSet) (cs : List OwnConnection) (d : Document) (more : RightSet)
     (live : (n : ℕ) → document_of documents' n ≡ cond (d.id.number == n) (Some d) (document_of documents n))
@@ -93,8 +121,60 @@ module _ (limits : Limits) (files : List File) (documents documents' : List Docu
   documents-gained : after ≡ held_documents held' documents'
   documents-gained = documents-are held' documents' after (rising-filter _ _ number_of numbers is_held after_put put-rising) gained-found
 
+  -- what is named then was named before, or is the path of the document
+  new-there : (test : Document → Bool) (path : List ℕ) → is_among (paths_where test after) path ≡ true → ((test d && is_same d.path path) || is_among (paths_where test old) path) ≡ true
+  new-there test path h =
+      ap (λ (x : Document). (test x && is_same x.path path) || is_among (paths_where test old) path) (sym new-document)
+      ∙ where-put test new old path (where-filter test is_held after_put path h)
+
+  weaker : (a b c : Bool) → ((a && b) || c) ≡ true → (b || c) ≡ true
+  weaker true b c h = h
+  weaker false true c h = refl
+  weaker false false c h = h
+
+  only : (a b c : Bool) → a ≡ false → ((a && b) || c) ≡ true → c ≡ true
+  only true b c e h = cc
+  only false b c e h = h
+
+  or-three : (a b c x : Bool) → (a ≡ true → (x || b) ≡ true) → (a || c) ≡ true → (x || (b || c)) ≡ true
+  or-three a b c true f h = refl
+  or-three true b c false f h = grind (arith, f refl)
+  or-three false b c false f h = grind arith
+
+  or-two : (a b c : Bool) → (a ≡ true → b ≡ true) → (a || c) ≡ true → (b || c) ≡ true
+  or-two true b c f h = ap (λ (x : Bool). x || c) (f refl)
+  or-two false true c f h = refl
+  or-two false false c f h = h
+
+  abbrev rest : List (List ℕ)
+  rest = named_paths [] cs
+
+  named-then : (path : List ℕ) → is_among (named_paths after cs) path ≡ true → (is_same d.path path || is_among (named_paths old cs) path) ≡ true
+  named-then path h =
+      ap (λ (b : Bool). is_same d.path path || b) (among-joined (paths_where is_plain_document old) rest path)
+      ∙ or-three (is_among (paths_where is_plain_document after) path) (is_among (paths_where is_plain_document old) path) (is_among rest path) (is_same d.path path)
+      (λ k. weaker (not d.folder) (is_same d.path path) (is_among (paths_where is_plain_document old) path) (new-there is_plain_document path k))
+      (sym (among-joined (paths_where is_plain_document after) rest path) ∙ h)
+
+  -- the path of a folder isn't named
+  named-still : d.folder ≡ true → (path : List ℕ) → is_among (named_paths after cs) path ≡ true → is_among (named_paths old cs) path ≡ true
+  named-still e path h =
+      among-joined (paths_where is_plain_document old) rest path
+      ∙ or-two (is_among (paths_where is_plain_document after) path) (is_among (paths_where is_plain_document old) path) (is_among rest path)
+      (λ k. only (not d.folder) (is_same d.path path) (is_among (paths_where is_plain_document old) path) (ap not e) (new-there is_plain_document path k))
+      (sym (among-joined (paths_where is_plain_document after) rest path) ∙ h)
+
+  folder-then : (path : List ℕ) → is_among (folder_paths after) path ≡ true → (is_same d.path path || is_among (folder_paths old) path) ≡ true
+  folder-then path h = weaker d.folder (is_same d.path path) (is_among (folder_paths old) path) (new-there is_folder_document path h)
+
+  folder-still : d.folder ≡ false → (path : List ℕ) → is_among (folder_paths after) path ≡ true → is_among (folder_paths old) path ≡ true
+  folder-still e path h = only d.folder (is_same d.path path) (is_among (folder_paths old) path) e (new-there is_folder_document path h)
+
   abbrev had : List PathContent
   had = contents_at files (named_paths old cs)
+
+  abbrev had_below : List PathBelow
+  had_below = below_at files (folder_paths old)
 
   abbrev joining : PathContent
   joining = with_content d.path (content_at files d.path) (found_content had d.path)
@@ -102,42 +182,25 @@ module _ (limits : Limits) (files : List File) (documents documents' : List Docu
   joining-is : joining ≡ path_content files d.path
   joining-is = ap (with_content d.path (content_at files d.path)) (contents-found files d.path (named_paths old cs)) ∙ content-stays files d.path (is_among (named_paths old cs) d.path)
 
-  content-there : (path : List ℕ) (b c : Bool) → is_same d.path path ≡ b → (b || c) ≡ true →
-      cond b (Some (path_content files d.path)) (cond c (Some (path_content files path)) None) ≡ Some (path_content files path)
-  content-there path true c e g = ap (λ (p : List ℕ). Some (path_content files p)) (is_same-eq d.path path e)
-  content-there path false true e g = refl
-  content-there path false false e g = cc
+  abbrev joining_below : PathBelow
+  joining_below = with_below d.path (files_below files d.path) (found_below had_below d.path)
 
-  -- what is named then was named before, or is the path of the document
-  or-three : (a b c x : Bool) → (a ≡ true → (x || b) ≡ true) → (a || c) ≡ true → (x || (b || c)) ≡ true
-  or-three a b c true f h = refl
-  or-three true b c false f h = grind (arith, f refl)
-  or-three false b c false f h = grind arith
+  joining_below-is : joining_below ≡ path_below files d.path
+  joining_below-is = ap (with_below d.path (files_below files d.path)) (below-found files d.path (folder_paths old)) ∙ below-stays files d.path (is_among (folder_paths old) d.path)
 
-  named-then : (path : List ℕ) → is_among (named_paths after cs) path ≡ true → (is_same d.path path || is_among (named_paths old cs) path) ≡ true
-  named-then path h =
-      let rest : List (List ℕ) = named_paths [] cs in
-      let x : (is_among (doc_paths after) path || is_among rest path) ≡ true = sym (among-joined (doc_paths after) rest path) ∙ h in
-      ap (λ (b : Bool). is_same d.path path || b) (among-joined (doc_paths old) rest path)
-      ∙ or-three (is_among (doc_paths after) path) (is_among (doc_paths old) path) (is_among rest path) (is_same d.path path)
-      (λ k. ap (λ (y : Document). is_same y.path path || is_among (doc_paths old) path) (sym new-document) ∙ paths-put new old path (paths-filter is_held after_put path k)) x
-
-  contents-gained-found : (path : List ℕ) → is_among (named_paths after cs) path ≡ true → found_content (put ahead joining had) path ≡ Some (path_content files path)
-  contents-gained-found path e =
-      find-put _ _ path_of paths path joining had
-      ∙ (ap (λ (c : PathContent). cond (is_same (path_of c) path) (Some c) (found_content had path)) joining-is
-      ∙ (ap (λ (o : Option PathContent). cond (is_same d.path path) (Some (path_content files d.path)) o) (contents-found files path (named_paths old cs))
-      ∙ content-there path (is_same d.path path) (is_among (named_paths old cs) path) refl (named-then path e)))
-
-  contents-gained : filter (λ c. is_among (named_paths after cs) (path_of c)) (put ahead joining had) ≡ contents_at files (named_paths after cs)
-  contents-gained =
-      contents-are files (named_paths after cs) (put ahead joining had) (rising-put _ _ path_of paths joining had (contents-rising files (named_paths old cs))) contents-gained-found
+  gained-by : (b : Bool) → d.folder ≡ b → apply (view_over limits files old cs) (Gained d more (cond b (Below (files_below files d.path)) (Alone (content_at files d.path)))) ≡ view_over limits files after cs
+  gained-by true e = λ i. record (view_over limits files after cs) {
+    contents = contents-fewer files (named_paths old cs) (named_paths after cs) (named-still e) i;
+    below = below-joined files d.path joining_below (folder_paths old) (folder_paths after) joining_below-is folder-then i;
+  }
+  gained-by false e = λ i. record (view_over limits files after cs) {
+    contents = contents-joined files d.path joining (named_paths old cs) (named_paths after cs) joining-is named-then i;
+    below = below-fewer files (folder_paths old) (folder_paths after) (folder-still e) i;
+  }
 
   -- in a document that is live afterwards
-  pub view-gained : apply (view_over limits files old cs) (Gained d more (content_at files d.path)) ≡ view_over limits files (held_documents held' documents') cs
-  view-gained =
-      ap (λ (c : List PathContent). record (view_over limits files after cs) { contents = c }) contents-gained
-      ∙ ap (λ (ds : List HeldDocument). view_over limits files ds cs) documents-gained
+  pub view-gained : apply (view_over limits files old cs) (Gained d more (holding_at files d)) ≡ view_over limits files (held_documents held' documents') cs
+  view-gained = gained-by d.folder refl ∙ ap (λ (ds : List HeldDocument). view_over limits files ds cs) documents-gained
 
 -- ---- rights lost
 
@@ -146,10 +209,6 @@ less_held-document number less x = elim (number_of x == number) as (λ b. (cond 
 
 less_held-number : (number : ℕ) (less : RightSet) (x : HeldDocument) → number_of (less_held number less x) ≡ number_of x
 less_held-number number less x = ap (λ (d : Document). d.id.number) (less_held-document number less x)
-
-paths-less : (number : ℕ) (less : RightSet) (xs : List HeldDocument) → doc_paths (map (less_held number less) xs) ≡ doc_paths xs
-paths-less number less [] = refl
-paths-less number less (x ∷ xs) = λ i. (less_held-document number less x i).path ∷ paths-less number less xs i
 
 lose-one : (less k : RightSet) (d : Document) (b : Bool) → kept is_held (Some (cond b (record { document = d; rights = minus k less }) (record { document = d; rights = k }))) ≡ seen (cond b (minus k less) k) (Some d)
 lose-one less k d true = refl
@@ -187,13 +246,17 @@ module _ (limits : Limits) (files : List File) (documents : List Document) (held
       ∙ (lose-seen id.number n less (held n) (document_of documents n) (λ d e. nat_is d.id.number n (found_passes (λ (x : Document). x.id.number == n) documents d e))
       ∙ ap (λ (k : RightSet). seen k (document_of documents n)) (sym (rights n))))
 
-  fewer-lost : (path : List ℕ) → is_among (doc_paths (filter is_held lessened)) path ≡ true → is_among (doc_paths before) path ≡ true
-  fewer-lost path h = ap (λ (ps : List (List ℕ)). is_among ps path) (sym (paths-less id.number less before)) ∙ paths-filter is_held lessened path h
+  fewer-lost : (test : Document → Bool) (path : List ℕ) → is_among (paths_where test (filter is_held lessened)) path ≡ true → is_among (paths_where test before) path ≡ true
+  fewer-lost test path h = sym (where-same test (less_held id.number less) (less_held-document id.number less) before path) ∙ where-filter test is_held lessened path h
 
   pub view-lost : apply (view_over limits files before cs) (Lost id less) ≡ view_over limits files (held_documents held' documents) cs
   view-lost =
-      ap (λ (c : List PathContent). record (view_over limits files (filter is_held lessened) cs) { contents = c })
-      (contents-fewer files (named_paths before cs) (named_paths (filter is_held lessened) cs) (λ path. names-fewer-documents (doc_paths before) (doc_paths (filter is_held lessened)) (named_paths [] cs) path (fewer-lost path)))
+      (λ i. record (view_over limits files (filter is_held lessened) cs) {
+        contents =
+            contents-fewer files (named_paths before cs) (named_paths (filter is_held lessened) cs)
+            (λ path. names-fewer-documents (paths_where is_plain_document before) (paths_where is_plain_document (filter is_held lessened)) (named_paths [] cs) path (fewer-lost is_plain_document path)) i;
+        below = below-fewer files (folder_paths before) (folder_paths (filter is_held lessened)) (fewer-lost is_folder_document) i;
+      })
       ∙ ap (λ (ds : List HeldDocument). view_over limits files ds cs)
       (documents-are held' documents (filter is_held lessened) (rising-filter _ _ number_of numbers is_held lessened lessened-rising) lost-found)
 
@@ -233,11 +296,17 @@ module _ (limits : Limits) (files : List File) (documents : List Document) (held
       ∙ ap (λ (o : Option HeldDocument). cond (not (n == id.number)) o None) (documents-found held n documents))
       ∙ (gone-seen (held n) (held' n) (document_of documents n) (n == id.number) (rights n) ∙ ap (seen (held' n)) (sym (found-left id.number n documents))))
 
+  fewer-gone : (test : Document → Bool) (path : List ℕ) → is_among (paths_where test (filter is_held fewer)) path ≡ true → is_among (paths_where test here) path ≡ true
+  fewer-gone test path h = where-filter test (is_other id.number) here path (where-filter test is_held fewer path h)
+
   pub view-gone : apply (view_over limits files here cs) (Gone id) ≡ view_over limits files (held_documents held' (without id.number documents)) cs
   view-gone =
-      ap (λ (c : List PathContent). record (view_over limits files (filter is_held fewer) cs) { contents = c })
-      (contents-fewer files (named_paths here cs) (named_paths (filter is_held fewer) cs) (λ path.
-      names-fewer-documents (doc_paths here) (doc_paths (filter is_held fewer)) (named_paths [] cs) path (λ h. paths-filter (is_other id.number) here path (paths-filter is_held fewer path h))))
+      (λ i. record (view_over limits files (filter is_held fewer) cs) {
+        contents =
+            contents-fewer files (named_paths here cs) (named_paths (filter is_held fewer) cs)
+            (λ path. names-fewer-documents (paths_where is_plain_document here) (paths_where is_plain_document (filter is_held fewer)) (named_paths [] cs) path (fewer-gone is_plain_document path)) i;
+        below = below-fewer files (folder_paths here) (folder_paths (filter is_held fewer)) (fewer-gone is_folder_document) i;
+      })
       ∙ ap (λ (ds : List HeldDocument). view_over limits files ds cs)
       (documents-are held' (without id.number documents) (filter is_held fewer) (rising-filter _ _ number_of numbers is_held fewer fewer-rising) gone-found)
 

@@ -15,7 +15,7 @@ use Rattle.portal_model.specs.State.{State, connection_of, handles_of, held_of, 
 use Rattle.portal_model.specs.Valid.{Valid}
 use Rattle.portal_model.proofs.OpenHandles.{none_open}
 use Rattle.app_world.specs.Enter.{new_own_connection, own_enter, own_entered, own_enter_answer}
-use Rattle.app_world.specs.View.{HeldDocument, OwnConnection, contents_at, found_connection, held_documents, own_connection, own_connections, own_handle, paths_of_connection, view, view_over}
+use Rattle.app_world.specs.View.{HeldDocument, OwnConnection, contents_at, found_connection, held_documents, is_plain_document, own_connection, own_connections, own_handle, paths_of_connection, paths_where, view, view_over}
 use Rattle.app_world.proofs.ViewLaws.{is_app-named, own-none, own-some, view-connections}
 
 -- the connections of an application, and one more
@@ -68,7 +68,7 @@ enter_own app s seat who kind v h =
     let more : List OwnConnection = own_entered seat who kind cs (found_connection cs seat) in
     let seen : record (view s app) { connections = more } ≡ view (enter s seat who kind).0 app =
     (λ i. record (view_over s.limits s.files ds more) {
-      contents = contents_at s.files (map (λ (d : HeldDocument). d.document.path) ds ++ entered_paths seat who kind cs (found_connection cs seat) i);
+      contents = contents_at s.files (paths_where is_plain_document ds ++ entered_paths seat who kind cs (found_connection cs seat) i);
     })
     ∙ ap (view_over s.limits s.files ds) (own_entered-is app s.handles seat who kind s.connections (connection_of s.connections seat) refl h (λ e. none_open seat s.connections s.handles e v.handles_sound)) in
     λ i. (seen i, own_answer-is app s.handles seat who kind s.connections (connection_of s.connections seat) refl h i)

@@ -20,10 +20,11 @@ use Rattle.portal_model.specs.NodeVerdict.{FileChange, FilesStay, Writes, Resize
 use Rattle.portal_model.proofs.FilesValid.{missing-is}
 use Rattle.portal_model.proofs.ListLookups.{find-map, found_passes, is_same-eq, is_same-refl, nat_is}
 use Rattle.portal_model.proofs.RisingLists.{rising-map}
-use Rattle.app_world.specs.Effect.{Bytes, apply, apply_all, changed_content, with_bytes}
+use Rattle.app_world.specs.Effect.{Bytes, apply, apply_all, changed_content, with_bytes, with_bytes_below, with_content_of, with_file}
 use Rattle.app_world.specs.Node.{bytes_at, bytes_effects}
-use Rattle.app_world.specs.View.{AppView, HeldDocument, OwnConnection, PathContent, contents_at, found_content, held_documents, is_among, named_paths, names, path_content, path_of, pruned, view_over}
-use Rattle.app_world.proofs.ContentLaws.{contents-are, contents-found, contents-rising, contents-same}
+use Rattle.app_world.specs.View.{AppView, HeldDocument, OwnConnection, PathBelow, PathContent, below_at, contents_at, files_below, folder_of, folder_paths, found_content, held_documents, is_among, is_at_or_below, named_paths, path_below, path_content, path_of, pruned, knows, view_over}
+use Rattle.app_world.proofs.BelowLaws.{IsThen, changed-in, changed-out, file_then, same-sym}
+use Rattle.app_world.proofs.ContentLaws.{below-are, below-found, below-rising, below-same, contents-are, contents-found, contents-rising, contents-same}
 use Rattle.app_world.proofs.Found.{find-changed}
 use Rattle.app_world.proofs.WalksAlong.{CanChange}
 use Rattle.app_world.proofs.Orders.{paths}
@@ -52,7 +53,10 @@ module _ (limits : Limits) (files more : List File) (held : ℕ → RightSet) (d
   abbrev ps : List (List ℕ)
   ps = named_paths ds cs
 
-  module _ (path : List ℕ) (generation : ℕ) (new : Content) (seen : IsSeen (λ p. is_among ps p ≡ true) files more path generation new) where
+  abbrev fs : List (List ℕ)
+  fs = folder_paths ds
+
+  module _ (path : List ℕ) (generation : ℕ) (new : Content) (seen : IsSeen (λ p. is_among ps p ≡ true) files more path generation new) (then_is : IsThen files more path generation new) where
     abbrev changing : PathContent → PathContent
     changing c = with_bytes path generation new c
 
@@ -68,26 +72,63 @@ module _ (limits : Limits) (files more : List File) (held : ℕ → RightSet) (d
     contents-changed : filter (λ c. is_among ps (path_of c)) (map changing (contents_at files ps)) ≡ contents_at more ps
     contents-changed = contents-are more ps (map changing (contents_at files ps)) (rising-map _ _ path_of paths changing (with_bytes-path path generation new) (contents_at files ps) (contents-rising files ps)) changed-found
 
-    -- a view that names the path
+    abbrev changing_below : PathBelow → PathBelow
+    changing_below b = with_bytes_below path generation new b
+
+    below_path : (b : PathBelow) → folder_of (changing_below b) ≡ folder_of b
+    below_path b = elim (is_at_or_below b.path path) as (λ c. folder_of (cond c (record b { files = with_file path generation new b.files }) b) ≡ folder_of b) [ true ↦ refl | false ↦ refl ]
+
+    below-at : (folder : List ℕ) → changing_below (path_below files folder) ≡ path_below more folder
+    below-at folder = step (is_at_or_below folder path) refl
+      where
+        step : (b : Bool) → is_at_or_below folder path ≡ b → cond b (record (path_below files folder) { files = with_file path generation new (files_below files folder) }) (path_below files folder) ≡ path_below more folder
+        step true e = ap (λ (xs : List File). record { path = folder; files = xs }) (sym (changed-in path generation new files more then_is folder e))
+        step false e = ap (λ (xs : List File). record { path = folder; files = xs }) (sym (changed-out path generation new files more then_is folder e))
+
+    below-changed : filter (λ b. is_among fs (folder_of b)) (map changing_below (below_at files fs)) ≡ below_at more fs
+    below-changed =
+        below-are more fs (map changing_below (below_at files fs)) (rising-map _ _ folder_of paths changing_below below_path (below_at files fs) (below-rising files fs)) (λ p h.
+        find-changed _ _ folder_of paths changing_below below_path p (below_at files fs)
+        ∙ (ap (option_map changing_below) (below-found files p fs ∙ ap (λ (b : Bool). cond b (Some (path_below files p)) None) h)
+        ∙ ap Some (below-at p)))
+
+    -- a view that tells what is at the path
     view-bytes : apply (view_over limits files ds cs) (Bytes path generation new) ≡ view_over limits more ds cs
     view-bytes =
-        ap (λ (xs : List HeldDocument). pruned xs (record (view_over limits files ds cs) { contents = map changing (contents_at files ps) })) (still_held held documents)
-        ∙ (λ i. record (view_over limits files ds cs) { contents = contents-changed i })
+        ap (λ (xs : List HeldDocument). pruned xs (record (view_over limits files ds cs) { contents = map changing (contents_at files ps); below = map changing_below (below_at files fs) })) (still_held held documents)
+        ∙ (λ i. record (view_over limits files ds cs) { contents = contents-changed i; below = below-changed i })
 
     -- and one that doesn't
     elsewhere : is_among ps path ≡ false → (p : List ℕ) → is_among ps p ≡ true → (b : Bool) → is_same p path ≡ b → b ≡ false
     elsewhere f p h true e = let no : true ≡ false = sym h ∙ (ap (is_among ps) (is_same-eq p path e) ∙ f) in cc
     elsewhere f p h false e = refl
 
-    view-unnamed : is_among ps path ≡ false → view_over limits files ds cs ≡ view_over limits more ds cs
-    view-unnamed f = λ i. record (view_over limits files ds cs) {
+    none-covers : (xs : List (List ℕ)) (folder : List ℕ) → list_any (λ x. is_at_or_below x path) xs ≡ false → is_among xs folder ≡ true → is_at_or_below folder path ≡ false
+    none-covers [] folder f h = cc
+    none-covers (x ∷ xs) folder f h = step (is_same x folder) refl h (none-covers xs folder (rest (is_at_or_below x path) f)) (first (is_at_or_below x path) _ f)
+      where
+        first : (a b : Bool) → (a || b) ≡ false → a ≡ false
+        first true b e = cc
+        first false b e = refl
+
+        rest : (a : Bool) {b : Bool} → (a || b) ≡ false → b ≡ false
+        rest true e = cc
+        rest false e = e
+
+        step : (b : Bool) → is_same x folder ≡ b → (b || is_among xs folder) ≡ true → (is_among xs folder ≡ true → is_at_or_below folder path ≡ false) → is_at_or_below x path ≡ false → is_at_or_below folder path ≡ false
+        step true e g k l = ap (λ (y : List ℕ). is_at_or_below y path) (sym (is_same-eq x folder e)) ∙ l
+        step false e g k l = k g
+
+    view-unnamed : is_among ps path ≡ false → list_any (λ x. is_at_or_below x path) fs ≡ false → view_over limits files ds cs ≡ view_over limits more ds cs
+    view-unnamed f g = λ i. record (view_over limits files ds cs) {
       contents = contents-same files more ps (λ p h.
           ap (λ (b : Bool). cond b (changed_content generation new (content_at files p)) (content_at files p)) (sym (elsewhere f p h (is_same p path) refl)) ∙ seen p h) i;
+      below = below-same files more fs (λ folder h. sym (changed-out path generation new files more then_is folder (none-covers fs folder g h))) i;
     }
 
-    pub view-if-named : (b : Bool) → (b ≡ false → is_among ps path ≡ false) → apply_all (view_over limits files ds cs) (cond b (Bytes path generation new ∷ []) []) ≡ view_over limits more ds cs
-    view-if-named true e = view-bytes
-    view-if-named false e = view-unnamed (e refl)
+    pub view-if-told : (b : Bool) → (b ≡ false → (is_among ps path ≡ false) × (list_any (λ x. is_at_or_below x path) fs ≡ false)) → apply_all (view_over limits files ds cs) (cond b (Bytes path generation new ∷ []) []) ≡ view_over limits more ds cs
+    view-if-told true e = view-bytes
+    view-if-told false e = view-unnamed (e refl).0 (e refl).1
 
 -- ---- a file of a name that changes
 
@@ -142,6 +183,40 @@ module _ (files : List File) (differ : IsDistinct is_same (map (λ (f : File). f
     named-seen On p on =
         seen-at p (is_folder files p) (has_room files p) (file_at files p) refl (is_same p name.path) refl
         ∙ (λ i. content_of (sym (file-changed p) i) (sym (folders-same p) i) (sym (folders-same (parent_of p)) i))
+
+    -- and what is then at each path
+    then-file : (f : File) (c : Bool) → (f.generation == name.generation) ≡ c → file_named files name ≡ of_number name.generation (Some f) → change f ≡ record f { bytes = (change f).bytes; moment = (change f).moment } →
+        Some (cond c (change f) f) ≡ Some (cond c (with_content_of new f) f)
+    then-file f true e g k =
+        let generation : f.generation ≡ (change f).generation = sym (ap (λ (x : File). x.generation) k) in
+        ap Some
+        (k
+        ∙ (ap (λ (n : ℕ). record f { generation = n; bytes = (change f).bytes; moment = (change f).moment }) generation
+        ∙ sym (ap (λ (n : Content). with_content_of n f) (is f (g ∙ ap (λ (b : Bool). cond b (Some f) None) e)))))
+    then-file f false e g k = refl
+
+    then-at : ((f : File) → change f ≡ record f { bytes = (change f).bytes; moment = (change f).moment }) → (p : List ℕ) (o : Option File) → file_at files p ≡ o → (b : Bool) → is_same p name.path ≡ b → (at : Option File) → file_at files name.path ≡ at →
+        option_map changing_one o ≡ cond b (file_then name.path name.generation new at) o
+    then-at k p o e true h at f = by_at at (sym e ∙ (ap (file_at files) (is_same-eq p name.path h) ∙ f)) f
+      where
+        by_at : (x : Option File) → o ≡ x → file_at files name.path ≡ x → option_map changing_one o ≡ file_then name.path name.generation new x
+        by_at None g l =
+            let nothing : file_named files name ≡ None = file_named-is name files differ ∙ ap (of_number name.generation) l in
+            let no : false ≡ true = ap is_some (sym nothing) ∙ there in
+            cc
+        by_at (Some y) g l =
+            let here : is_same y.path name.path ≡ true = found_passes (λ (x : File). is_same x.path name.path) files y l in
+            ap (option_map changing_one) g
+            ∙ (ap (λ (c : Bool). Some (cond (c && y.generation == name.generation) (change y) y)) here
+            ∙ then-file y (y.generation == name.generation) refl (file_named-is name files differ ∙ ap (of_number name.generation) l) (k y))
+    then-at k p None e false h at f = refl
+    then-at k p (Some y) e false h at f =
+        let named : is_same y.path p ≡ true = found_passes (λ (x : File). is_same x.path p) files y e in
+        let other : is_same y.path name.path ≡ false = ap (λ (q : List ℕ). is_same q name.path) (is_same-eq y.path p named) ∙ h in
+        ap (λ (b : Bool). Some (cond (b && y.generation == name.generation) (change y) y)) other
+
+    pub named-then : ((f : File) → change f ≡ record f { bytes = (change f).bytes; moment = (change f).moment }) → IsThen files (change_named name change files) name.path name.generation new
+    named-then k p = file-changed p ∙ then-at k p (file_at files p) refl (is_same p name.path) refl (file_at files name.path) refl
 
 -- ---- a file that is made
 
@@ -230,6 +305,13 @@ module _ (files : List File) (path : List ℕ) (now : ℕ) (missing : look_at fi
           let found : file_at made p ≡ file_at files p = found-put (new_file path now) files p none.0 ∙ ap (λ (b : Bool). cond b (Some (new_file path now)) (file_at files p)) (turned p path (is_same path p) e refl) in
           λ i. content_of (sym found i) (sym (folder-put p (some p on)) i) (sym (folder-put (parent_of p) (parent-some p)) i)
 
+  made-then : IsThen files made path 0 (OfFile 0 [] now)
+  made-then p =
+      let none : (file_at files path ≡ None) × (is_folder files path ≡ false) = missing-is files path missing in
+      found-put (new_file path now) files p none.0
+      ∙ (ap (λ (b : Bool). cond b (Some (new_file path now)) (file_at files p)) (same-sym path p)
+      ∙ ap (λ (o : Option File). cond (is_same p path) (file_then path 0 (OfFile 0 [] now) o) (file_at files p)) (sym none.0))
+
 -- ---- each change
 
 named-bytes : (files : List File) (name : FileName) (bytes : List ℕ → List ℕ) (now : ℕ) (change : File → File) → ((f : File) → change f ≡ record f { bytes = bytes f.bytes; moment = now }) →
@@ -240,32 +322,48 @@ named-bytes files name bytes now change c f e =
     (λ i. OfFile (sym number i) (bytes (bytes_of (e i))) now) ∙ (λ i. OfFile (sym (c f) i).generation (sym (c f) i).bytes (sym (c f) i).moment)
 
 module _ (limits : Limits) (files : List File) (differ : IsDistinct is_same (map (λ (f : File). f.path) files)) (held : ℕ → RightSet) (documents : List Document) (cs : List OwnConnection)
-    (v : AppView) (wide : (path : List ℕ) → is_among (named_paths (held_documents held documents) cs) path ≡ true → names v path ≡ true)
-    (bytes : FileName → List ℕ) (alike : (name : FileName) → names v name.path ≡ true → bytes name ≡ bytes_named files name) where
-  -- no path that is named is empty
+    (v : AppView) (wide : (path : List ℕ) → is_among (named_paths (held_documents held documents) cs) path ≡ true → knows v path ≡ true)
+    (covered : (path : List ℕ) → list_any (λ x. is_at_or_below x path) (folder_paths (held_documents held documents)) ≡ true → knows v path ≡ true)
+    (bytes : FileName → List ℕ) (alike : (name : FileName) → knows v name.path ≡ true → bytes name ≡ bytes_named files name) where
+  -- no path of which the view tells is empty
   abbrev pub NoneEmpty : Type 0
-  NoneEmpty = (path : List ℕ) → names v path ≡ true → is_same path [] ≡ false
+  NoneEmpty = (path : List ℕ) → knows v path ≡ true → is_same path [] ≡ false
 
   abbrev mine : List File → AppView
   mine fs = view_over limits fs (held_documents held documents) cs
 
-  unnamed : (path : List ℕ) → names v path ≡ false → (b : Bool) → is_among (named_paths (held_documents held documents) cs) path ≡ b → b ≡ false
+  unnamed : (path : List ℕ) → knows v path ≡ false → (b : Bool) → is_among (named_paths (held_documents held documents) cs) path ≡ b → b ≡ false
   unnamed path e true h = let no : true ≡ false = sym (wide path h) ∙ e in cc
   unnamed path e false h = refl
 
+  uncovered : (path : List ℕ) → knows v path ≡ false → (b : Bool) → list_any (λ x. is_at_or_below x path) (folder_paths (held_documents held documents)) ≡ b → b ≡ false
+  uncovered path e true h = let no : true ≡ false = sym (covered path h) ∙ e in cc
+  uncovered path e false h = refl
+
+  untold : (path : List ℕ) → knows v path ≡ false → (is_among (named_paths (held_documents held documents) cs) path ≡ false) × (list_any (λ x. is_at_or_below x path) (folder_paths (held_documents held documents)) ≡ false)
+  untold path e = (
+    unnamed path e (is_among (named_paths (held_documents held documents) cs) path) refl,
+    uncovered path e (list_any (λ x. is_at_or_below x path) (folder_paths (held_documents held documents))) refl,
+  )
+
   bytes-changed : (name : FileName) (new : List ℕ → List ℕ) (now : ℕ) (change : File → File) → ((f : File) → change f ≡ record f { bytes = new f.bytes; moment = now }) → is_some (file_named files name) ≡ true →
       apply_all (mine files) (bytes_at v name (new (bytes name)) now) ≡ mine (change_named name change files)
-  bytes-changed name new now change c there = by_name (names v name.path) refl
+  bytes-changed name new now change c there = by_name (knows v name.path) refl
     where
       seen : IsSeen (λ p. is_among (named_paths (held_documents held documents) cs) p ≡ true) files (change_named name change files) name.path name.generation (OfFile name.generation (new (bytes_named files name)) now)
       seen = named-seen files differ name change (λ f. ap (λ (x : File). x.path) (c f)) (λ f. ap (λ (x : File). x.generation) (c f)) there (OfFile name.generation (new (bytes_named files name)) now) (named-bytes files name new now change c) _
 
-      by_name : (b : Bool) → names v name.path ≡ b → apply_all (mine files) (cond b (Bytes name.path name.generation (OfFile name.generation (new (bytes name)) now) ∷ []) []) ≡ mine (change_named name change files)
+      then_is : IsThen files (change_named name change files) name.path name.generation (OfFile name.generation (new (bytes_named files name)) now)
+      then_is =
+          named-then files differ name change (λ f. ap (λ (x : File). x.path) (c f)) (λ f. ap (λ (x : File). x.generation) (c f)) there (OfFile name.generation (new (bytes_named files name)) now) (named-bytes files name new now change c)
+          (λ f. c f ∙ (λ i. record f { bytes = (sym (c f) i).bytes; moment = (sym (c f) i).moment }))
+
+      by_name : (b : Bool) → knows v name.path ≡ b → apply_all (mine files) (cond b (Bytes name.path name.generation (OfFile name.generation (new (bytes name)) now) ∷ []) []) ≡ mine (change_named name change files)
       by_name true e =
           ap (λ (bs : List ℕ). apply (mine files) (Bytes name.path name.generation (OfFile name.generation (new bs) now))) (alike name e)
-          ∙ view-bytes limits files (change_named name change files) held documents cs name.path name.generation (OfFile name.generation (new (bytes_named files name)) now) seen
+          ∙ view-bytes limits files (change_named name change files) held documents cs name.path name.generation (OfFile name.generation (new (bytes_named files name)) now) seen then_is
       by_name false e =
-          view-unnamed limits files (change_named name change files) held documents cs name.path name.generation (OfFile name.generation (new (bytes_named files name)) now) seen (unnamed name.path e (is_among (named_paths (held_documents held documents) cs) name.path) refl)
+          view-unnamed limits files (change_named name change files) held documents cs name.path name.generation (OfFile name.generation (new (bytes_named files name)) now) seen then_is (untold name.path e).0 (untold name.path e).1
 
   same_files : (name : FileName) (fs : List File) (now offset : ℕ) → map (λ (f : File). cond (is_named name f) (written offset [] now f) f) fs ≡ fs
   same_files name [] now offset = refl
@@ -276,9 +374,9 @@ module _ (limits : Limits) (files : List File) (differ : IsDistinct is_same (map
 
   made-changed : (path : List ℕ) (now : ℕ) → NoneEmpty → look_at files path ≡ Look.Missing → has_room files path ≡ true → apply_all (mine files) (bytes_at v (record { path = path; generation = 0 }) [] now) ≡ mine (put_file (new_file path now) files)
   made-changed path now some missing room =
-      view-if-named limits files (put_file (new_file path now) files) held documents cs path 0 (OfFile 0 [] now)
+      view-if-told limits files (put_file (new_file path now) files) held documents cs path 0 (OfFile 0 [] now)
       (made-seen files path now missing room (λ p. is_among (named_paths (held_documents held documents) cs) p ≡ true) (λ p h. some p (wide p h)))
-      (names v path) (λ e. unnamed path e (is_among (named_paths (held_documents held documents) cs) path) refl)
+      (made-then files path now missing room) (knows v path) (untold path)
 
   pub file-effects : NoneEmpty → (change : FileChange) → CanChange files change → apply_all (mine files) (bytes_effects v bytes change) ≡ mine (files_after true change files)
   file-effects some FilesStay h = refl

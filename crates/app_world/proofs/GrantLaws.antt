@@ -9,7 +9,6 @@ use Rattle.portal_model.specs.declared.reply.Code.TheVariants as Code
 use Rattle.portal_model.specs.declared.request.RightsCall.{RightsCall}
 use Rattle.portal_model.specs.declared.state.Document.{Document}
 use Rattle.portal_model.specs.Arguments.{document_named, reached}
-use Rattle.portal_model.specs.Content.{content_at}
 use Rattle.portal_model.specs.Grant.{are_rights_arguments, given_rights, grant, granted, grant_reached, may_grant}
 use Rattle.portal_model.specs.Rights.{add_rights, held_by}
 use Rattle.portal_model.specs.State.{State, document_of, held_of}
@@ -18,7 +17,7 @@ use Rattle.portal_model.proofs.ListLookups.{nat_is}
 use Rattle.app_world.specs.Effect.{Gained, apply_all}
 use Rattle.app_world.specs.Grant.{gained_in, granted_to, grant_touch, own_grant, own_grant_reached}
 use Rattle.app_world.specs.OwnVerdict.{OwnDoes, own_unless}
-use Rattle.app_world.specs.View.{AppView, held_document, own_connections, seen, view}
+use Rattle.app_world.specs.View.{AppView, held_document, holding_at, own_connections, seen, view}
 use Rattle.app_world.proofs.EffectLaws.{view-gained}
 use Rattle.app_world.proofs.HeldLaws.{held-add, union-new, union-nothing}
 use Rattle.app_world.proofs.ReachedLaws.{IsTouched, own_reached-is, reached-live, reached-named, seen-unless, seen_verdict, touched-unless}
@@ -56,7 +55,7 @@ module _ (app : List ℕ) (s : State) (d : Document) (live : document_of s.docum
   unchanged e = view-documents app s s.documents (add_rights named d.id set s.rights) (λ n. ap (λ (k : RightSet). seen k (document_of s.documents n)) (sym (e n)))
 
   -- to the application that is named
-  given-named : is_same named app ≡ true → (b : Bool) → holds_any more ≡ b → apply_all (view s app) (cond b (Gained d more (content_at s.files d.path) ∷ []) []) ≡ view (given_rights named d.id set s) app
+  given-named : is_same named app ≡ true → (b : Bool) → holds_any more ≡ b → apply_all (view s app) (cond b (Gained d more (holding_at s.files d) ∷ []) []) ≡ view (given_rights named d.id set s) app
   given-named f true g =
       view-gained s.limits s.files s.documents s.documents was now (own_connections app s.handles s.connections) d more
       (λ n. live-still n (d.id.number == n) refl) (λ n. now-named f n (d.id.number == n) refl) (ap (seen (was d.id.number)) live)

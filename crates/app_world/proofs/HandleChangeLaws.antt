@@ -18,11 +18,13 @@ use Rattle.portal_model.specs.declared.state.Document.{Document}
 use Rattle.portal_model.specs.Node.{connections_after, counted, handles_after, new_handle, connections_named, named_on}
 use Rattle.portal_model.specs.NodeVerdict.{HandleChange, HandlesStay, Opens, Closes, NameChange, Names, NamesStay, NodeDoing}
 use Rattle.portal_model.specs.State.{handle_of, handles_of, is_app, is_handle}
-use Rattle.portal_model.proofs.ListLookups.{is_same-eq}
-use Rattle.app_world.specs.Node.{next_own_handle, own_closed, own_connections_after, own_handle_of, own_opened, own_connections_named, own_connections_then, own_named}
-use Rattle.app_world.specs.View.{HeldDocument, OwnConnection, OwnHandle, found_connection, held_documents, is_among, named_paths, own_connection, own_connections, own_handle, own_handles, paths_of_connection, paths_of_handle, prune, pruned, view_over}
-use Rattle.app_world.proofs.ContentLaws.{contents-fewer}
-use Rattle.app_world.proofs.WalksAlong.{OpensOn}
+use Rattle.portal_model.specs.Content.{content_at}
+use Rattle.portal_model.specs.Ordered.{put}
+use Rattle.app_world.specs.Node.{next_own_handle, own_closed, own_connections_after, own_handle_of, own_opened, own_connections_named, own_connections_then, own_named, with_handles}
+use Rattle.app_world.specs.Effect.{with_content}
+use Rattle.app_world.specs.Shown.{own_content}
+use Rattle.app_world.specs.View.{AppView, HeldDocument, OwnConnection, OwnHandle, PathContent, ahead, folder_paths, found_connection, found_content, held_documents, is_among, is_plain_document, named_paths, own_connection, own_connections, own_handle, own_handles, path_content, paths_of_connection, paths_of_handle, paths_where, prune, pruned, view_over}
+use Rattle.app_world.proofs.ContentLaws.{below-fewer, contents-found, contents-fewer, contents-joined}
 use Rattle.app_world.proofs.ViewLaws.{among-joined, own_first, still_held}
 
 -- ---- one handle
@@ -220,36 +222,115 @@ closed_paths seat fh c path x g = elim (c.seat == seat) as (λ b. Among (paths_o
   | false ↦ g
 ]
 
--- an opened file has a path that is named
-opened_on : (ps : List (List ℕ)) (handle : Handle) (path : List ℕ) → OpensOn (Among ps) (Opens handle) → Among (paths_of_handle handle) path → Among ps path
-opened_on ps (Handle.File name node document strict read write) path n h =
-    let same : is_same name.path path ≡ true = either-way (is_same name.path path) false (λ e. e) (λ e. cc) h in
-    ap (is_among ps) (sym (is_same-eq name.path path same)) ∙ n
-opened_on ps (Handle.Folder node entries) path n h = let no : false ≡ true = h in cc
+-- the path of an opened file
+abbrev pub opens_path : HandleChange → List ℕ → Bool
+opens_path HandlesStay path = false
+opens_path (Opens (Handle.File name node document strict read write)) path = is_same name.path path
+opens_path (Opens (Handle.Folder node entries)) path = false
+opens_path (Closes fh) path = false
+
+opened_on : (handle : Handle) (path : List ℕ) → Among (paths_of_handle handle) path → opens_path (Opens handle) path ≡ true
+opened_on (Handle.File name node document strict read write) path h = either-way (is_same name.path path) false (λ e. e) (λ e. cc) h
+opened_on (Handle.Folder node entries) path h = let no : false ≡ true = h in cc
+
+named_paths-of : (seat : ℕ) (naming : Naming) (c : OwnConnection) → paths_of_connection (own_named seat naming c) ≡ paths_of_connection c
+named_paths-of seat naming c = elim (c.seat == seat) as (λ b. paths_of_connection (cond b (record c { namings = with_naming c.namings naming }) c) ≡ paths_of_connection c) [ true ↦ refl | false ↦ refl ]
+
+naming_paths : (c : OwnConnection) (change : NameChange) (cs : List OwnConnection) → flat_map paths_of_connection (own_connections_named c change cs) ≡ flat_map paths_of_connection cs
+naming_paths c NamesStay cs = refl
+naming_paths c (Names naming) cs = all cs
+  where
+    all : (xs : List OwnConnection) → flat_map paths_of_connection (map (own_named c.seat naming) xs) ≡ flat_map paths_of_connection xs
+    all [] = refl
+    all (x ∷ xs) = λ i. named_paths-of c.seat naming x i ++ all xs i
 
 module _ (ds : List HeldDocument) (c : OwnConnection) (cs : List OwnConnection) where
   abbrev docs : List (List ℕ)
-  docs = map (λ (d : HeldDocument). d.document.path) ds
+  docs = paths_where is_plain_document ds
 
-  pub changed-named : (change : HandleChange) → OpensOn (Among (named_paths ds cs)) change → (path : List ℕ) → Among (named_paths ds (own_connections_after c change cs)) path → Among (named_paths ds cs) path
-  changed-named HandlesStay n path h = h
-  changed-named (Opens handle) n path h =
+  abbrev was_named : List ℕ → Bool
+  was_named path = is_among (named_paths ds cs) path
+
+  -- what is named then was named before, or is the path of the file that was opened
+  after-named : (change : HandleChange) (path : List ℕ) → Among (named_paths ds (own_connections_after c change cs)) path → (opens_path change path || was_named path) ≡ true
+  after-named HandlesStay path h = h
+  after-named (Opens handle) path h =
+      let x : Bool = opens_path (Opens handle) path || was_named path in
       among-parts docs (flat_map paths_of_connection (map (own_opened c.seat (next_own_handle c handle)) cs)) path
-      (among-left docs (flat_map paths_of_connection cs) path)
-      (all_paths (own_opened c.seat (next_own_handle c handle)) path (is_among (named_paths ds cs) path)
-      (λ x. opened_paths c.seat (next_own_handle c handle) x path (is_among (named_paths ds cs) path) (opened_on (named_paths ds cs) handle path n)) cs
-      (among-right docs (flat_map paths_of_connection cs) path)) h
-  changed-named (Closes fh) n path h =
+      (λ e. right-way (opens_path (Opens handle) path) (among-left docs (flat_map paths_of_connection cs) path e))
+      (all_paths (own_opened c.seat (next_own_handle c handle)) path x
+      (λ y. opened_paths c.seat (next_own_handle c handle) y path x (λ e. left-way (opens_path (Opens handle) path) (was_named path) (opened_on handle path e))) cs
+      (λ e. right-way (opens_path (Opens handle) path) (among-right docs (flat_map paths_of_connection cs) path e))) h
+  after-named (Closes fh) path h =
       among-parts docs (flat_map paths_of_connection (map (own_closed c.seat fh) cs)) path
       (among-left docs (flat_map paths_of_connection cs) path)
-      (all_paths (own_closed c.seat fh) path (is_among (named_paths ds cs) path) (λ x. closed_paths c.seat fh x path (is_among (named_paths ds cs) path)) cs
+      (all_paths (own_closed c.seat fh) path (was_named path) (λ y. closed_paths c.seat fh y path (was_named path)) cs
       (among-right docs (flat_map paths_of_connection cs) path)) h
 
--- where fewer paths are named, pruning leaves what is named
-pub prune-named : (limits : Limits) (files : List File) (held : ℕ → RightSet) (documents : List Document) (cs more : List OwnConnection) →
-    ((path : List ℕ) → Among (named_paths (held_documents held documents) more) path → Among (named_paths (held_documents held documents) cs) path) →
-    prune (record (view_over limits files (held_documents held documents) cs) { connections = more }) ≡ view_over limits files (held_documents held documents) more
-prune-named limits files held documents cs more e =
-    let ds : List HeldDocument = held_documents held documents in
-    ap (λ (xs : List HeldDocument). pruned xs (record (view_over limits files ds cs) { connections = more })) (still_held held documents)
-    ∙ (λ i. record (view_over limits files ds more) { contents = contents-fewer files (named_paths ds cs) (named_paths ds more) e i })
+  pub then-named : (d : NodeDoing) (path : List ℕ) → Among (named_paths ds (own_connections_then c d cs)) path → (opens_path d.handle path || was_named path) ≡ true
+  then-named d path h = after-named d.handle path (ap (λ (ps : List (List ℕ)). is_among (docs ++ ps) path) (sym (naming_paths c d.names (own_connections_after c d.handle cs))) ∙ h)
+
+-- of another: no connection of the view has the seat
+naming-elsewhere : (seat : ℕ) (naming : Naming) (cs : List OwnConnection) → found_connection cs seat ≡ None → map (own_named seat naming) cs ≡ cs
+naming-elsewhere seat naming [] e = refl
+naming-elsewhere seat naming (c ∷ cs) e = by_seat (c.seat == seat) e (naming-elsewhere seat naming cs)
+  where
+    by_seat : (b : Bool) → cond b (Some c) (found_connection cs seat) ≡ None → (found_connection cs seat ≡ None → map (own_named seat naming) cs ≡ cs) →
+        cond b (record c { namings = with_naming c.namings naming }) c ∷ map (own_named seat naming) cs ≡ c ∷ cs
+    by_seat true f more = cc
+    by_seat false f more = ap (λ (xs : List OwnConnection). c ∷ xs) (more f)
+
+names-elsewhere : (c : OwnConnection) (change : NameChange) (cs : List OwnConnection) → found_connection cs c.seat ≡ None → own_connections_named c change cs ≡ cs
+names-elsewhere c NamesStay cs e = refl
+names-elsewhere c (Names naming) cs e = naming-elsewhere c.seat naming cs e
+
+pub then-elsewhere : (c : OwnConnection) (d : NodeDoing) (cs : List OwnConnection) → found_connection cs c.seat ≡ None → own_connections_then c d cs ≡ cs
+then-elsewhere c d cs e = ap (own_connections_named c d.names) (changed-elsewhere c d.handle cs e) ∙ names-elsewhere c d.names cs e
+
+-- ---- the view with what was opened
+
+joins-content : (files : List File) (path : List ℕ) (b : Bool) → with_content path (content_at files path) (cond b (Some (path_content files path)) None) ≡ path_content files path
+joins-content files path true = refl
+joins-content files path false = refl
+
+-- where the view tells what is at the path of an opened file
+abbrev pub ShowsOpened : AppView → List File → HandleChange → Type 0
+ShowsOpened v files HandlesStay = Unit {0}
+ShowsOpened v files (Opens (Handle.File name node document strict read write)) = own_content v name.path ≡ content_at files name.path
+ShowsOpened v files (Opens (Handle.Folder node entries)) = Unit {0}
+ShowsOpened v files (Closes fh) = Unit {0}
+
+module _ (limits : Limits) (files : List File) (held : ℕ → RightSet) (documents : List Document) (cs more : List OwnConnection) where
+  abbrev held_ones : List HeldDocument
+  held_ones = held_documents held documents
+
+  abbrev old : AppView
+  old = view_over limits files held_ones cs
+
+  -- pruning leaves what is named
+  pub prune-named : ((path : List ℕ) → Among (named_paths held_ones more) path → Among (named_paths held_ones cs) path) → prune (record old { connections = more }) ≡ view_over limits files held_ones more
+  prune-named e =
+      ap (λ (xs : List HeldDocument). pruned xs (record old { connections = more })) (still_held held documents)
+      ∙ (λ i. record (view_over limits files held_ones more) {
+        contents = contents-fewer files (named_paths held_ones cs) (named_paths held_ones more) e i;
+        below = below-fewer files (folder_paths held_ones) (folder_paths held_ones) (λ path h. h) i;
+      })
+
+  prune-file : (path : List ℕ) → own_content old path ≡ content_at files path → ((p : List ℕ) → Among (named_paths held_ones more) p → (is_same path p || is_among (named_paths held_ones cs) p) ≡ true) →
+      prune (record old { contents = put ahead (with_content path (own_content old path) (found_content old.contents path)) old.contents; connections = more }) ≡ view_over limits files held_ones more
+  prune-file path shows e =
+      let joining : PathContent = with_content path (own_content old path) (found_content old.contents path) in
+      let is : joining ≡ path_content files path =
+      (λ i. with_content path (shows i) (contents-found files path (named_paths held_ones cs) i)) ∙ joins-content files path (is_among (named_paths held_ones cs) path) in
+      ap (λ (xs : List HeldDocument). pruned xs (record old { contents = put ahead joining old.contents; connections = more })) (still_held held documents)
+      ∙ (λ i. record (view_over limits files held_ones more) {
+        contents = contents-joined files path joining (named_paths held_ones cs) (named_paths held_ones more) is e i;
+        below = below-fewer files (folder_paths held_ones) (folder_paths held_ones) (λ p h. h) i;
+      })
+
+  pub prune-opened : (change : HandleChange) → ShowsOpened old files change → ((p : List ℕ) → Among (named_paths held_ones more) p → (opens_path change p || is_among (named_paths held_ones cs) p) ≡ true) →
+      prune (record (with_handles change old) { connections = more }) ≡ view_over limits files held_ones more
+  prune-opened HandlesStay s e = prune-named e
+  prune-opened (Opens (Handle.File name node document strict read write)) s e = prune-file name.path s e
+  prune-opened (Opens (Handle.Folder node entries)) s e = prune-named e
+  prune-opened (Closes fh) s e = prune-named e

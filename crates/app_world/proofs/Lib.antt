@@ -24,11 +24,13 @@ pub mod AddMadeLaws
 pub mod AddTold
 pub mod AddFree
 pub mod AddGiven
+pub mod BelowLaws
 pub mod PlaceLaws
 pub mod NamedPaths
-pub mod NamesHostPaths
 pub mod WalksAlong
+pub mod BelowNames
 pub mod ShownLaws
+pub mod NamesHostPaths
 pub mod HandleChangeLaws
 pub mod FileChangeLaws
 pub mod NodeLaws

@@ -1,18 +1,20 @@
 -- The paths that a view names: those of what its application sees at a node, and of its open files.
-use Rattle.std.proofs.Common.{◌≡◌, ℕ, zero, suc, ◌==◌, List, [], ◌∷◌, ◌++◌, map, Bool, true, false, ◌||◌, cond, Option, Some, None, refl, ap, ◌∙◌, sym}
-use Rattle.std.specs.List.{flat_map}
+use Rattle.std.proofs.Common.{◌≡◌, ℕ, zero, suc, ◌==◌, List, [], ◌∷◌, ◌++◌, map, Bool, true, false, not, ◌||◌, cond, Option, Some, None, refl, ap, ◌∙◌, sym}
+use Rattle.std.specs.List.{filter, flat_map, list_all, list_any}
 use Rattle.std.specs.Option.{option_map}
-use Rattle.portal_base.specs.Names.{is_same}
+use Rattle.portal_base.specs.Content.{is_above}
+use Rattle.portal_base.specs.Names.{is_same, named_child, root}
 use Rattle.portal_model.specs.declared.handle.Handle.{Handle}
 use Rattle.portal_model.specs.declared.naming.Naming.{Naming}
 use Rattle.portal_model.specs.declared.place.Place.{Place}
 use Rattle.portal_model.specs.declared.state.Document.{Document}
 use Rattle.portal_model.specs.Place.{Exported, Folder, FolderOf, RootOf, Views, Sight, SightBelow, SightOfFile, SightOfFolder, id_of_node, place_named, sight_at_path}
 use Rattle.portal_model.specs.SeatNames.{naming_of}
-use Rattle.portal_model.proofs.ListLookups.{is_same-refl}
-use Rattle.portal_model.proofs.NodeValid.{Asking, IsSoundSight}
+use Rattle.portal_model.proofs.DocumentChanges.{first_of_both, second_of_both}
+use Rattle.portal_model.proofs.ListLookups.{is_same-eq, is_same-refl}
+use Rattle.portal_model.proofs.NodeValid.{Asking, IsSoundSight, child_above, child_is}
 use Rattle.app_world.specs.Node.{in_own_view, own_handle_of, own_numbers, own_place, own_sight, own_sight_at, own_sight_below, own_sight_of_folder, own_sight_of_naming, own_sight_of_place}
-use Rattle.app_world.specs.View.{AppView, HeldDocument, OwnConnection, OwnHandle, found_connection, found_document, is_among, names, paths_of_connection, paths_of_handle}
+use Rattle.app_world.specs.View.{AppView, HeldDocument, OwnConnection, OwnHandle, covers, folder_paths, found_connection, found_document, is_among, is_at_or_below, is_folder_document, is_plain_document, names, paths_of_connection, paths_of_handle, paths_where, knows}
 use Rattle.app_world.proofs.ViewLaws.{among-joined}
 
 or-first : (a b : Bool) → a ≡ true → (a || b) ≡ true
@@ -23,41 +25,36 @@ or-second : (a : Bool) {b : Bool} → b ≡ true → (a || b) ≡ true
 or-second true g = refl
 or-second false g = g
 
--- not yet: nothing is seen at or below a document that is a folder
-abbrev pub PlainFolder : Folder → Type 0
-PlainFolder (RootOf view numbers has_views) = Unit {0}
-PlainFolder (Views applications) = Unit {0}
-PlainFolder (FolderOf view d may_write) = Unit {0}
-PlainFolder (Exported view d path may_write) = ⊥
-
-abbrev pub Plain : Option Sight → Type 0
-Plain None = Unit {0}
-Plain (Some (SightOfFile d may_write)) = Unit {0}
-Plain (Some (SightBelow view d path may_write)) = ⊥
-Plain (Some (SightOfFolder f)) = PlainFolder f
-
-pub sound-plain : (a : Asking) (node : ℕ) (sight : Option Sight) → IsSoundSight a node sight → Plain sight
-sound-plain a node None h = tt
-sound-plain a node (Some (SightOfFile d may_write)) h = tt
-sound-plain a node (Some (SightBelow view d path may_write)) h = h
-sound-plain a node (Some (SightOfFolder (RootOf view numbers has_views))) h = tt
-sound-plain a node (Some (SightOfFolder (Views applications))) h = tt
-sound-plain a node (Some (SightOfFolder (FolderOf view d may_write))) h = tt
-sound-plain a node (Some (SightOfFolder (Exported view d path may_write))) h = h
-
-module _ (On : List ℕ → Type 0) where
+-- what is true of the paths of what is seen: of those at which it is looked, and of the folders whose names are looked
+-- at too
+module _ (On Beneath : List ℕ → Type 0) where
   abbrev pub FolderOn : Folder → Type 0
   FolderOn (RootOf view numbers has_views) = Unit {0}
   FolderOn (Views applications) = Unit {0}
   FolderOn (FolderOf view d may_write) = On d.path
-  FolderOn (Exported view d path may_write) = On d.path
+  FolderOn (Exported view d path may_write) = Beneath path
 
   abbrev pub SightOn : Option Sight → Type 0
   SightOn None = Unit {0}
   SightOn (Some (SightOfFile d may_write)) = On d.path
-  SightOn (Some (SightBelow view d path may_write)) = On d.path
+  SightOn (Some (SightBelow view d path may_write)) = Beneath path
   SightOn (Some (SightOfFolder f)) = FolderOn f
 
+-- and of its document
+module _ (Held : Document → Type 0) where
+  abbrev FolderHeld : Folder → Type 0
+  FolderHeld (RootOf view numbers has_views) = Unit {0}
+  FolderHeld (Views applications) = Unit {0}
+  FolderHeld (FolderOf view d may_write) = Held d
+  FolderHeld (Exported view d path may_write) = Held d
+
+  abbrev pub SightHeld : Option Sight → Type 0
+  SightHeld None = Unit {0}
+  SightHeld (Some (SightOfFile d may_write)) = Held d
+  SightHeld (Some (SightBelow view d path may_write)) = Held d
+  SightHeld (Some (SightOfFolder f)) = FolderHeld f
+
+module _ (On : List ℕ → Type 0) where
   abbrev pub HandleOn : Option Handle → Type 0
   HandleOn None = Unit {0}
   HandleOn (Some (Handle.File name node document strict read write)) = On name.path
@@ -65,76 +62,147 @@ module _ (On : List ℕ → Type 0) where
 
 -- ---- a document
 
-first_named : (d x : HeldDocument) (o : Option HeldDocument) (b more : Bool) → cond b (Some d) o ≡ Some x → (o ≡ Some x → more ≡ true) → (is_same d.document.path x.document.path || more) ≡ true
-first_named d x o true more f g =
-    let same : d ≡ x = cc in
-    ap (λ (y : HeldDocument). is_same y.document.path x.document.path || more) same ∙ ap (λ (b : Bool). b || more) (is_same-refl x.document.path)
-first_named d x o false more f g = or-second (is_same d.document.path x.document.path) (g f)
+module _ (test : Document → Bool) where
+  abbrev among_test : List HeldDocument → List ℕ → Bool
+  among_test ds path = is_among (paths_where test ds) path
 
-pub path_named : (ds : List HeldDocument) (number : ℕ) (x : HeldDocument) → found_document ds number ≡ Some x → is_among (map (λ (d : HeldDocument). d.document.path) ds) x.document.path ≡ true
-path_named [] number x e = cc
-path_named (d ∷ ds) number x e = first_named d x (found_document ds number) (d.document.id.number == number) (is_among (map (λ (y : HeldDocument). y.document.path) ds) x.document.path) e (path_named ds number x)
+  first_where : (d x : HeldDocument) (ds : List HeldDocument) (o : Option HeldDocument) (b : Bool) → cond b (Some d) o ≡ Some x → test x.document ≡ true → (o ≡ Some x → among_test ds x.document.path ≡ true) → among_test (d ∷ ds) x.document.path ≡ true
+  first_where d x ds o true f t g =
+      let same : d ≡ x = cc in
+      let passes : test d.document ≡ true = ap (λ (y : HeldDocument). test y.document) same ∙ t in
+      ap (λ (b : Bool). is_among (map (λ (y : HeldDocument). y.document.path) (cond b (d ∷ filter (λ (y : HeldDocument). test y.document) ds) (filter (λ (y : HeldDocument). test y.document) ds))) x.document.path) passes
+      ∙ or-first (is_same d.document.path x.document.path) (among_test ds x.document.path) (ap (λ (y : HeldDocument). is_same y.document.path x.document.path) same ∙ is_same-refl x.document.path)
+  first_where d x ds o false f t g = elim (test d.document) as (λ b. is_among (map (λ (y : HeldDocument). y.document.path) (cond b (d ∷ filter (λ (y : HeldDocument). test y.document) ds) (filter (λ (y : HeldDocument). test y.document) ds))) x.document.path ≡ true) [
+    | true ↦ or-second (is_same d.document.path x.document.path) (g f)
+    | false ↦ g f
+  ]
+
+  path_where : (ds : List HeldDocument) (number : ℕ) (x : HeldDocument) → found_document ds number ≡ Some x → test x.document ≡ true → among_test ds x.document.path ≡ true
+  path_where [] number x e t = cc
+  path_where (d ∷ ds) number x e t = first_where d x ds (found_document ds number) (d.document.id.number == number) e t (λ f. path_where ds number x f t)
+
+-- the document is in the view
+abbrev pub HeldIn : AppView → Document → Type 0
+HeldIn v d = (is_folder_document d ≡ true → is_among (folder_paths v.documents) d.path ≡ true) × (is_plain_document d ≡ true → is_among (paths_where is_plain_document v.documents) d.path ≡ true)
 
 module _ (v : AppView) where
-  -- the path is a document's
-  abbrev pub Documents : List ℕ → Type 0
-  Documents path = is_among (map (λ (d : HeldDocument). d.document.path) v.documents) path ≡ true
+  found_held : (number : ℕ) (x : HeldDocument) → found_document v.documents number ≡ Some x → HeldIn v x.document
+  found_held number x e = (λ t. path_where is_folder_document v.documents number x e t, λ t. path_where is_plain_document v.documents number x e t)
 
-  at_path_on : (view : ℕ) (d : Document) (b w : Bool) → Documents d.path → SightOn Documents (Some (sight_at_path view d b w))
+  at_path_on : (view : ℕ) (d : Document) (b w : Bool) → HeldIn v d → SightHeld (HeldIn v) (Some (sight_at_path view d b w))
   at_path_on view d true w h = h
   at_path_on view d false w h = h
 
-  file_on : (view number : ℕ) (o : Option HeldDocument) → found_document v.documents number ≡ o → SightOn Documents (own_sight view o)
+  file_on : (view number : ℕ) (o : Option HeldDocument) → found_document v.documents number ≡ o → SightHeld (HeldIn v) (own_sight view o)
   file_on view number None e = tt
-  file_on view number (Some d) e = elim d.rights.read as (λ b. SightOn Documents (cond b (Some (sight_at_path view d.document d.document.folder d.rights.write)) None)) [
-    | true ↦ at_path_on view d.document d.document.folder d.rights.write (path_named v.documents number d e)
+  file_on view number (Some d) e = elim d.rights.read as (λ b. SightHeld (HeldIn v) (cond b (Some (sight_at_path view d.document d.document.folder d.rights.write)) None)) [
+    | true ↦ at_path_on view d.document d.document.folder d.rights.write (found_held number d e)
     | false ↦ tt
   ]
 
-  below_on : (view : ℕ) (path : List ℕ) (number : ℕ) (o : Option HeldDocument) → found_document v.documents number ≡ o → SightOn Documents (own_sight_below view path o)
+  below_on : (view : ℕ) (path : List ℕ) (number : ℕ) (o : Option HeldDocument) → found_document v.documents number ≡ o → SightHeld (HeldIn v) (own_sight_below view path o)
   below_on view path number None e = tt
-  below_on view path number (Some d) e = elim d.rights.read as (λ b. SightOn Documents (cond b (Some (SightBelow view d.document path d.rights.write)) None)) [
-    | true ↦ path_named v.documents number d e
+  below_on view path number (Some d) e = elim d.rights.read as (λ b. SightHeld (HeldIn v) (cond b (Some (SightBelow view d.document path d.rights.write)) None)) [
+    | true ↦ found_held number d e
     | false ↦ tt
   ]
 
-  folder_on : (view number : ℕ) (o : Option HeldDocument) → found_document v.documents number ≡ o → SightOn Documents (own_sight_of_folder view o)
+  folder_on : (view number : ℕ) (o : Option HeldDocument) → found_document v.documents number ≡ o → SightHeld (HeldIn v) (own_sight_of_folder view o)
   folder_on view number None e = tt
-  folder_on view number (Some d) e = elim d.rights.read as (λ b. SightOn Documents (cond b (Some (SightOfFolder (FolderOf view d.document d.rights.write))) None)) [
-    | true ↦ path_named v.documents number d e
+  folder_on view number (Some d) e = elim d.rights.read as (λ b. SightHeld (HeldIn v) (cond b (Some (SightOfFolder (FolderOf view d.document d.rights.write))) None)) [
+    | true ↦ found_held number d e
     | false ↦ tt
   ]
 
-  in_on : (k : ℕ) (sight : Option Sight) → SightOn Documents sight → SightOn Documents (in_own_view k sight)
+  in_on : (k : ℕ) (sight : Option Sight) → SightHeld (HeldIn v) sight → SightHeld (HeldIn v) (in_own_view k sight)
   in_on zero sight h = h
   in_on (suc k) sight h = tt
 
-  naming_on : (view : ℕ) (naming : Option Naming) → SightOn Documents (own_sight_of_naming v view naming)
+  naming_on : (view : ℕ) (naming : Option Naming) → SightHeld (HeldIn v) (own_sight_of_naming v view naming)
   naming_on view None = tt
-  naming_on view (Some n) = elim (n.view == view) as (λ b. SightOn Documents (cond b (own_sight_below view n.path (found_document v.documents n.document.number)) None)) [
+  naming_on view (Some n) = elim (n.view == view) as (λ b. SightHeld (HeldIn v) (cond b (own_sight_below view n.path (found_document v.documents n.document.number)) None)) [
     | true ↦ below_on view n.path n.document.number (found_document v.documents n.document.number) refl
     | false ↦ tt
   ]
 
-  there_on : (naming : Option Naming) (p : Place) → SightOn Documents (own_sight_of_place v naming p)
+  there_on : (naming : Option Naming) (p : Place) → SightHeld (HeldIn v) (own_sight_of_place v naming p)
   there_on naming (Place.Root k) = in_on k (Some (SightOfFolder (RootOf k (own_numbers v.documents) false))) tt
   there_on naming Place.ByApp = tt
   there_on naming (Place.Folder k id) = in_on k (own_sight_of_folder k (found_document v.documents id.number)) (folder_on k id.number (found_document v.documents id.number) refl)
   there_on naming (Place.File k id) = in_on k (own_sight k (found_document v.documents id.number)) (file_on k id.number (found_document v.documents id.number) refl)
   there_on naming (Place.Named k n) = in_on k (own_sight_of_naming v k naming) (naming_on k naming)
 
-  at_on : (naming : Option Naming) (p : Option Place) → SightOn Documents (own_sight_at v naming p)
+  at_on : (naming : Option Naming) (p : Option Place) → SightHeld (HeldIn v) (own_sight_at v naming p)
   at_on naming None = tt
   at_on naming (Some p) = there_on naming p
 
-  -- what is seen at a node has a document's path, or lies below one
-  pub place_on : (c : OwnConnection) (node : ℕ) → SightOn Documents (own_place v c node)
+  -- what is seen at a node is of a document of the view
+  pub place_on : (c : OwnConnection) (node : ℕ) → SightHeld (HeldIn v) (own_place v c node)
   place_on c node = at_on (naming_of c.namings (id_of_node node)) (place_named node)
 
-  pub document_named : (path : List ℕ) → Documents path → names v path ≡ true
-  document_named path h =
-      among-joined (map (λ (d : HeldDocument). d.document.path) v.documents) (flat_map paths_of_connection v.connections) path
-      ∙ or-first (is_among (map (λ (d : HeldDocument). d.document.path) v.documents) path) (is_among (flat_map paths_of_connection v.connections) path) h
+  -- ---- of what the view then tells
+
+  among-covers : (fs : List (List ℕ)) (folder path : List ℕ) → is_among fs folder ≡ true → is_at_or_below folder path ≡ true → list_any (λ (x : List ℕ). is_at_or_below x path) fs ≡ true
+  among-covers [] folder path e h = cc
+  among-covers (x ∷ fs) folder path e h = step (is_same x folder) refl e (λ k. among-covers fs folder path k h)
+    where
+      step : (b : Bool) → is_same x folder ≡ b → (b || is_among fs folder) ≡ true → (is_among fs folder ≡ true → list_any (λ (y : List ℕ). is_at_or_below y path) fs ≡ true) → (is_at_or_below x path || list_any (λ (y : List ℕ). is_at_or_below y path) fs) ≡ true
+      step true g k more = or-first (is_at_or_below x path) (list_any (λ (y : List ℕ). is_at_or_below y path) fs) (ap (λ (y : List ℕ). is_at_or_below y path) (is_same-eq x folder g) ∙ h)
+      step false g k more = or-second (is_at_or_below x path) (more k)
+
+  abbrev pub Told : List ℕ → Type 0
+  Told path = knows v path ≡ true
+
+  abbrev pub Covered : List ℕ → Type 0
+  Covered path = covers v path ≡ true
+
+  pub covered-told : (path : List ℕ) → Covered path → Told path
+  covered-told path h = or-second (names v path) h
+
+  pub named-told : (path : List ℕ) → names v path ≡ true → Told path
+  named-told path h = or-first (names v path) (covers v path) h
+
+  covered-by : (d : Document) (path : List ℕ) → HeldIn v d → d.folder ≡ true → is_at_or_below d.path path ≡ true → Covered path
+  covered-by d path h f k = among-covers (folder_paths v.documents) d.path path (h.0 f) k
+
+  held-told : (d : Document) → HeldIn v d → Told d.path
+  held-told d h = step d.folder refl
+    where
+      step : (b : Bool) → d.folder ≡ b → Told d.path
+      step true e = covered-told d.path (covered-by d d.path h e (or-first (is_same d.path d.path) (is_above d.path d.path) (is_same-refl d.path)))
+      step false e =
+          named-told d.path
+          (among-joined (paths_where is_plain_document v.documents) (flat_map paths_of_connection v.connections) d.path
+          ∙ or-first (is_among (paths_where is_plain_document v.documents) d.path) (is_among (flat_map paths_of_connection v.connections) d.path) (h.1 (ap not e)))
+
+  -- what is seen at a node, where that is sound
+  pub sight-told : (a : Asking) (node : ℕ) (o : Option Sight) → SightHeld (HeldIn v) o → IsSoundSight a node o → SightOn Told Covered o
+  sight-told a node None h k = tt
+  sight-told a node (Some (SightOfFile d may_write)) h k = held-told d h
+  sight-told a node (Some (SightBelow view d path may_write)) h k = covered-by d path h k.0.folder k.0.below
+  sight-told a node (Some (SightOfFolder (RootOf view numbers has_views))) h k = tt
+  sight-told a node (Some (SightOfFolder (Views applications))) h k = tt
+  sight-told a node (Some (SightOfFolder (FolderOf view d may_write))) h k = held-told d h
+  sight-told a node (Some (SightOfFolder (Exported view d path may_write))) h k = covered-by d path h k.folder k.below
+
+  -- a name in a folder that is told of is told of
+  pub child-told : list_all (λ (x : List ℕ). not (is_same x root)) (folder_paths v.documents) ≡ true → (path name p : List ℕ) → Covered path → named_child path name ≡ Some p → Told p
+  child-told roots path name p h e = covered-told p (all_below (folder_paths v.documents) roots h)
+    where
+      not_root : (b : Bool) → not b ≡ true → b ≡ false
+      not_root true k = cc
+      not_root false k = refl
+
+      one_below : (folder : List ℕ) → not (is_same folder root) ≡ true → is_at_or_below folder path ≡ true → is_at_or_below folder p ≡ true
+      one_below folder r k = or-second (is_same p folder) (ap (is_above folder) (sym (child_is path name p e).1) ∙ child_above folder path name (not_root (is_same folder root) r) k)
+
+      all_below : (fs : List (List ℕ)) → list_all (λ (x : List ℕ). not (is_same x root)) fs ≡ true → list_any (λ (x : List ℕ). is_at_or_below x path) fs ≡ true → list_any (λ (x : List ℕ). is_at_or_below x p) fs ≡ true
+      all_below [] r k = cc
+      all_below (x ∷ fs) r k = step (is_at_or_below x path) refl k (all_below fs (second_of_both (not (is_same x root)) (list_all (λ (y : List ℕ). not (is_same y root)) fs) r)) (first_of_both (not (is_same x root)) (list_all (λ (y : List ℕ). not (is_same y root)) fs) r)
+        where
+          step : (b : Bool) → is_at_or_below x path ≡ b → (b || list_any (λ (y : List ℕ). is_at_or_below y path) fs) ≡ true → (list_any (λ (y : List ℕ). is_at_or_below y path) fs ≡ true → list_any (λ (y : List ℕ). is_at_or_below y p) fs ≡ true) → not (is_same x root) ≡ true → (is_at_or_below x p || list_any (λ (y : List ℕ). is_at_or_below y p) fs) ≡ true
+          step true g m more r = or-first (is_at_or_below x p) (list_any (λ (y : List ℕ). is_at_or_below y p) fs) (one_below x r g)
+          step false g m more r = or-second (is_at_or_below x p) (more m)
 
 -- ---- an open file
 
@@ -143,15 +211,6 @@ module _ (On More : List ℕ → Type 0) (f : (path : List ℕ) → On path → 
   handle_more None h = tt
   handle_more (Some (Handle.File name node document strict read write)) h = f name.path h
   handle_more (Some (Handle.Folder node entries)) h = tt
-
-  pub sight_more : (o : Option Sight) → SightOn On o → SightOn More o
-  sight_more None h = tt
-  sight_more (Some (SightOfFile d may_write)) h = f d.path h
-  sight_more (Some (SightBelow view d path may_write)) h = f d.path h
-  sight_more (Some (SightOfFolder (RootOf view numbers has_views))) h = tt
-  sight_more (Some (SightOfFolder (Views applications))) h = tt
-  sight_more (Some (SightOfFolder (FolderOf view d may_write))) h = f d.path h
-  sight_more (Some (SightOfFolder (Exported view d path may_write))) h = f d.path h
 
 abbrev Among : List (List ℕ) → List ℕ → Type 0
 Among paths path = is_among paths path ≡ true
@@ -187,6 +246,6 @@ pub handle_named : (v : AppView) (seat : ℕ) (c : OwnConnection) → found_conn
 handle_named v seat c e fh =
     handle_more (Among (paths_of_connection c)) (λ (path : List ℕ). names v path ≡ true)
     (λ path h.
-    among-joined (map (λ (d : HeldDocument). d.document.path) v.documents) (flat_map paths_of_connection v.connections) path
-    ∙ or-second (is_among (map (λ (d : HeldDocument). d.document.path) v.documents) path) (connection_on v.connections seat c path e h))
+    among-joined (paths_where is_plain_document v.documents) (flat_map paths_of_connection v.connections) path
+    ∙ or-second (is_among (paths_where is_plain_document v.documents) path) (connection_on v.connections seat c path e h))
     (own_handle_of c.handles fh) (handle_on c.handles fh)

@@ -13,7 +13,7 @@ use Rattle.portal_model.specs.State.{State, connection_of, held_of, is_app}
 use Rattle.portal_model.specs.Verdict.{does}
 use Rattle.app_world.specs.OwnVerdict.{OwnDoes, own_unless}
 use Rattle.app_world.specs.Present.{own_present, own_present_path, own_queue_path, own_requeued, own_with_queue}
-use Rattle.app_world.specs.View.{AppView, HeldDocument, OwnConnection, contents_at, found_connection, held_documents, own_connection, own_connections, paths_of_connection, view, view_over}
+use Rattle.app_world.specs.View.{AppView, HeldDocument, OwnConnection, contents_at, found_connection, held_documents, is_plain_document, own_connection, own_connections, paths_of_connection, paths_where, view, view_over}
 use Rattle.app_world.proofs.ReachedLaws.{IsTouched, seen-unless, seen_verdict, touched-unless}
 use Rattle.app_world.proofs.ViewLaws.{own_first, view-connections}
 
@@ -65,7 +65,7 @@ module _ (app : List ℕ) (seat : ℕ) (change : List (List ℕ) → List (List 
       let ds : List HeldDocument = held_documents (held_of s.rights app) s.documents in
       let more : List OwnConnection = map (own_requeued seat change) (own_connections app s.handles s.connections) in
       (λ i. record (view_over s.limits s.files ds more) {
-        contents = contents_at s.files (map (λ (d : HeldDocument). d.document.path) ds ++ same_paths app s.handles seat change (own_connections app s.handles s.connections) i);
+        contents = contents_at s.files (paths_where is_plain_document ds ++ same_paths app s.handles seat change (own_connections app s.handles s.connections) i);
       })
       ∙ ap (view_over s.limits s.files ds) (sym (own-requeued app s.handles seat change s.connections))
 

@@ -346,7 +346,7 @@ add-tells app number s c a numbers e l =
     walk-passes P (are_add_arguments c.queue a) Code.InvalidArgument (add_allowed s c a numbers) (λ q.
     walk-passes P (may_list_all s c.who a (document_paths c.queue a)) Code.NotAllowed (add_looking s c a numbers) (λ m.
     on-looks P (paths_shown c.queue a) (add_shown s c a numbers) (λ looks.
-    if-passes P (are_of_kind a looks) Code.InvalidArgument (added s (added_files s c a numbers)) (λ k. record { answered = refl; rights = done.rights; identified = done.identified })))))
+    if-passes P (are_of_kind a (paths_shown c.queue a) looks) Code.InvalidArgument (added s (added_files s c a numbers)) (λ k. record { answered = refl; rights = done.rights; identified = done.identified })))))
 
 -- ---- a request of a bus
 

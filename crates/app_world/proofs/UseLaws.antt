@@ -8,14 +8,13 @@ use Rattle.portal_model.specs.declared.request.AddRequest.{AddRequest}
 use Rattle.portal_model.specs.declared.state.Document.{Document}
 use Rattle.portal_model.specs.Add.{adding_rights, caller_rights, listed_rights, with_rights_of}
 use Rattle.portal_model.specs.AddArguments.{names_nobody}
-use Rattle.portal_model.specs.Content.{content_at}
 use Rattle.portal_model.specs.Grant.{given_rights}
 use Rattle.portal_model.specs.State.{State, document_of, held_of, is_app}
 use Rattle.portal_model.proofs.ListLookups.{is_same-refl, nat_is}
 use Rattle.app_world.specs.Add.{names_app}
 use Rattle.app_world.specs.Effect.{Gained, apply, apply_all}
 use Rattle.app_world.specs.Grant.{gained_in}
-use Rattle.app_world.specs.View.{AppView, held_documents, own_connections, seen, view, view_over}
+use Rattle.app_world.specs.View.{AppView, held_documents, holding_at, own_connections, seen, view, view_over}
 use Rattle.app_world.proofs.DocumentLaws.{seen-nothing}
 use Rattle.app_world.proofs.EffectLaws.{view-gained}
 use Rattle.app_world.proofs.HeldLaws.{held-add, union-new, union-nothing, union-covered}
@@ -77,7 +76,7 @@ module _ (app : List ℕ) (s t : State) (d : Document) (limits : t.limits ≡ s.
   after-is = λ i. view_over (sym limits i) (sym files i) (held_documents now t.documents) (own_connections app (sym handles i) (sym connections i))
 
   -- it gains these rights
-  pub joined-gained : (more : RightSet) → ((n : ℕ) → now n ≡ cond (d.id.number == n) (union (was n) more) (was n)) → apply (view s app) (Gained d more (content_at s.files d.path)) ≡ view t app
+  pub joined-gained : (more : RightSet) → ((n : ℕ) → now n ≡ cond (d.id.number == n) (union (was n) more) (was n)) → apply (view s app) (Gained d more (holding_at s.files d)) ≡ view t app
   joined-gained more rights = view-gained s.limits s.files s.documents t.documents was now (own_connections app s.handles s.connections) d more j.live rights j.there ∙ after-is
 
   seen-still : ((n : ℕ) → now n ≡ was n) → (n : ℕ) (b : Bool) → (d.id.number == n) ≡ b → seen (was n) (document_of s.documents n) ≡ seen (was n) (cond b (Some d) (document_of s.documents n))
@@ -101,7 +100,7 @@ module _ (app : List ℕ) (s t : State) (d : Document) (limits : t.limits ≡ s.
 
   -- it gains what is new of these rights, if any
   joined-if : (set : RightSet) (b : Bool) → holds_any (minus set (was d.id.number)) ≡ b → ((n : ℕ) → now n ≡ cond (d.id.number == n) (union (was n) set) (was n)) →
-      apply_all (view s app) (cond b (Gained d (minus set (was d.id.number)) (content_at s.files d.path) ∷ []) []) ≡ view t app
+      apply_all (view s app) (cond b (Gained d (minus set (was d.id.number)) (holding_at s.files d) ∷ []) []) ≡ view t app
   joined-if set true f rights = joined-gained (minus set (was d.id.number)) (λ n. rights n ∙ gains-new set n (d.id.number == n) refl)
   joined-if set false f rights = joined-same (λ n. rights n ∙ (gains-new set n (d.id.number == n) refl ∙ gains-none set f n (d.id.number == n) refl))
 

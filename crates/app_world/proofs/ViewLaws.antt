@@ -20,8 +20,8 @@ use Rattle.portal_model.specs.Valid.{Valid, is_none, is_host_bus, is_sound_conne
 use Rattle.portal_model.proofs.ListLookups.{is_same-eq, nat_is, find-filter-none, find-filter-some, find-map, found_in_all}
 use Rattle.portal_model.proofs.WhoWaits.{none-nil}
 use Rattle.app_world.specs.Laws.{with_document, with_right}
-use Rattle.app_world.specs.View.{HeldDocument, OwnConnection, TakesAlike, found_connection, held_documents, is_among, is_held, named_paths, number_of, own_connection, own_connections, own_handle, prune, pruned, seen, view, view_over}
-use Rattle.app_world.proofs.ContentLaws.{contents-fewer, contents-same}
+use Rattle.app_world.specs.View.{HeldDocument, OwnConnection, TakesAlike, found_connection, folder_paths, held_documents, is_among, is_held, is_plain_document, named_paths, number_of, own_connection, own_connections, own_handle, paths_where, prune, pruned, seen, view, view_over}
+use Rattle.app_world.proofs.ContentLaws.{below-fewer, below-same, contents-fewer, contents-same}
 use Rattle.app_world.proofs.DocumentLaws.{documents-are, documents-found, documents-rising, kept-seen, seen-nothing}
 use Rattle.app_world.proofs.Found.{find-kept, kept}
 use Rattle.app_world.proofs.Orders.{numbers}
@@ -47,6 +47,7 @@ view-alike app s t a =
       documents = ds;
       connections = cs;
       contents = contents-same s.files t.files (named_paths ds cs) a.contents i;
+      below = below-same s.files t.files (folder_paths ds) a.below i;
     })
     ∙ (λ i. view_over t.limits t.files (documents i) (a.connections i))
 
@@ -142,7 +143,8 @@ prune-connections limits files held documents cs more e =
     let ds : List HeldDocument = held_documents held documents in
     ap (λ (xs : List HeldDocument). pruned xs (record (view_over limits files ds cs) { connections = more })) (still_held held documents)
     ∙ (λ i. record (view_over limits files ds more) {
-      contents = contents-fewer files (named_paths ds cs) (named_paths ds more) (λ path. names-fewer (map (λ (d : HeldDocument). d.document.path) ds) (named_paths [] cs) (named_paths [] more) path (e path)) i;
+      contents = contents-fewer files (named_paths ds cs) (named_paths ds more) (λ path. names-fewer (paths_where is_plain_document ds) (named_paths [] cs) (named_paths [] more) path (e path)) i;
+      below = below-fewer files (folder_paths ds) (folder_paths ds) (λ path h. h) i;
     })
 
 -- ---- the connections of an application

@@ -3,6 +3,7 @@
 use Rattle.std.specs.Prelude.{ℕ, ◌+◌, List, [], ◌∷◌, ◌++◌, drop, fold, length, map, take, Bool, false, not, ◌&&◌, ◌||◌, cond, Option, Some, None}
 use Rattle.std.specs.List.{list_all}
 use Rattle.portal_base.specs.Names.{doc_text, is_same}
+use Rattle.portal_base.specs.declared.files.File.{File}
 use Rattle.portal_base.specs.declared.files.Look.{Look}
 use Rattle.portal_base.specs.declared.names.doc_id.DocId.{DocId}
 use Rattle.portal_base.specs.declared.who.Who.{Who}
@@ -14,9 +15,9 @@ use Rattle.portal_model.specs.declared.request.AddRequest.{AddRequest}
 use Rattle.portal_model.specs.declared.state.Connection.{Connection}
 use Rattle.portal_model.specs.declared.state.Document.{Document}
 use Rattle.portal_model.specs.Add.{Added, add_file, adding_rights, are_of_kind, first_number, new_document, taken_from_queue, used_again}
-use Rattle.portal_model.specs.AddArguments.{are_add_arguments, are_presented, document_paths, is_left_out, names_nobody, paths_shown, reuses}
+use Rattle.portal_model.specs.AddArguments.{are_add_arguments, are_presented, document_paths, exports, is_left_out, names_nobody, paths_shown, reuses}
 use Rattle.portal_model.specs.Bus.{is_tree}
-use Rattle.portal_model.specs.Content.{Content, NotThere, content_at, look_of}
+use Rattle.portal_model.specs.Content.{Content, OfFile, OfFolder, NotThere, content_at, look_of}
 use Rattle.portal_model.specs.State.{State}
 use Rattle.portal_model.specs.Walk.{Walk, Answers, looks_at_all}
 use Rattle.app_world.specs.Effect.{Effect, Gained, apply}
@@ -24,7 +25,7 @@ use Rattle.app_world.specs.Grant.{gained_in}
 use Rattle.app_world.specs.Own.{Own}
 use Rattle.app_world.specs.OwnVerdict.{OwnVerdict, OwnDoes, OwnRefuses, own_unless}
 use Rattle.app_world.specs.Present.{own_with_queue}
-use Rattle.app_world.specs.View.{AppView, HeldDocument, OwnConnection, found_document}
+use Rattle.app_world.specs.View.{Alone, AppView, Below, HeldDocument, Holding, OwnConnection, files_below, found_document}
 
 -- ---- what another's Add touches
 
@@ -117,7 +118,7 @@ own_again (Some id) made = Some id
 
 -- a new document joins the view with the rights of who adds, and so does one that is used again
 abbrev pub own_use_document :
-    AddRequest → (List ℕ → Content) → List ℕ → OwnAdded → Option DocId → OwnAdded
+    AddRequest → (List ℕ → Holding) → List ℕ → OwnAdded → Option DocId → OwnAdded
 own_use_document a content path done (Some id) =
     let d = new_document a id path in
     record done {
@@ -133,7 +134,7 @@ own_use_document a content path done None =
       made = done.made ++ d ∷ [];
     }
 
-abbrev pub own_add_file : AddRequest → (List ℕ → Content) → OwnAdded → OwnFile → OwnAdded
+abbrev pub own_add_file : AddRequest → (List ℕ → Holding) → OwnAdded → OwnFile → OwnAdded
 own_add_file a content done f =
     cond (is_left_out a f.path) (record done { ids = done.ids ++ [] ∷ [] })
     (own_use_document a content f.path done (own_again f.again (used_again done.made a f.path)))
@@ -141,9 +142,9 @@ own_add_file a content done f =
 -- ---- the call
 
 -- what was shown at each of the paths that the tree was asked for
-abbrev pub content_shown : List (List ℕ) → List Content → List ℕ → Content
-content_shown [] contents path = NotThere false
-content_shown (p ∷ ps) [] path = NotThere false
+abbrev pub content_shown : List (List ℕ) → List Holding → List ℕ → Holding
+content_shown [] contents path = Alone (NotThere false)
+content_shown (p ∷ ps) [] path = Alone (NotThere false)
 content_shown (p ∷ ps) (c ∷ contents) path =
     cond (is_same p path) c (content_shown ps contents path)
 
@@ -165,7 +166,7 @@ own_added done = OwnDoes done.view (Answer.Ids done.ids)
 
 abbrev pub own_add_shown : AppView → OwnConnection → AddRequest → Own → List Look → Walk OwnVerdict
 own_add_shown v c a own looks =
-    Answers (own_unless (not (are_of_kind a looks)) Code.InvalidArgument
+    Answers (own_unless (not (are_of_kind a (paths_shown c.queue a) looks)) Code.InvalidArgument
     (own_added (own_added_files v c a own)))
 
 abbrev pub own_walk_unless : Bool → Code → Walk OwnVerdict → Walk OwnVerdict
@@ -185,9 +186,13 @@ abbrev pub own_add : AppView → OwnConnection → AddRequest → Own → Walk O
 own_add v c a own =
     own_walk_unless (not (are_presented c.queue a)) Code.InvalidArgs (own_add_presented v c a own)
 
+abbrev pub look_of_holding : Holding → Look
+look_of_holding (Alone content) = look_of content
+look_of_holding (Below files) = Look.Folder
+
 -- the looks that succeeded
 abbrev pub own_looks : Own → List Look
-own_looks own = map look_of (take own.looks own.shown)
+own_looks own = map look_of_holding (take own.looks own.shown)
 
 -- ---- what its trace tells of it
 
@@ -195,8 +200,21 @@ own_looks own = map look_of (take own.looks own.shown)
 abbrev pub asked : Given → ℕ
 asked given = length given.looks + cond (is_tree given.fault) 1 0
 
-abbrev pub shown_to : State → Connection → AddRequest → Given → List Content
-shown_to s c a given = map (content_at s.files) (take (asked given) (paths_shown c.queue a))
+-- what is at a path, and of a folder that is exported all that is at or below it
+abbrev pub shown_by_content : List File → List ℕ → Bool → Content → Holding
+shown_by_content files path exported (OfFile generation bytes moment) =
+    Alone (OfFile generation bytes moment)
+shown_by_content files path exported OfFolder =
+    cond exported (Below (files_below files path)) (Alone OfFolder)
+shown_by_content files path exported (NotThere room) = Alone (NotThere room)
+
+abbrev pub shown_at_path : List File → Bool → List ℕ → Holding
+shown_at_path files exported path =
+    shown_by_content files path exported (content_at files path)
+
+abbrev pub shown_to : State → Connection → AddRequest → Given → List Holding
+shown_to s c a given =
+    map (shown_at_path s.files (exports a)) (take (asked given) (paths_shown c.queue a))
 
 -- of a call that reuses and whose arguments are in order
 abbrev pub reused_by : State → Connection → AddRequest → List (Option DocId)

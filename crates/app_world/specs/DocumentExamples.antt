@@ -19,6 +19,7 @@ use Rattle.rights_rule.specs.Rights.{RightSet, no_rights}
 use Rattle.app_world.specs.Examples.{both, id, reads, writes}
 use Rattle.app_world.specs.RightsTold.{is_given_in, rights_told}
 use Rattle.app_world.specs.TraceItem.{Gained, Gone, Lost, TraceItem}
+use Rattle.app_world.specs.View.{Alone}
 use Rattle.app_world.specs.World.{app_run, items, trace}
 
 -- over a tree with the file a.txt, and an empty one in the editor's own folder; with a bus of the
@@ -205,7 +206,7 @@ n_document_of number reuse =
     }
 
 abbrev pub gains_reading : ℕ → TraceItem
-gains_reading number = Gained (n_document_of number false) reads (OfFile 0 [] 0)
+gains_reading number = Gained (n_document_of number false) reads (Alone (OfFile 0 [] 0))
 
 -- It is told of what it held before, and of what it did not; and nothing of what isn't done. Of the
 -- files that another adds it is told where it is named, of two documents where each file becomes
@@ -215,14 +216,14 @@ pub record WhatIsTouched : Type 0 where
       items editor two_documents by_the_host
       ≡ Lost (id 10) reads
       ∷ Gone (id 11)
-      ∷ Gained a_document deletes (OfFile 0 [] 0)
+      ∷ Gained a_document deletes (Alone (OfFile 0 [] 0))
       ∷ []
   pub two_added :
       items editor (in_tree []) added_by_the_host ≡ gains_reading 5 ∷ gains_reading 6 ∷ []
   pub one_reused :
       items editor (in_tree []) reused_by_the_host
-      ≡ Gained (n_document_of 5 true) reads (OfFile 0 [] 0)
-      ∷ Gained (n_document_of 5 true) writes (OfFile 0 [] 0) ∷ []
+      ≡ Gained (n_document_of 5 true) reads (Alone (OfFile 0 [] 0))
+      ∷ Gained (n_document_of 5 true) writes (Alone (OfFile 0 [] 0)) ∷ []
   pub number_nought : items editor (in_tree greatest) wrapping ≡ []
 
 -- ---- who has which right

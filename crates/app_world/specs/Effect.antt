@@ -1,17 +1,20 @@
 -- What others change of the view of one application.
-use Rattle.std.specs.Prelude.{ℕ, ◌==◌, List, [], ◌∷◌, not, map, cond, Bool, Option, Some, None}
+use Rattle.std.specs.Prelude.{ℕ, ◌==◌, List, [], ◌∷◌, not, map, cond, is_some, Bool, Option, Some, None}
 use Rattle.std.specs.List.{filter}
+use Rattle.portal_base.specs.Content.{file_at}
+use Rattle.portal_base.specs.FileChanges.{change_named}
 use Rattle.portal_base.specs.Names.{is_same}
+use Rattle.portal_base.specs.declared.files.File.{File}
 use Rattle.portal_base.specs.declared.names.doc_id.DocId.{DocId}
 use Rattle.rights_rule.specs.Rights.{RightSet, union, minus}
 use Rattle.portal_model.specs.declared.state.Document.{Document}
 use Rattle.portal_model.specs.Content.{Content, OfFile, OfFolder, NotThere}
 use Rattle.portal_model.specs.Ordered.{put}
-use Rattle.app_world.specs.View.{AppView, HeldDocument, PathContent, number_of, lower, ahead, found_document, found_content, prune}
+use Rattle.app_world.specs.View.{AppView, Alone, Below, HeldDocument, Holding, PathBelow, PathContent, number_of, lower, ahead, below_ahead, file_ahead, found_below, found_document, found_content, is_at_or_below, prune}
 
 pub data Effect : Type 0 where
-  -- rights in a document, which joins the view with its content where it was not there
-  Gained : Document → RightSet → Content → Effect
+  -- rights in a document, which joins the view with what there is for it where it was not there
+  Gained : Document → RightSet → Holding → Effect
   -- rights in a document are taken away
   Lost : DocId → RightSet → Effect
   -- a document is deleted
@@ -28,6 +31,18 @@ with_more d more (Some x) = record x { rights = union x.rights more }
 abbrev pub with_content : List ℕ → Content → Option PathContent → PathContent
 with_content path content None = record { path = path; content = content }
 with_content path content (Some c) = c
+
+abbrev pub with_below : List ℕ → List File → Option PathBelow → PathBelow
+with_below path files None = record { path = path; files = files }
+with_below path files (Some b) = b
+
+abbrev pub with_holding : Document → Holding → AppView → AppView
+with_holding d (Alone content) v = record v {
+  contents = put ahead (with_content d.path content (found_content v.contents d.path)) v.contents;
+}
+with_holding d (Below files) v = record v {
+  below = put below_ahead (with_below d.path files (found_below v.below d.path)) v.below;
+}
 
 -- the document of this number with fewer rights
 abbrev pub less_held : ℕ → RightSet → HeldDocument → HeldDocument
@@ -50,15 +65,48 @@ with_bytes path generation new c =
     (record c { content = changed_content generation new c.content })
     c
 
+-- ---- among the files at or below a folder
+
+abbrev pub with_content_of : Content → File → File
+with_content_of (OfFile generation bytes moment) f =
+    record f { generation = generation; bytes = bytes; moment = moment }
+with_content_of OfFolder f = f
+with_content_of (NotThere room) f = f
+
+abbrev pub file_of : List ℕ → ℕ → List ℕ → ℕ → File
+file_of path generation bytes moment =
+    record { path = path; generation = generation; bytes = bytes; moment = moment }
+
+abbrev pub with_first : List ℕ → Content → List File → List File
+with_first path (OfFile generation bytes moment) files =
+    put file_ahead (file_of path generation bytes moment) files
+with_first path OfFolder files = files
+with_first path (NotThere room) files = files
+
+-- a file of another generation stays; where nothing is, a first file may come
+abbrev pub with_file : List ℕ → ℕ → Content → List File → List File
+with_file path generation new files =
+    cond (is_some (file_at files path))
+    (change_named (record { path = path; generation = generation }) (with_content_of new) files)
+    (cond (generation == 0) (with_first path new files) files)
+
+abbrev pub with_bytes_below : List ℕ → ℕ → Content → PathBelow → PathBelow
+with_bytes_below path generation new b =
+    cond (is_at_or_below b.path path)
+    (record b { files = with_file path generation new b.files })
+    b
+
+-- ---- what is changed
+
 abbrev pub changed : AppView → Effect → AppView
-changed v (Gained d more content) = record v {
+changed v (Gained d more holding) = with_holding d holding (record v {
   documents = put lower (with_more d more (found_document v.documents d.id.number)) v.documents;
-  contents = put ahead (with_content d.path content (found_content v.contents d.path)) v.contents;
-}
+})
 changed v (Lost id less) = record v { documents = map (less_held id.number less) v.documents }
 changed v (Gone id) = record v { documents = filter (is_other id.number) v.documents }
 changed v (Bytes path generation new) = record v {
   contents = map (with_bytes path generation new) v.contents;
+  below = map (with_bytes_below path generation new) v.below;
 }
 
 -- and what then has no right or no name leaves the view

@@ -13,7 +13,7 @@ use Rattle.portal_model.specs.History.{Legal}
 use Rattle.portal_model.specs.Opening.{opened}
 use Rattle.rights_rule.specs.Rights.{RightSet}
 use Rattle.app_world.specs.Effect.{Effect, Gained, Lost, Gone, Bytes, apply}
-use Rattle.app_world.specs.View.{AppView, HeldDocument, PathContent}
+use Rattle.app_world.specs.View.{Alone, AppView, HeldDocument, PathContent}
 use Rattle.app_world.specs.World.{Trace, trace}
 
 -- ---- traces
@@ -105,6 +105,7 @@ viewing documents contents = record {
   documents = documents;
   connections = [];
   contents = contents;
+  below = [];
 }
 
 -- the document of the file a.txt, with these rights and this content
@@ -120,7 +121,7 @@ two_views first second =
 
 -- a document of b.txt, as it is gained
 abbrev pub gains_b : ℕ → Effect
-gains_b number = Gained (held number b_text writes).document writes OfFolder
+gains_b number = Gained (held number b_text writes).document writes (Alone OfFolder)
 
 -- the contents of a.txt and of b.txt, and a document beside that of a.txt
 abbrev pub two_files : List PathContent
@@ -139,13 +140,13 @@ pub record EffectsOnAView : Type 0 where
       apply (a_view reads old_file) (gains_b 11)
       ≡ viewing (held 10 a_text reads ∷ held 11 b_text writes ∷ []) two_files
   pub gains :
-      apply (a_view reads old_file) (Gained (held 10 a_text reads).document writes new_file)
+      apply (a_view reads old_file) (Gained (held 10 a_text reads).document writes (Alone new_file))
       ≡ a_view both old_file
   pub stays_as_it_was :
-      apply (a_view reads old_file) (Gained (held 10 b_text writes).document writes new_file)
+      apply (a_view reads old_file) (Gained (held 10 b_text writes).document writes (Alone new_file))
       ≡ a_view both old_file
   pub same_path :
-      apply (a_view reads old_file) (Gained (held 12 a_text writes).document writes new_file)
+      apply (a_view reads old_file) (Gained (held 12 a_text writes).document writes (Alone new_file))
       ≡ two_views reads writes
   pub loses_one : apply (a_view both old_file) (Lost (id 10) writes) ≡ a_view reads old_file
   pub loses_last : apply (a_view reads old_file) (Lost (id 10) both) ≡ viewing [] []

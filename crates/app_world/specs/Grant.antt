@@ -7,12 +7,11 @@ use Rattle.portal_model.specs.declared.reply.Code.TheVariants as Code
 use Rattle.portal_model.specs.declared.request.RightsCall.{RightsCall}
 use Rattle.portal_model.specs.declared.state.Document.{Document}
 use Rattle.portal_model.specs.Arguments.{document_named}
-use Rattle.portal_model.specs.Content.{content_at}
 use Rattle.portal_model.specs.Grant.{are_rights_arguments, may_grant}
 use Rattle.portal_model.specs.State.{State, held_of}
 use Rattle.app_world.specs.Effect.{Effect, Gained}
 use Rattle.app_world.specs.OwnVerdict.{OwnVerdict, OwnDoes, OwnRefuses, own_reached, own_unless}
-use Rattle.app_world.specs.View.{AppView, HeldDocument}
+use Rattle.app_world.specs.View.{AppView, HeldDocument, holding_at}
 
 -- who gives rights holds them: nothing changes in its own view
 abbrev pub own_grant_reached : AppView → RightsCall → Option HeldDocument → OwnVerdict
@@ -30,7 +29,7 @@ own_grant v call =
 
 -- the rights of a set that the application does not hold yet, if any
 abbrev pub gained_if : State → Document → RightSet → List Effect
-gained_if s d more = cond (holds_any more) (Gained d more (content_at s.files d.path) ∷ []) []
+gained_if s d more = cond (holds_any more) (Gained d more (holding_at s.files d) ∷ []) []
 
 abbrev pub gained_in : List ℕ → State → RightSet → Document → List Effect
 gained_in app s set d = gained_if s d (minus set (held_of s.rights app d.id.number))

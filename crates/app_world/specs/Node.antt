@@ -20,11 +20,12 @@ use Rattle.portal_model.specs.Place.{FolderOf, RootOf, Sight, SightBelow, SightO
 use Rattle.portal_model.specs.Reach.{Reach, Reaching, no_reach}
 use Rattle.portal_model.specs.SeatNames.{naming_of, with_naming}
 use Rattle.portal_model.specs.State.{State}
-use Rattle.portal_model.specs.Walk.{Walk, walked}
-use Rattle.app_world.specs.Effect.{Effect, Bytes, apply_all}
+use Rattle.portal_model.specs.Walk.{Walk, walked_with}
+use Rattle.portal_model.specs.Ordered.{put}
+use Rattle.app_world.specs.Effect.{Effect, Bytes, apply_all, with_content}
 use Rattle.app_world.specs.Own.{Own}
-use Rattle.app_world.specs.Shown.{own_bytes, own_looks, succeeding}
-use Rattle.app_world.specs.View.{AppView, HeldDocument, OwnConnection, OwnHandle, found_document, names, number_of, prune, view}
+use Rattle.app_world.specs.Shown.{own_bytes, own_content, own_listed, own_looks, succeeding}
+use Rattle.app_world.specs.View.{AppView, HeldDocument, OwnConnection, OwnHandle, ahead, found_content, found_document, number_of, prune, knows, view}
 
 -- ---- what the application sees at a node
 
@@ -159,11 +160,11 @@ own_connections_then c d connections =
 -- the file of a name has these bytes, since a moment
 abbrev pub bytes_at : AppView → FileName → List ℕ → ℕ → List Effect
 bytes_at v name bytes now =
-    cond (names v name.path)
+    cond (knows v name.path)
     (Bytes name.path name.generation (OfFile name.generation bytes now) ∷ []) []
 
--- What a change of a file is to a view that names its path, where the files have these bytes. A
--- write of no bytes changes nothing.
+-- What a change of a file is to a view that tells what is at its path, where the files have these
+-- bytes. A write of no bytes changes nothing.
 abbrev pub bytes_effects : AppView → (FileName → List ℕ) → FileChange → List Effect
 bytes_effects v bytes FilesStay = []
 bytes_effects v bytes (Writes name offset [] now) = []
@@ -173,11 +174,28 @@ bytes_effects v bytes (Resizes name size now) = bytes_at v name (cut_to size (by
 bytes_effects v bytes (Creates path now) =
     bytes_at v (record { path = path; generation = 0 }) [] now
 
+-- the path of an opened file is named from then on
+abbrev pub with_opened : Handle → AppView → AppView
+with_opened (Handle.File name node document strict read write) v = record v {
+  contents =
+      put ahead
+      (with_content name.path (own_content v name.path) (found_content v.contents name.path))
+      v.contents;
+}
+with_opened (Handle.Folder node names) v = v
+
+abbrev pub with_handles : HandleChange → AppView → AppView
+with_handles HandlesStay v = v
+with_handles (Opens handle) v = with_opened handle v
+with_handles (Closes fh) v = v
+
 -- what was named by a closed file alone leaves the view
 abbrev pub own_node_done : AppView → OwnConnection → NodeDoing → AppView
 own_node_done v c d =
     apply_all
-    (prune (record v { connections = own_connections_then c d v.connections }))
+    (prune (record (with_handles d.handle v) {
+      connections = own_connections_then c d v.connections;
+    }))
     (bytes_effects v (own_bytes v) d.file)
 
 -- ---- the answer
@@ -187,11 +205,11 @@ own_settled_on_node v c None = (v, Answer.Refused (Code.Errno eio))
 own_settled_on_node v c (Some (Errs errno)) = (v, Answer.Refused (Code.Errno errno))
 own_settled_on_node v c (Some (Yields d)) = (own_node_done v c d, Answer.Node d.answer)
 
--- the looks are those that the view's contents show, up to a call that failed
+-- the looks and the names listed are those that the view shows, up to a call that failed
 abbrev pub own_node_given : AppView → Walk NodeVerdict → Own → Option NodeVerdict
 own_node_given v walk own =
-    walked walk (moment_given own.now) (succeeding own.fault own.looks (own_looks v walk))
-    (is_tree own.fault)
+    walked_with walk (moment_given own.now) (own_listed v walk)
+    (succeeding own.fault own.looks (own_looks v walk)) (is_tree own.fault)
 
 -- the view after, and the answer
 abbrev pub own_node_answer : AppView → OwnConnection → NodeRequest → Own → AppView × Answer

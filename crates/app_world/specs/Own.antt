@@ -3,16 +3,16 @@ use Rattle.std.specs.Prelude.{ℕ, List, Bool, Option}
 use Rattle.portal_base.specs.declared.names.doc_id.DocId.{DocId}
 use Rattle.portal_model.specs.declared.entry.Fault.{Fault}
 use Rattle.portal_model.specs.declared.request.Request.{Request}
-use Rattle.portal_model.specs.Content.{Content}
+use Rattle.app_world.specs.View.{Holding}
 
 pub record Own : Type 0 where
   pub seat : ℕ
   pub request : Request
   pub now : Option ℕ
   pub numbers : List DocId
-  -- Of an Add: the content of each path that the tree was asked for; and where the call uses
+  -- Of an Add: what there is at each path that the tree was asked for; and where the call uses
   -- documents again, of each file that isn't left out the one that was there for it, if any.
-  pub shown : List Content
+  pub shown : List Holding
   pub reused : List (Option DocId)
   -- how many looks succeeded
   pub looks : ℕ

@@ -1,19 +1,30 @@
--- What an application sees of the tree of files: the contents of its view.
+-- What an application sees of the tree of files: the contents of its view, and what is at or below
+-- its folders.
 use Rattle.std.specs.Prelude.{ℕ, ◌==◌, List, [], ◌∷◌, take, Bool, true, false, Option, Some, None, cond}
+use Rattle.std.specs.List.{find}
+use Rattle.portal_base.specs.declared.files.ChildName.{ChildName}
 use Rattle.portal_base.specs.declared.files.FileName.{FileName}
 use Rattle.portal_base.specs.declared.files.Look.{Look}
 use Rattle.portal_model.specs.declared.entry.Fault.{Fault}
-use Rattle.portal_model.specs.Content.{Content, OfFile, OfFolder, NotThere, look_of}
-use Rattle.portal_model.specs.Walk.{Walk, Answers, Looks, Ends, Lists, Target, AtPath, Named, LastCall, Uses, Changes, Makes}
-use Rattle.app_world.specs.View.{AppView, PathContent, found_content}
+use Rattle.portal_model.specs.Content.{Content, OfFile, OfFolder, NotThere, content_at, look_of}
+use Rattle.portal_model.specs.Walk.{Walk, Answers, Looks, Ends, Lists, Target, AtPath, Named, LastCall, Uses, Changes, Makes, names_listed}
+use Rattle.app_world.specs.View.{AppView, PathBelow, PathContent, found_content, is_at_or_below}
 
--- the view has a content for each path that it names
-abbrev pub shown : Option PathContent → Content
-shown None = NotThere false
-shown (Some c) = c.content
+-- the folder at or below which the path lies, where the view has one
+abbrev pub covering : List PathBelow → List ℕ → Option PathBelow
+covering below path = find (λ b. is_at_or_below b.path path) below
+
+abbrev pub shown_below : List ℕ → Option PathBelow → Content
+shown_below path None = NotThere false
+shown_below path (Some b) = content_at b.files path
+
+-- the view has a content for each path that it names, and tells what lies below its folders
+abbrev pub shown : List PathBelow → List ℕ → Option PathContent → Content
+shown below path None = shown_below path (covering below path)
+shown below path (Some c) = c.content
 
 abbrev pub own_content : AppView → List ℕ → Content
-own_content v path = shown (found_content v.contents path)
+own_content v path = shown v.below path (found_content v.contents path)
 
 -- where the file has another generation, nothing is there
 abbrev pub of_generation : ℕ → Content → Content
@@ -62,7 +73,19 @@ own_looks v (Looks target next) = own_shown_at v target ∷ own_looks v (next (o
 own_looks v (Ends call done missing) = cond (own_found v call) [] (Look.Missing ∷ [])
 own_looks v (Lists path done missing) = []
 
--- of these, those that succeed: where a call of the tree failed, the ones ahead of it
+-- the names in a folder, where the view tells of one
+abbrev pub names_below : List ℕ → Option PathBelow → Option (List ChildName)
+names_below path None = None
+names_below path (Some b) = names_listed b.files path
+
+-- what a walk lists, where no call fails
+abbrev pub own_listed : {X : Type 0} → AppView → Walk X → Option (List ChildName)
+own_listed v (Answers x) = None
+own_listed v (Looks target next) = own_listed v (next (own_shown_at v target))
+own_listed v (Ends call done missing) = None
+own_listed v (Lists path done missing) = names_below path (covering v.below path)
+
+-- of these looks, those that succeed: where a call of the tree failed, the ones ahead of it
 abbrev pub succeeding : Fault → ℕ → List Look → List Look
 succeeding Fault.None count looks = looks
 succeeding Fault.Tree count looks = take count looks

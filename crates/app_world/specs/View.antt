@@ -1,7 +1,8 @@
 -- What the portal is to one application. It holds nothing of other applications' rights,
 -- documents, numbers or connections.
-use Rattle.std.specs.Prelude.{◌≡◌, ℕ, ◌==◌, nat_lt, List, [], ◌∷◌, ◌++◌, Bool, true, map, cond, Option, Some, None}
+use Rattle.std.specs.Prelude.{◌≡◌, ℕ, ◌==◌, ◌||◌, nat_lt, List, [], ◌∷◌, ◌++◌, Bool, true, map, not, cond, Option, Some, None}
 use Rattle.std.specs.List.{filter, find, flat_map, list_any}
+use Rattle.portal_base.specs.Content.{is_above}
 use Rattle.portal_base.specs.Names.{is_same}
 use Rattle.portal_base.specs.declared.files.File.{File}
 use Rattle.portal_base.specs.declared.limits.Limits.{Limits}
@@ -45,6 +46,17 @@ pub record PathContent : Type 0 where
   pub path : List ℕ
   pub content : Content
 
+-- the files at or below the path of a document that is a folder, in byte order of their paths
+pub record PathBelow : Type 0 where
+  pub path : List ℕ
+  pub files : List File
+
+-- What there is for a document: the content of its path, or of one that is a folder the files at or
+-- below it.
+pub data Holding : Type 0 where
+  Alone : Content → Holding
+  Below : List File → Holding
+
 pub record AppView : Type 0 where
   -- the limits on open handles, on presented files that wait, and on the size of a file
   pub handles : ℕ
@@ -54,8 +66,11 @@ pub record AppView : Type 0 where
   pub documents : List HeldDocument
   -- in the order in which they were opened
   pub connections : List OwnConnection
-  -- what the tree has at each path that a document or an open file names, in order of the paths
+  -- what the tree has at each path that a document which is no folder or an open file names, in
+  -- order of the paths
   pub contents : List PathContent
+  -- and at or below that of each document which is a folder, in order of these
+  pub below : List PathBelow
 
 -- ---- the lists and their orders
 
@@ -129,10 +144,25 @@ paths_of_handle (Handle.Folder node names) = []
 abbrev pub paths_of_connection : OwnConnection → List (List ℕ)
 paths_of_connection c = flat_map (λ h. paths_of_handle h.handle) c.handles
 
--- the paths that the documents and the open files name
+-- the paths of the documents that pass a test
+abbrev pub paths_where : (Document → Bool) → List HeldDocument → List (List ℕ)
+paths_where test documents =
+    map (λ d. d.document.path) (filter (λ d. test d.document) documents)
+
+abbrev pub is_folder_document : Document → Bool
+is_folder_document d = d.folder
+
+abbrev pub is_plain_document : Document → Bool
+is_plain_document d = not d.folder
+
+-- the paths that documents which are no folders and the open files name
 abbrev pub named_paths : List HeldDocument → List OwnConnection → List (List ℕ)
 named_paths documents connections =
-    map (λ d. d.document.path) documents ++ flat_map paths_of_connection connections
+    paths_where is_plain_document documents ++ flat_map paths_of_connection connections
+
+-- and those of the documents that are folders
+abbrev pub folder_paths : List HeldDocument → List (List ℕ)
+folder_paths documents = paths_where is_folder_document documents
 
 abbrev pub is_among : List (List ℕ) → List ℕ → Bool
 is_among paths path = list_any (λ p. is_same p path) paths
@@ -142,6 +172,41 @@ path_content files path = record { path = path; content = content_at files path 
 
 abbrev pub contents_at : List File → List (List ℕ) → List PathContent
 contents_at files paths = put_all ahead (map (path_content files) paths)
+
+-- ---- at and below folders
+
+abbrev pub is_at_or_below : List ℕ → List ℕ → Bool
+is_at_or_below folder path = is_same path folder || is_above folder path
+
+-- the path is that of the document, or lies below one that is a folder
+abbrev pub is_of_document : Document → List ℕ → Bool
+is_of_document d path = cond d.folder (is_at_or_below d.path path) (is_same d.path path)
+
+abbrev pub file_ahead : File → File → Bool
+file_ahead x y = bytes_less x.path y.path
+
+abbrev pub files_below : List File → List ℕ → List File
+files_below files folder = put_all file_ahead (filter (λ f. is_at_or_below folder f.path) files)
+
+abbrev pub folder_of : PathBelow → List ℕ
+folder_of b = b.path
+
+abbrev pub below_ahead : PathBelow → PathBelow → Bool
+below_ahead x y = bytes_less (folder_of x) (folder_of y)
+
+abbrev pub found_below : List PathBelow → List ℕ → Option PathBelow
+found_below below path = find (λ b. is_same (folder_of b) path) below
+
+abbrev pub path_below : List File → List ℕ → PathBelow
+path_below files path = record { path = path; files = files_below files path }
+
+abbrev pub below_at : List File → List (List ℕ) → List PathBelow
+below_at files paths = put_all below_ahead (map (path_below files) paths)
+
+-- what there is for a document
+abbrev pub holding_at : List File → Document → Holding
+holding_at files d =
+    cond d.folder (Below (files_below files d.path)) (Alone (content_at files d.path))
 
 -- ---- the view
 
@@ -153,6 +218,7 @@ view_over limits files documents connections = record {
   documents = documents;
   connections = connections;
   contents = contents_at files (named_paths documents connections);
+  below = below_at files (folder_paths documents);
 }
 
 abbrev pub view : State → List ℕ → AppView
@@ -166,6 +232,7 @@ abbrev pub pruned : List HeldDocument → AppView → AppView
 pruned documents v = record v {
   documents = documents;
   contents = filter (λ c. is_among (named_paths documents v.connections) (path_of c)) v.contents;
+  below = filter (λ b. is_among (folder_paths documents) (folder_of b)) v.below;
 }
 
 abbrev pub prune : AppView → AppView
@@ -178,17 +245,25 @@ abbrev pub seen : RightSet → Option Document → Option HeldDocument
 seen held None = None
 seen held (Some d) = cond (holds_any held) (Some (record { document = d; rights = held })) None
 
--- whether a document or an open file of the view names the path
+-- whether a document which is no folder or an open file of the view names the path
 abbrev pub names : AppView → List ℕ → Bool
 names v path = is_among (named_paths v.documents v.connections) path
+
+-- whether it is that of a document which is a folder, or lies below one
+abbrev pub covers : AppView → List ℕ → Bool
+covers v path = list_any (λ folder. is_at_or_below folder path) (folder_paths v.documents)
+
+-- the view tells what is at the path
+abbrev pub knows : AppView → List ℕ → Bool
+knows v path = names v path || covers v path
 
 -- the document of a number, as the application sees it
 abbrev pub seen_at : State → List ℕ → ℕ → Option HeldDocument
 seen_at s app number = seen (held_of s.rights app number) (document_of s.documents number)
 
 -- What the view takes from the state is the same in both: the limits that the application meets,
--- its connections, the document of each number as it sees it, and what is at each path that it
--- names.
+-- its connections, the document of each number as it sees it, what is at each path that it names,
+-- and what is at or below each folder.
 pub record TakesAlike (app : List ℕ) (s t : State) : Type 0 where
   pub handles : s.limits.handles ≡ t.limits.handles
   pub queued : s.limits.queued ≡ t.limits.queued
@@ -199,3 +274,6 @@ pub record TakesAlike (app : List ℕ) (s t : State) : Type 0 where
   pub contents :
       (path : List ℕ) → names (view s app) path ≡ true →
       content_at s.files path ≡ content_at t.files path
+  pub below :
+      (path : List ℕ) → is_among (folder_paths (view s app).documents) path ≡ true →
+      files_below s.files path ≡ files_below t.files path

@@ -9,7 +9,6 @@ use Rattle.portal_model.specs.declared.request.AddRequest.{AddRequest}
 use Rattle.portal_model.specs.declared.request.NodeRequest.{NodeRequest}
 use Rattle.portal_model.specs.declared.request.Request.{Request}
 use Rattle.portal_model.specs.declared.state.Connection.{Connection}
-use Rattle.portal_model.specs.Content.{Content}
 use Rattle.portal_model.specs.History.{makes}
 use Rattle.portal_model.specs.State.{State, connection_of}
 use Rattle.portal_model.specs.Step.{after, bus_of, is_mount, mount_of, not_here, reply_at, with_signals}
@@ -25,7 +24,7 @@ use Rattle.app_world.specs.Own.{Own}
 use Rattle.app_world.specs.Touched.{is_done}
 use Rattle.app_world.specs.TraceItem as item
 use Rattle.app_world.specs.TraceItem.{TraceItem, item_of}
-use Rattle.app_world.specs.View.{AppView, OwnConnection, found_connection, view}
+use Rattle.app_world.specs.View.{AppView, Holding, OwnConnection, found_connection, view}
 
 -- ---- the application's own machine
 
@@ -81,7 +80,7 @@ app_step v own = own_request_step v own own.request
 
 -- ---- the trace
 
-abbrev pub shown_by : State → AddRequest → Given → Option Connection → List Content
+abbrev pub shown_by : State → AddRequest → Given → Option Connection → List Holding
 shown_by s a given None = []
 shown_by s a given (Some c) = shown_to s c a given
 
@@ -90,7 +89,7 @@ reused_on s a None = []
 reused_on s a (Some c) = reused_by s c a
 
 -- what is told of an Add alone
-abbrev pub contents_shown : State → Request → Given → Option Connection → List Content
+abbrev pub contents_shown : State → Request → Given → Option Connection → List Holding
 contents_shown s (Request.Add a) given o = shown_by s a given o
 contents_shown s (Request.Present path) given o = []
 contents_shown s (Request.Grant call) given o = []
@@ -186,8 +185,8 @@ trace app s h = record { opening = view s app; items = items app s h }
 abbrev pub own_replies : AppView → List TraceItem → List Reply
 own_replies v [] = []
 own_replies v (item.Own own ∷ more) = (app_step v own).1 ∷ own_replies (app_step v own).0 more
-own_replies v (item.Gained d rights content ∷ more) =
-    own_replies (apply v (effect.Gained d rights content)) more
+own_replies v (item.Gained d rights holding ∷ more) =
+    own_replies (apply v (effect.Gained d rights holding)) more
 own_replies v (item.Lost id rights ∷ more) = own_replies (apply v (effect.Lost id rights)) more
 own_replies v (item.Gone id ∷ more) = own_replies (apply v (effect.Gone id)) more
 own_replies v (item.Bytes path generation content ∷ more) =

@@ -143,4 +143,4 @@ add_told m s c a numbers has =
     (λ e. walk_unless_told m (not (are_add_arguments c.queue a)) Code.InvalidArgument (add_allowed s c a numbers)
     (λ f. walk_unless_told m (not (may_list_all s c.who a (document_paths c.queue a))) Code.NotAllowed (add_looking s c a numbers)
     (λ g. looks_told m (paths_shown c.queue a) (add_shown s c a numbers)
-    (λ looks. unless_told m (not (are_of_kind a looks)) Code.InvalidArgument (added s done) (λ h. (each.0, has done.ids each.1))))))
+    (λ looks. unless_told m (not (are_of_kind a (paths_shown c.queue a) looks)) Code.InvalidArgument (added s done) (λ h. (each.0, has done.ids each.1))))))

@@ -94,4 +94,4 @@ module _ (P : Answer → Type 0) where
       (of_walk_unless P (not (are_add_arguments c.queue a)) Code.InvalidArgument (add_allowed s c a numbers)
       (of_walk_unless P (not (may_list_all s c.who a (document_paths c.queue a))) Code.NotAllowed (add_looking s c a numbers)
       (of_looks P (paths_shown c.queue a) (add_shown s c a numbers)
-      (λ looks. of_unless P (not (are_of_kind a looks)) Code.InvalidArgument (added s (added_files s c a numbers)) (h (added_files s c a numbers).ids)))))
+      (λ looks. of_unless P (not (are_of_kind a (paths_shown c.queue a) looks)) Code.InvalidArgument (added s (added_files s c a numbers)) (h (added_files s c a numbers).ids)))))

@@ -18,7 +18,6 @@ use Rattle.portal_model.specs.Add.{adding_rights, are_of_kind, first_number, new
 use Rattle.portal_model.specs.AddArguments.{are_add_arguments, are_presented, is_left_out, names_nobody, paths_shown}
 use Rattle.portal_model.specs.Arguments.{ahead_of_end, is_ended_path}
 use Rattle.portal_model.specs.Bus.{is_tree, moment_given}
-use Rattle.portal_model.specs.Content.{Content}
 use Rattle.portal_model.specs.Grant.{are_rights_arguments, may_grant}
 use Rattle.portal_model.specs.Revoke.{may_revoke}
 use Rattle.portal_model.specs.Walk.{Walk, looks_at_all, walked}
@@ -31,9 +30,9 @@ use Rattle.app_world.specs.Own.{Own}
 use Rattle.app_world.specs.OwnVerdict.{OwnVerdict, OwnDoes, OwnRefuses, own_reached, own_unless}
 use Rattle.app_world.specs.Present.{own_present, own_present_path, own_queue_path, own_with_queue}
 use Rattle.app_world.specs.Revoke.{own_revoke_reached, own_revoked}
-use Rattle.app_world.specs.View.{AppView, HeldDocument, OwnConnection}
-use Rattle.connection_laws.specs.Blinded.{blind_at, blind_but}
-use Rattle.connection_laws.proofs.BlindedViews.{apply-same, seen_pair, view-twice}
+use Rattle.app_world.specs.View.{AppView, HeldDocument, Holding, OwnConnection}
+use Rattle.connection_laws.specs.Blinded.{blind_but}
+use Rattle.connection_laws.proofs.BlindedViews.{apply-same, blind_holding, seen_pair, view-twice}
 
 module _ (sees : FileName → Bool) where
   abbrev seen_verdict : OwnVerdict → OwnVerdict
@@ -63,11 +62,11 @@ module _ (sees : FileName → Bool) where
   abbrev seen_added : OwnAdded → OwnAdded
   seen_added done = record done { view = blind_but sees done.view }
 
-  module _ (a : AddRequest) (content other : List ℕ → Content) (alike : (path : List ℕ) → blind_at sees path (content path) ≡ blind_at sees path (other path)) where
+  module _ (a : AddRequest) (content other : List ℕ → Holding) (alike : (path : List ℕ) → blind_holding sees path (content path) ≡ blind_holding sees path (other path)) where
     use-same : (path : List ℕ) (x y : OwnAdded) (o : Option DocId) → seen_added x ≡ seen_added y → seen_added (own_use_document a content path x o) ≡ seen_added (own_use_document a other path y o)
     use-same path x y (Some id) h =
         let gained : blind_but sees (apply x.view (Gained (new_document a id path) (adding_rights a) (content path))) ≡ blind_but sees (apply y.view (Gained (new_document a id path) (adding_rights a) (other path))) =
-        apply-same sees x.view y.view (Gained (new_document a id path) (adding_rights a) (content path)) (Gained (new_document a id path) (adding_rights a) (other path)) (ap (λ (d : OwnAdded). d.view) h) (ap (λ (c : Content). Gained (new_document a id path) (adding_rights a) c) (alike path)) in
+        apply-same sees x.view y.view (Gained (new_document a id path) (adding_rights a) (content path)) (Gained (new_document a id path) (adding_rights a) (other path)) (ap (λ (d : OwnAdded). d.view) h) (ap (λ (c : Holding). Gained (new_document a id path) (adding_rights a) c) (alike path)) in
         λ i. record (own_use_document a content path (h i) (Some id)) { view = gained i }
     use-same path x y None h =
         let gained : blind_but sees (apply x.view (Gained (new_document a (first_number x.numbers) path) (adding_rights a) (content path))) ≡ blind_but sees (apply y.view (Gained (new_document a (first_number y.numbers) path) (adding_rights a) (other path))) =
@@ -91,7 +90,7 @@ module _ (sees : FileName → Bool) where
 
   -- ---- one request
 
-  module _ (v : AppView) (c : OwnConnection) (own : Own) (more : List Content) where
+  module _ (v : AppView) (c : OwnConnection) (own : Own) (more : List Holding) where
     abbrev b : AppView
     b = blind_but sees v
 
@@ -148,7 +147,7 @@ module _ (sees : FileName → Bool) where
     may-same : (a : AddRequest) (fs : List OwnFile) → own_may_list_all b a fs ≡ own_may_list_all v a fs
     may-same a fs = λ i. names_nobody a || list_all (λ (f : OwnFile). is_left_out a f.path || contains (then-same a f.again i) (rights_named a.names)) fs
 
-    module _ (a : AddRequest) (alike : (path : List ℕ) → blind_at sees path (content_shown (paths_shown c.queue a) more path) ≡ blind_at sees path (content_shown (paths_shown c.queue a) own.shown path))
+    module _ (a : AddRequest) (alike : (path : List ℕ) → blind_holding sees path (content_shown (paths_shown c.queue a) more path) ≡ blind_holding sees path (content_shown (paths_shown c.queue a) own.shown path))
         (looks-same : own_looks told ≡ own_looks own) where
       -- where nothing was added yet
       abbrev started : AppView → OwnAdded
@@ -160,7 +159,7 @@ module _ (sees : FileName → Bool) where
           (started b) (started v) (λ i. record (started v) { view = taken-same a i })
 
       shown-same : (now : ℕ) (failed : Bool) (ls looks : List Look) → image (walked (own_add_shown b c a told ls) now looks failed) ≡ image (walked (own_add_shown v c a own ls) now looks failed)
-      shown-same now failed ls looks = ap Some (unless-same (not (are_of_kind a ls)) code.InvalidArgument (own_added (own_added_files b c a told)) (own_added (own_added_files v c a own)) (ap (λ (d : OwnAdded). own_added d) added-same))
+      shown-same now failed ls looks = ap Some (unless-same (not (are_of_kind a (paths_shown c.queue a) ls)) code.InvalidArgument (own_added (own_added_files b c a told)) (own_added (own_added_files v c a own)) (ap (λ (d : OwnAdded). own_added d) added-same))
 
       walk-same : (now : ℕ) (looks : List Look) (failed : Bool) → image (walked (own_add b c a told) now looks failed) ≡ image (walked (own_add v c a own) now looks failed)
       walk-same now looks failed =
@@ -177,7 +176,7 @@ module _ (sees : FileName → Bool) where
     -- what is shown is as much of this
     abbrev pub ShownAlike : Request → Type 0
     ShownAlike (Request.Add a) =
-        ((path : List ℕ) → blind_at sees path (content_shown (paths_shown c.queue a) more path) ≡ blind_at sees path (content_shown (paths_shown c.queue a) own.shown path))
+        ((path : List ℕ) → blind_holding sees path (content_shown (paths_shown c.queue a) more path) ≡ blind_holding sees path (content_shown (paths_shown c.queue a) own.shown path))
         × (own_looks told ≡ own_looks own)
     ShownAlike request = Unit {0}
 

@@ -17,20 +17,21 @@ use Rattle.portal_model.specs.Bus.{is_tree, moment_given}
 use Rattle.portal_model.specs.Content.{Content, OfFile, look_of}
 use Rattle.portal_model.specs.Errno.{eacces, ebadf, einval}
 use Rattle.portal_model.specs.Node.{NodeFacts, node_walk}
-use Rattle.portal_model.specs.NodeVerdict.{FileChange, FilesStay, Writes, Resizes, Creates, NodeDoing, NodeVerdict, Errs, Yields, errs_if}
+use Rattle.portal_model.specs.Ordered.{put}
+use Rattle.portal_model.specs.NodeVerdict.{FileChange, FilesStay, Writes, Resizes, Creates, HandleChange, HandlesStay, Opens, Closes, NodeDoing, NodeVerdict, Errs, Yields, errs_if}
 use Rattle.portal_model.specs.Place.{id_of_node, place_named}
 use Rattle.portal_model.specs.SeatNames.{naming_of}
 use Rattle.portal_model.specs.Reach.{Reaching, may_read_now, open_file_of}
 use Rattle.portal_model.specs.Read.{read, read_limit, read_name}
-use Rattle.portal_model.specs.Walk.{Walk, Answers, Looks, Ends, Lists, Target, AtPath, Named, LastCall, Uses, Changes, Makes, walked}
+use Rattle.portal_model.specs.Walk.{Walk, Answers, Looks, Ends, Lists, Target, AtPath, Named, LastCall, Uses, Changes, Makes, walked_with}
 use Rattle.portal_model.proofs.ListLookups.{is_same-refl}
-use Rattle.app_world.specs.Effect.{Bytes}
-use Rattle.app_world.specs.Node.{bytes_effects, own_connections_then, own_facts, own_handle_of, own_node_answer, own_node_done, own_node_given, own_reach, own_settled_on_node, own_sight_at, own_walk}
+use Rattle.app_world.specs.Effect.{Bytes, with_content}
+use Rattle.app_world.specs.Node.{bytes_effects, own_connections_then, own_facts, own_handle_of, own_node_answer, own_node_done, own_node_given, own_reach, own_settled_on_node, own_sight_at, own_walk, with_handles}
 use Rattle.app_world.specs.Own.{Own}
-use Rattle.app_world.specs.Shown.{is_file, is_place, own_bytes, own_content, own_file, own_found, own_looks, own_shown_at, succeeding}
-use Rattle.app_world.specs.View.{AppView, OwnConnection, OwnHandle, found_connection, names}
+use Rattle.app_world.specs.Shown.{is_file, is_place, own_bytes, own_content, own_file, own_found, own_listed, own_looks, own_shown_at, succeeding}
+use Rattle.app_world.specs.View.{AppView, OwnConnection, OwnHandle, ahead, found_connection, found_content, knows, prune}
 use Rattle.connection_laws.specs.Blinded.{blind_but, reads, reads_connection, reads_handle}
-use Rattle.connection_laws.proofs.BlindedViews.{apply_all-same, blind-same, blind_effect, connections-same, content-blind, file-blind, look-blind, own_bytes-long, own_bytes-seen, own_file-blind, place-blind, seen_pair, view-twice}
+use Rattle.connection_laws.proofs.BlindedViews.{apply_all-same, blind-same, blind_effect, connections-same, content-blind, file-blind, gained-blind, listed-blind, look-blind, own_bytes-long, own_bytes-seen, own_file-blind, place-blind, seen_pair, view-twice}
 
 -- ---- what is read is in sight
 
@@ -107,6 +108,12 @@ module _ (sees : FileName → Bool) (v : AppView) where
   looks-blind (Ends call done missing) = ap (λ (x : Bool). cond x [] (Look.Missing ∷ [])) (found-at call)
   looks-blind (Lists path done missing) = refl
 
+  listed-at : (w : Walk NodeVerdict) → own_listed b w ≡ own_listed v w
+  listed-at (Answers x) = refl
+  listed-at (Looks target next) = ap (λ (look : Look). own_listed b (next look)) (shown-at target) ∙ listed-at (next (own_shown_at v target))
+  listed-at (Ends call done missing) = refl
+  listed-at (Lists path done missing) = listed-blind sees v.below path
+
   -- ---- the walk
 
   sight-at : (naming : Option Naming) (p : Option Place) → own_sight_at b naming p ≡ own_sight_at v naming p
@@ -154,15 +161,30 @@ module _ (sees : FileName → Bool) (v : AppView) where
   effects-blind FilesStay = refl
   effects-blind (Writes name offset [] now) = refl
   effects-blind (Writes name offset (x ∷ xs) now) =
-      effect-same name (overlaid (own_bytes b name) offset (x ∷ xs)) (overlaid (own_bytes v name) offset (x ∷ xs)) now (names v name.path)
+      effect-same name (overlaid (own_bytes b name) offset (x ∷ xs)) (overlaid (own_bytes v name) offset (x ∷ xs)) now (knows v name.path)
       (λ e. ap (λ (bytes : List ℕ). overlaid bytes offset (x ∷ xs)) (own_bytes-seen sees v name e)) (overlaid-long offset (x ∷ xs) _ _ (own_bytes-long sees v name))
   effects-blind (Resizes name size now) =
-      effect-same name (cut_to size (own_bytes b name)) (cut_to size (own_bytes v name)) now (names v name.path)
+      effect-same name (cut_to size (own_bytes b name)) (cut_to size (own_bytes v name)) now (knows v name.path)
       (λ e. ap (cut_to size) (own_bytes-seen sees v name e)) (cut-long size _ _ (own_bytes-long sees v name))
   effects-blind (Creates path now) = refl
 
+  -- with the path of a file that is opened
+  handles-blind : (change : HandleChange) → with_handles change b ≡ blind_but sees (with_handles change v)
+  handles-blind HandlesStay = refl
+  handles-blind (Opens (Handle.File name node document strict read write)) = λ i. record b {
+    contents =
+        (ap (λ (content : Content). put ahead (with_content name.path content (found_content b.contents name.path)) b.contents) (content-blind sees v name.path)
+        ∙ gained-blind sees name.path (own_content v name.path) v.contents) i;
+  }
+  handles-blind (Opens (Handle.Folder node entries)) = refl
+  handles-blind (Closes fh) = refl
+
   done-blind : (c : OwnConnection) (d : NodeDoing) → blind_but sees (own_node_done b c d) ≡ blind_but sees (own_node_done v c d)
-  done-blind c d = apply_all-same sees _ _ _ _ (connections-same sees v (own_connections_then c d v.connections)) (effects-blind d.file)
+  done-blind c d =
+      let cs : List OwnConnection = own_connections_then c d v.connections in
+      apply_all-same sees _ _ _ _
+      (ap (λ (x : AppView). blind_but sees (prune (record x { connections = cs }))) (handles-blind d.handle) ∙ connections-same sees (with_handles d.handle v) cs)
+      (effects-blind d.file)
 
   settled-blind : (c : OwnConnection) (o : Option NodeVerdict) → seen_pair sees (own_settled_on_node b c o) ≡ seen_pair sees (own_settled_on_node v c o)
   settled-blind c None = ap (λ (x : AppView). own_settled_on_node x c None) (view-twice sees v)
@@ -170,7 +192,7 @@ module _ (sees : FileName → Bool) (v : AppView) where
   settled-blind c (Some (Yields d)) = λ i. (done-blind c d i, Answer.Node d.answer)
 
   given-blind : (w : Walk NodeVerdict) (own : Own) → own_node_given b w own ≡ own_node_given v w own
-  given-blind w own = ap (λ (looks : List Look). walked w (moment_given own.now) (succeeding own.fault own.looks looks) (is_tree own.fault)) (looks-blind w)
+  given-blind w own = λ i. walked_with w (moment_given own.now) (listed-at w i) (succeeding own.fault own.looks (looks-blind w i)) (is_tree own.fault)
 
   pub node-blind : (c : OwnConnection) (seat : ℕ) → found_connection v.connections seat ≡ Some c → ((name : FileName) → reads v name ≡ true → sees name ≡ true) →
       (r : NodeRequest) (own : Own) → seen_pair sees (own_node_answer b c r own) ≡ seen_pair sees (own_node_answer v c r own)

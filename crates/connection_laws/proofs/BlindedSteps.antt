@@ -3,6 +3,7 @@
 use Rattle.std.proofs.Common.{◌≡◌, ℕ, zero, suc, List, [], ◌∷◌, ◌++◌, length, map, take, replicate, Bool, true, false, cond, Option, Some, None, refl, sym, ap, ◌∙◌}
 use Rattle.std.proofs.lemmas.List.{length-replicate}
 use Rattle.portal_base.specs.Names.{is_same}
+use Rattle.portal_base.specs.declared.files.File.{File}
 use Rattle.portal_base.specs.declared.files.FileName.{FileName}
 use Rattle.portal_base.specs.declared.files.Look.{Look}
 use Rattle.portal_model.specs.declared.reply.Answer.{Answer}
@@ -13,22 +14,23 @@ use Rattle.portal_model.specs.declared.request.Request.{Request}
 use Rattle.portal_model.specs.AddArguments.{paths_shown}
 use Rattle.portal_model.specs.Content.{Content, OfFile, OfFolder, NotThere, look_of}
 use Rattle.portal_model.specs.Step.{is_mount, reply_with, with_signals}
-use Rattle.app_world.specs.Add.{content_shown}
+use Rattle.app_world.specs.Add.{content_shown, look_of_holding}
 use Rattle.app_world.specs.Bus.{own_bus_step}
 use Rattle.app_world.specs.Enter.{own_enter}
 use Rattle.app_world.specs.Leave.{own_leave, own_left}
 use Rattle.app_world.specs.Own.{Own}
-use Rattle.app_world.specs.View.{AppView, OwnConnection, PathContent, found_connection}
+use Rattle.app_world.specs.Effect.{file_of as file_made}
+use Rattle.app_world.specs.View.{Alone, AppView, Below, Holding, OwnConnection, PathBelow, PathContent, found_connection}
 use Rattle.app_world.specs.World.{app_step, own_bus, own_collect_step, own_mount_of, own_node_step, own_request_step}
-use Rattle.connection_laws.specs.Blinded.{blind_at, blind_but, blind_content, blinded, file_of, hidden, nothing, own_blinded, reads}
-use Rattle.connection_laws.specs.Unread.{with_file}
+use Rattle.connection_laws.specs.Blinded.{blind_at, blind_below, blind_but, blind_content, blind_file, blinded, file_of, hidden, hidden_file, hidden_holding, nothing, own_blinded, reads}
+use Rattle.connection_laws.specs.Unread.{with_file, with_file_below}
 use Rattle.connection_laws.proofs.BlindedBuses.{ShownAlike, answer-same}
 use Rattle.connection_laws.proofs.BlindedNodes.{node-blind}
-use Rattle.connection_laws.proofs.BlindedViews.{blind-same, connections-same, seen_pair, view-twice}
+use Rattle.connection_laws.proofs.BlindedViews.{blind-same, blind_holding, connections-same, seen_pair, view-twice}
 
 -- ---- a request of one kind
 
-module _ (sees : FileName → Bool) (v : AppView) (own : Own) (more : List Content) where
+module _ (sees : FileName → Bool) (v : AppView) (own : Own) (more : List Holding) where
   abbrev b : AppView
   b = blind_but sees v
 
@@ -92,31 +94,51 @@ hidden-twice (OfFile g bytes moment) = ap (λ (n : ℕ). OfFile g (replicate n 0
 hidden-twice OfFolder = refl
 hidden-twice (NotThere room) = refl
 
+pub file-hidden-twice : (f : File) → hidden_file (hidden_file f) ≡ hidden_file f
+file-hidden-twice f = ap (λ (n : ℕ). record f { bytes = replicate n 0 }) (length-replicate (length f.bytes) 0)
+
+pub files-hidden-twice : (fs : List File) → map hidden_file (map hidden_file fs) ≡ map hidden_file fs
+files-hidden-twice [] = refl
+files-hidden-twice (f ∷ fs) = λ i. file-hidden-twice f i ∷ files-hidden-twice fs i
+
+pub holding-is : (path : List ℕ) (h : Holding) → blind_holding nothing path h ≡ hidden_holding h
+holding-is path (Alone c) = ap Alone (hidden-is path c)
+holding-is path (Below files) = refl
+
+pub holding-twice : (h : Holding) → hidden_holding (hidden_holding h) ≡ hidden_holding h
+holding-twice (Alone c) = ap Alone (hidden-twice c)
+holding-twice (Below files) = ap Below (files-hidden-twice files)
+
 hidden-look : (c : Content) → look_of (hidden c) ≡ look_of c
 hidden-look (OfFile g bytes moment) = ap (λ (n : ℕ). Look.File g n moment) (length-replicate (length bytes) 0)
 hidden-look OfFolder = refl
 hidden-look (NotThere room) = refl
 
-shown-hidden : (ps : List (List ℕ)) (cs : List Content) (path : List ℕ) → content_shown ps (map hidden cs) path ≡ hidden (content_shown ps cs path)
+holding-look : (h : Holding) → look_of_holding (hidden_holding h) ≡ look_of_holding h
+holding-look (Alone c) = hidden-look c
+holding-look (Below files) = refl
+
+shown-hidden : (ps : List (List ℕ)) (cs : List Holding) (path : List ℕ) → content_shown ps (map hidden_holding cs) path ≡ hidden_holding (content_shown ps cs path)
 shown-hidden [] cs path = refl
 shown-hidden (p ∷ ps) [] path = refl
 shown-hidden (p ∷ ps) (c ∷ cs) path = by_path (is_same p path) (shown-hidden ps cs path)
   where
-    by_path : (x : Bool) → content_shown ps (map hidden cs) path ≡ hidden (content_shown ps cs path) → cond x (hidden c) (content_shown ps (map hidden cs) path) ≡ hidden (cond x c (content_shown ps cs path))
+    by_path : (x : Bool) → content_shown ps (map hidden_holding cs) path ≡ hidden_holding (content_shown ps cs path) → cond x (hidden_holding c) (content_shown ps (map hidden_holding cs) path) ≡ hidden_holding (cond x c (content_shown ps cs path))
     by_path true e = refl
     by_path false e = e
 
-looks-hidden : (n : ℕ) (cs : List Content) → map look_of (take n (map hidden cs)) ≡ map look_of (take n cs)
+looks-hidden : (n : ℕ) (cs : List Holding) → map look_of_holding (take n (map hidden_holding cs)) ≡ map look_of_holding (take n cs)
 looks-hidden n [] = refl
 looks-hidden zero (c ∷ cs) = refl
-looks-hidden (suc n) (c ∷ cs) = λ i. hidden-look c i ∷ looks-hidden n cs i
+looks-hidden (suc n) (c ∷ cs) = λ i. holding-look c i ∷ looks-hidden n cs i
 
-shown-alike : (ps : List (List ℕ)) (cs : List Content) (path : List ℕ) → blind_at nothing path (content_shown ps (map hidden cs) path) ≡ blind_at nothing path (content_shown ps cs path)
-shown-alike ps cs path =
-    let c : Content = content_shown ps cs path in
-    ap (blind_at nothing path) (shown-hidden ps cs path) ∙ (hidden-is path (hidden c) ∙ (hidden-twice c ∙ sym (hidden-is path c)))
+pub holding-alike : (path : List ℕ) (h : Holding) → blind_holding nothing path (hidden_holding h) ≡ blind_holding nothing path h
+holding-alike path h = holding-is path (hidden_holding h) ∙ (holding-twice h ∙ sym (holding-is path h))
 
-hidden-alike : (v : AppView) (own : Own) (c : OwnConnection) (request : Request) → ShownAlike nothing v c own (map hidden own.shown) request
+shown-alike : (ps : List (List ℕ)) (cs : List Holding) (path : List ℕ) → blind_holding nothing path (content_shown ps (map hidden_holding cs) path) ≡ blind_holding nothing path (content_shown ps cs path)
+shown-alike ps cs path = ap (blind_holding nothing path) (shown-hidden ps cs path) ∙ holding-alike path (content_shown ps cs path)
+
+hidden-alike : (v : AppView) (own : Own) (c : OwnConnection) (request : Request) → ShownAlike nothing v c own (map hidden_holding own.shown) request
 hidden-alike v own c (Request.Add a) = (λ path. shown-alike (paths_shown c.queue a) own.shown path, looks-hidden own.looks own.shown)
 hidden-alike v own c (Request.Present path) = tt
 hidden-alike v own c (Request.Grant call) = tt
@@ -162,8 +184,19 @@ none_left_in : (sees : FileName → Bool) (cs : List PathContent) → map (blind
 none_left_in sees [] = refl
 none_left_in sees (c ∷ cs) = λ i. record c { content = none_left sees c.path c.content i } ∷ none_left_in sees cs i
 
+none_left_file : (sees : FileName → Bool) (f : File) → hidden_file (blind_file sees f) ≡ hidden_file f
+none_left_file sees f = elim (sees (file_of f.path f.generation)) as (λ x. hidden_file (cond x f (hidden_file f)) ≡ hidden_file f) [ true ↦ refl | false ↦ file-hidden-twice f ]
+
+none_left_files : (sees : FileName → Bool) (fs : List File) → map (blind_file nothing) (map (blind_file sees) fs) ≡ map (blind_file nothing) fs
+none_left_files sees [] = refl
+none_left_files sees (f ∷ fs) = λ i. none_left_file sees f i ∷ none_left_files sees fs i
+
+none_below : (sees : FileName → Bool) (bs : List PathBelow) → map (blind_below nothing) (map (blind_below sees) bs) ≡ map (blind_below nothing) bs
+none_below sees [] = refl
+none_below sees (b ∷ bs) = λ i. record b { files = none_left_files sees b.files i } ∷ none_below sees bs i
+
 pub all-blind : (sees : FileName → Bool) (v : AppView) → blind_but nothing (blind_but sees v) ≡ blind_but nothing v
-all-blind sees v = λ i. record v { contents = none_left_in sees v.contents i }
+all-blind sees v = λ i. record v { contents = none_left_in sees v.contents i; below = none_below sees v.below i }
 
 -- by a pair that is blind to more
 more-blind : (sees : FileName → Bool) (p q : AppView × Reply) → seen_pair sees p ≡ seen_pair sees q → seen_pair nothing p ≡ seen_pair nothing q
@@ -176,16 +209,16 @@ module _ (v : AppView) (own : Own) where
   abbrev blind_own : Own
   blind_own = own_blinded own
 
-  by-bus : (request : Request) → ((x : AppView) (c : OwnConnection) → ShownAlike nothing x c own (map hidden own.shown) request) → ((x : AppView) (c : OwnConnection) → ShownAlike nothing x c blind_own blind_own.shown request) →
-      ((x : AppView) (k : Own) (more : List Content) → ((c : OwnConnection) → ShownAlike nothing x c k more request) → seen_pair nothing (own_request_step (blind_but nothing x) (record k { shown = more }) request) ≡ seen_pair nothing (own_request_step x k request)) →
+  by-bus : (request : Request) → ((x : AppView) (c : OwnConnection) → ShownAlike nothing x c own (map hidden_holding own.shown) request) → ((x : AppView) (c : OwnConnection) → ShownAlike nothing x c blind_own blind_own.shown request) →
+      ((x : AppView) (k : Own) (more : List Holding) → ((c : OwnConnection) → ShownAlike nothing x c k more request) → seen_pair nothing (own_request_step (blind_but nothing x) (record k { shown = more }) request) ≡ seen_pair nothing (own_request_step x k request)) →
       seen_pair nothing (own_request_step (blinded v) blind_own request) ≡ seen_pair nothing (own_request_step v own request)
   by-bus request shown same step =
       sym (step (blinded v) blind_own blind_own.shown (same (blinded v)))
       ∙ (ap (λ (x : AppView). seen_pair nothing (own_request_step x blind_own request)) (all-blind (reads v) v)
-      ∙ step v own (map hidden own.shown) (shown v))
+      ∙ step v own (map hidden_holding own.shown) (shown v))
 
   pub pair-blinded : (request : Request) → seen_pair nothing (own_request_step (blinded v) blind_own request) ≡ seen_pair nothing (own_request_step v own request)
-  pair-blinded (Request.Node r) = more-blind (reads v) _ _ (step-same (reads v) v own (map hidden own.shown) (Request.Node r) (λ name e. e))
+  pair-blinded (Request.Node r) = more-blind (reads v) _ _ (step-same (reads v) v own (map hidden_holding own.shown) (Request.Node r) (λ name e. e))
   pair-blinded (Request.Present path) = by-bus (Request.Present path) (λ x c. hidden-alike x own c (Request.Present path)) (λ x c. same-alike nothing x blind_own c (Request.Present path)) (λ x k more h. step-same nothing x k more (Request.Present path) h)
   pair-blinded (Request.Add a) = by-bus (Request.Add a) (λ x c. hidden-alike x own c (Request.Add a)) (λ x c. same-alike nothing x blind_own c (Request.Add a)) (λ x k more h. step-same nothing x k more (Request.Add a) h)
   pair-blinded (Request.Grant call) = by-bus (Request.Grant call) (λ x c. hidden-alike x own c (Request.Grant call)) (λ x c. same-alike nothing x blind_own c (Request.Grant call)) (λ x k more h. step-same nothing x k more (Request.Grant call) h)
@@ -244,7 +277,28 @@ module _ (v : AppView) (name : FileName) (bytes other : List ℕ) (moment : ℕ)
 
   pub other-bytes : (front back : List PathContent) → blinded (with_file v front back name bytes moment) ≡ blinded (with_file v front back name other moment)
   other-bytes front back = λ i. record v {
+    below = map (blind_below (reads v)) v.below;
     contents =
         one_other (reads v) front back (record { path = name.path; content = OfFile name.generation bytes moment }) (record { path = name.path; content = OfFile name.generation other moment })
         (λ j. record { path = name.path; content = same-content j }) i;
   }
+
+  -- and so in a file below a folder
+  same-file : blind_file (reads v) (file_made name.path name.generation bytes moment) ≡ blind_file (reads v) (file_made name.path name.generation other moment)
+  same-file =
+      ap (λ (b : Bool). cond b (file_made name.path name.generation bytes moment) (hidden_file (file_made name.path name.generation bytes moment))) unread
+      ∙ (ap (λ (n : ℕ). file_made name.path name.generation (replicate n 0) moment) as_many
+      ∙ sym (ap (λ (b : Bool). cond b (file_made name.path name.generation other moment) (hidden_file (file_made name.path name.generation other moment))) unread))
+
+  one_file : (first last : List File) → map (blind_file (reads v)) (first ++ file_made name.path name.generation bytes moment ∷ last) ≡ map (blind_file (reads v)) (first ++ file_made name.path name.generation other moment ∷ last)
+  one_file [] last = λ i. same-file i ∷ map (blind_file (reads v)) last
+  one_file (f ∷ fs) last = λ i. blind_file (reads v) f ∷ one_file fs last i
+
+  one_folder : (front back : List PathBelow) (folder : List ℕ) (first last : List File) →
+      map (blind_below (reads v)) (front ++ record { path = folder; files = first ++ file_made name.path name.generation bytes moment ∷ last } ∷ back)
+      ≡ map (blind_below (reads v)) (front ++ record { path = folder; files = first ++ file_made name.path name.generation other moment ∷ last } ∷ back)
+  one_folder [] back folder first last = λ i. record { path = folder; files = one_file first last i } ∷ map (blind_below (reads v)) back
+  one_folder (b ∷ bs) back folder first last = λ i. blind_below (reads v) b ∷ one_folder bs back folder first last i
+
+  pub other-below : (front back : List PathBelow) (folder : List ℕ) (first last : List File) → blinded (with_file_below v front back folder first last name bytes moment) ≡ blinded (with_file_below v front back folder first last name other moment)
+  other-below front back folder first last = λ i. record v { contents = map (blind_content (reads v)) v.contents; below = one_folder front back folder first last i }

@@ -1,7 +1,10 @@
 -- The replies of the own machine over a blinded trace.
-use Rattle.std.proofs.Common.{◌≡◌, ℕ, ◌==◌, List, [], ◌∷◌, ◌++◌, length, map, replicate, Bool, true, false, ◌&&◌, ◌||◌, cond, refl, sym, ap, subst, ◌∙◌}
-use Rattle.std.specs.List.{flat_map}
+use Rattle.std.proofs.Common.{◌≡◌, ℕ, ◌==◌, List, [], ◌∷◌, ◌++◌, append_assoc, length, map, replicate, Bool, true, false, ◌&&◌, ◌||◌, cond, Option, Some, None, is_some, refl, sym, ap, subst, ◌∙◌}
+use Rattle.std.specs.List.{AllByRecursion, filter, flat_map, list_all}
+use Rattle.std.specs.Option.{option_map}
 use Rattle.std.proofs.lemmas.List.{length-replicate}
+use Rattle.portal_base.specs.Content.{content_of, file_at, has_room, is_folder, is_named}
+use Rattle.portal_base.specs.FileChanges.{change_named}
 use Rattle.portal_base.specs.Names.{is_same}
 use Rattle.portal_base.specs.declared.files.File.{File}
 use Rattle.portal_base.specs.declared.files.FileName.{FileName}
@@ -10,7 +13,8 @@ use Rattle.portal_model.specs.declared.reply.Reply.{Reply}
 use Rattle.portal_model.specs.Content.{Content, OfFile, OfFolder, NotThere, content_at}
 use Rattle.portal_model.specs.History.{EachLawful, makes, replies}
 use Rattle.portal_model.specs.Lawful.{Lawful}
-use Rattle.portal_model.specs.Ordered.{put}
+use Rattle.portal_model.specs.Ordered.{bytes_less, is_rising, put, put_all}
+use Rattle.portal_model.proofs.DocumentChanges.{both, first_of_both, second_of_both}
 use Rattle.portal_model.specs.State.{State, held_of}
 use Rattle.portal_model.specs.Step.{after, reply_at}
 use Rattle.portal_model.specs.Valid.{Valid}
@@ -18,20 +22,23 @@ use Rattle.portal_model.proofs.ListLookups.{is_same-eq, is_same-refl}
 use Rattle.portal_model.proofs.StaysTold.{step_told}
 use Rattle.portal_model.proofs.ValidLaws.{after-Valid}
 use Rattle.app_world.specs.Effect as effect
-use Rattle.app_world.specs.Effect.{Effect, Bytes, apply, apply_all, changed, changed_content, with_bytes}
+use Rattle.app_world.specs.Effect.{Effect, Bytes, apply, apply_all, changed_content, with_bytes, with_bytes_below, with_content_of, with_file, with_first}
 use Rattle.app_world.specs.Own.{Own}
 use Rattle.app_world.specs.TraceItem as item
 use Rattle.app_world.specs.TraceItem.{TraceItem, item_of}
-use Rattle.app_world.specs.View.{AppView, PathContent, ahead, contents_at, named_paths, own_connections, path_content, prune, view}
+use Rattle.app_world.specs.View.{AppView, Holding, PathBelow, PathContent, ahead, below_ahead, below_at, file_ahead, files_below, folder_paths, is_at_or_below, path_below, contents_at, named_paths, own_connections, path_content, prune, view}
 use Rattle.app_world.specs.World.{app_step, own_of, own_replies, touch}
+use Rattle.app_world.proofs.BelowLaws.{below-file, below-in-order, file_path, file_then, found-with_file, rising-with_file}
+use Rattle.app_world.proofs.Found.{told-apart}
 use Rattle.app_world.proofs.HandleChangeLaws.{prune-named}
+use Rattle.app_world.proofs.Orders.{paths}
 use Rattle.app_world.proofs.WorldLaws.{steps}
-use Rattle.connection_laws.specs.Blinded.{blind_at, blind_but, blind_content, blinded, file_of, hidden, nothing, own_blinded, reads}
-use Rattle.connection_laws.specs.BlindedTrace.{blinded_effects, blinded_items, hidden_effect, sight_at, sights}
+use Rattle.connection_laws.specs.Blinded.{blind_at, blind_below, blind_but, blind_content, blind_file, blinded, file_of, hidden, hidden_file, hidden_holding, nothing, own_blinded, reads}
+use Rattle.connection_laws.specs.BlindedTrace.{blinded_effects, blinded_items, hidden_effect, sight_at, sight_of, sights}
 use Rattle.connection_laws.specs.Unread.{BlindedStepsAreSeen, IsOwnEntry, RepliesAreOfTheBlindedTrace}
-use Rattle.connection_laws.proofs.BlindedViews.{apply-blind, apply_all-same, blind_effect, view-twice}
+use Rattle.connection_laws.proofs.BlindedViews.{apply-blind, apply_all-same, blind_effect, file-found, path-kept, view-twice}
 use Rattle.connection_laws.proofs.BlindedNodes.{itself}
-use Rattle.connection_laws.proofs.BlindedSteps.{all-blind, hidden-is, hidden-twice, pair-blinded, same-reply}
+use Rattle.connection_laws.proofs.BlindedSteps.{all-blind, file-hidden-twice, hidden-is, hidden-twice, holding-alike, holding-twice, pair-blinded, same-reply}
 
 -- ---- one file comes into sight
 
@@ -46,6 +53,18 @@ or-false false = refl
 or-true : (x : Bool) → (x || true) ≡ true
 or-true true = refl
 or-true false = refl
+
+-- each file of a folder lies at or below it
+abbrev is_placed : PathBelow → Bool
+is_placed b = list_all (λ (f : File). is_at_or_below b.path f.path) b.files
+
+placed-kept : (sees : FileName → Bool) (bs : List PathBelow) → list_all is_placed (map (blind_below sees) bs) ≡ list_all is_placed bs
+placed-kept sees [] = refl
+placed-kept sees (b ∷ bs) = λ i. all_kept b.files i && placed-kept sees bs i
+  where
+    all_kept : (fs : List File) → list_all (λ (f : File). is_at_or_below b.path f.path) (map (blind_file sees) fs) ≡ list_all (λ (f : File). is_at_or_below b.path f.path) fs
+    all_kept [] = refl
+    all_kept (f ∷ fs) = λ i. is_at_or_below b.path (path-kept sees f i) && all_kept fs i
 
 module _ (sees : FileName → Bool) (path : List ℕ) (generation : ℕ) (bytes : List ℕ) (moment : ℕ) where
   abbrev fresh : Content
@@ -93,21 +112,106 @@ module _ (sees : FileName → Bool) (path : List ℕ) (generation : ℕ) (bytes 
   all-same [] = refl
   all-same (c ∷ cs) = λ i. one-same c i ∷ all-same cs i
 
+  -- ---- below folders
+
+  abbrev name : FileName
+  name = record { path = path; generation = generation }
+
+  named-kept : (t : FileName → Bool) (x : File) → is_named name (blind_file t x) ≡ is_named name x
+  named-kept t x = elim (t (file_of x.path x.generation)) as (λ b. is_named name (cond b x (hidden_file x)) ≡ is_named name x) [ true ↦ refl | false ↦ refl ]
+
+  -- any other file is in sight as before
+  same-elsewhere : (x : File) → is_named name x ≡ false → blind_file wide x ≡ blind_file sees x
+  same-elsewhere x e =
+      ap (λ (b : Bool). cond (sees (file_of x.path x.generation) || b) x (hidden_file x)) e
+      ∙ ap (λ (b : Bool). cond b x (hidden_file x)) (or-false (sees (file_of x.path x.generation)))
+
+  renewed : (FileName → Bool) → File → File
+  renewed t x = cond (is_named name (blind_file t x)) (with_content_of fresh (blind_file t x)) (blind_file t x)
+
+  one-file : (x : File) → renewed wide x ≡ renewed sees x
+  one-file x =
+      ap (λ (b : Bool). cond b (with_content_of fresh (blind_file wide x)) (blind_file wide x)) (named-kept wide x)
+      ∙ (by_name (is_named name x) refl
+      ∙ sym (ap (λ (b : Bool). cond b (with_content_of fresh (blind_file sees x)) (blind_file sees x)) (named-kept sees x)))
+    where
+      by_name : (b : Bool) → is_named name x ≡ b → cond b (with_content_of fresh (blind_file wide x)) (blind_file wide x) ≡ cond b (with_content_of fresh (blind_file sees x)) (blind_file sees x)
+      by_name true e = λ i. record { path = (path-kept wide x ∙ sym (path-kept sees x)) i; generation = generation; bytes = bytes; moment = moment }
+      by_name false e = same-elsewhere x e
+
+  renewed-same : (fs : List File) → change_named name (with_content_of fresh) (map (blind_file wide) fs) ≡ change_named name (with_content_of fresh) (map (blind_file sees) fs)
+  renewed-same [] = refl
+  renewed-same (x ∷ xs) = λ i. one-file x i ∷ renewed-same xs i
+
+  none-here : (fs : List File) → file_at fs path ≡ None → map (blind_file wide) fs ≡ map (blind_file sees) fs
+  none-here [] e = refl
+  none-here (x ∷ xs) e = by_path (is_same x.path path) refl e
+    where
+      by_path : (b : Bool) → is_same x.path path ≡ b → cond b (Some x) (file_at xs path) ≡ None → blind_file wide x ∷ map (blind_file wide) xs ≡ blind_file sees x ∷ map (blind_file sees) xs
+      by_path true k g = cc
+      by_path false k g = λ i. same-elsewhere x (ap (λ (b : Bool). b && x.generation == generation) k) i ∷ none-here xs g i
+
+  some-kept : (t : FileName → Bool) (fs : List File) → is_some (file_at (map (blind_file t) fs) path) ≡ is_some (file_at fs path)
+  some-kept t fs = ap is_some (file-found t path fs) ∙ by_file (file_at fs path)
+    where
+      by_file : (o : Option File) → is_some (option_map (blind_file t) o) ≡ is_some o
+      by_file None = refl
+      by_file (Some f) = refl
+
+  abbrev then_files : Bool → List File → List File
+  then_files b fs = cond b (change_named name (with_content_of fresh) fs) (cond (generation == 0) (with_first path fresh fs) fs)
+
+  files-same : (fs : List File) → with_file path generation fresh (map (blind_file wide) fs) ≡ with_file path generation fresh (map (blind_file sees) fs)
+  files-same fs =
+      ap (λ (b : Bool). then_files b (map (blind_file wide) fs)) (some-kept wide fs)
+      ∙ (by_there (file_at fs path) refl
+      ∙ sym (ap (λ (b : Bool). then_files b (map (blind_file sees) fs)) (some-kept sees fs)))
+    where
+      by_there : (o : Option File) → file_at fs path ≡ o → then_files (is_some o) (map (blind_file wide) fs) ≡ then_files (is_some o) (map (blind_file sees) fs)
+      by_there (Some f) e = renewed-same fs
+      by_there None e = λ i. cond (generation == 0) (with_first path fresh (none-here fs e i)) (none-here fs e i)
+
+  others-same : (folder : List ℕ) (fs : List File) → list_all (λ (f : File). is_at_or_below folder f.path) fs ≡ true → is_at_or_below folder path ≡ false → map (blind_file wide) fs ≡ map (blind_file sees) fs
+  others-same folder [] h e = refl
+  others-same folder (x ∷ xs) h e =
+      λ i. same-elsewhere x (by_path (is_same x.path path) refl) i ∷ others-same folder xs (second_of_both (is_at_or_below folder x.path) (list_all (λ (f : File). is_at_or_below folder f.path) xs) h) e i
+    where
+      by_path : (b : Bool) → is_same x.path path ≡ b → (b && x.generation == generation) ≡ false
+      by_path true k =
+          let here : is_at_or_below folder x.path ≡ true = first_of_both (is_at_or_below folder x.path) (list_all (λ (f : File). is_at_or_below folder f.path) xs) h in
+          let no : true ≡ false = sym here ∙ (ap (is_at_or_below folder) (is_same-eq x.path path k) ∙ e) in
+          cc
+      by_path false k = refl
+
+  block-same : (b : PathBelow) → is_placed b ≡ true → with_bytes_below path generation fresh (blind_below wide b) ≡ with_bytes_below path generation fresh (blind_below sees b)
+  block-same b h = by_place (is_at_or_below b.path path) refl
+    where
+      by_place : (x : Bool) → is_at_or_below b.path path ≡ x →
+          cond x (record b { files = with_file path generation fresh (map (blind_file wide) b.files) }) (blind_below wide b) ≡ cond x (record b { files = with_file path generation fresh (map (blind_file sees) b.files) }) (blind_below sees b)
+      by_place true e = λ i. record b { files = files-same b.files i }
+      by_place false e = λ i. record b { files = others-same b.path b.files h e i }
+
+  blocks-same : (bs : List PathBelow) → list_all is_placed bs ≡ true → map (with_bytes_below path generation fresh) (map (blind_below wide) bs) ≡ map (with_bytes_below path generation fresh) (map (blind_below sees) bs)
+  blocks-same [] h = refl
+  blocks-same (b ∷ bs) h = λ i. block-same b (first_of_both (is_placed b) (list_all is_placed bs) h) i ∷ blocks-same bs (second_of_both (is_placed b) (list_all is_placed bs) h) i
+
   in_sight : wide (file_of path generation) ≡ true
   in_sight = ap (λ (b : Bool). sees (file_of path generation) || (b && generation == generation)) (is_same-refl path) ∙ (ap (λ (b : Bool). sees (file_of path generation) || b) (itself generation) ∙ or-true _)
 
   effect-is : blind_effect wide f ≡ f
   effect-is = ap (λ (b : Bool). Bytes path generation (cond b fresh (OfFile generation (replicate (length bytes) 0) moment))) in_sight
 
-  come-is : (x : AppView) → blind_but wide (apply x f) ≡ apply (blind_but sees x) f
-  come-is x =
+  come-is : (x : AppView) → list_all is_placed x.below ≡ true → blind_but wide (apply x f) ≡ apply (blind_but sees x) f
+  come-is x h =
       sym (apply-blind wide x f)
       ∙ (ap (apply (blind_but wide x)) effect-is
-      ∙ (λ i. prune (record x { contents = all-same x.contents i })))
+      ∙ (λ i. prune (record x { contents = all-same x.contents i; below = blocks-same x.below h i })))
 
   -- of a view in which it has these bytes, an equal one
-  comes : (v w : AppView) → apply v f ≡ v → blind_but sees w ≡ blind_but sees v → blind_but wide (apply w f) ≡ blind_but wide v
-  comes v w stable h = come-is w ∙ (ap (λ (x : AppView). apply x f) h ∙ (sym (come-is v) ∙ ap (blind_but wide) stable))
+  comes : (v w : AppView) → list_all is_placed v.below ≡ true → apply v f ≡ v → blind_but sees w ≡ blind_but sees v → blind_but wide (apply w f) ≡ blind_but wide v
+  comes v w p stable h =
+      let same : list_all is_placed w.below ≡ true = sym (placed-kept sees w.below) ∙ (ap (λ (x : AppView). list_all is_placed x.below) h ∙ (placed-kept sees v.below ∙ p)) in
+      come-is w same ∙ (ap (λ (x : AppView). apply x f) h ∙ (sym (come-is v p) ∙ ap (blind_but wide) stable))
 
 apply_all-append : (fs ks : List Effect) (w : AppView) → apply_all w (fs ++ ks) ≡ apply_all (apply_all w fs) ks
 apply_all-append [] ks w = refl
@@ -150,13 +254,176 @@ stays-all : (path : List ℕ) (generation : ℕ) (bytes : List ℕ) (moment : �
 stays-all path generation bytes moment files [] e h = refl
 stays-all path generation bytes moment files (c ∷ cs) e h = λ i. stays-one path generation bytes moment files c e h.0 i ∷ stays-all path generation bytes moment files cs e h.1 i
 
+-- ---- and below its folders
+
+-- what is there of a file
+abbrev known_file : File → PathContent
+known_file f = record { path = f.path; content = OfFile f.generation f.bytes f.moment }
+
+abbrev known_in : List PathBelow → List PathContent
+known_in bs = flat_map (λ (b : PathBelow). map known_file b.files) bs
+
+at-append : (files : List File) (cs ds : List PathContent) → AreAt files cs → AreAt files ds → AreAt files (cs ++ ds)
+at-append files [] ds h k = k
+at-append files (c ∷ cs) ds h k = (h.0, at-append files cs ds h.1 k)
+
+module _ {X : Type 0} (before : X → X → Bool) (p : X → Bool) where
+  all-put : (x : X) (xs : List X) → p x ≡ true → list_all p xs ≡ true → list_all p (put before x xs) ≡ true
+  all-put x [] h k = both (p x) true h refl
+  all-put x (y ∷ ys) h k = by_order (before x y) (before y x) (all-put x ys h (second_of_both (p y) (list_all p ys) k))
+    where
+      by_order : (a b : Bool) → list_all p (put before x ys) ≡ true → list_all p (cond a (x ∷ y ∷ ys) (cond b (y ∷ put before x ys) (x ∷ ys))) ≡ true
+      by_order true b e = both (p x) (list_all p (y ∷ ys)) h k
+      by_order false true e = both (p y) (list_all p (put before x ys)) (first_of_both (p y) (list_all p ys) k) e
+      by_order false false e = both (p x) (list_all p ys) h (second_of_both (p y) (list_all p ys) k)
+
+  all-put_all : (xs : List X) → list_all p xs ≡ true → list_all p (put_all before xs) ≡ true
+  all-put_all [] h = refl
+  all-put_all (x ∷ xs) h = all-put x (put_all before xs) (first_of_both (p x) (list_all p xs) h) (all-put_all xs (second_of_both (p x) (list_all p xs) h))
+
+all-filtered : (p : File → Bool) (fs : List File) → list_all p (filter p fs) ≡ true
+all-filtered p [] = refl
+all-filtered p (f ∷ fs) = by_test (p f) refl
+  where
+    by_test : (b : Bool) → p f ≡ b → list_all p (cond b (f ∷ filter p fs) (filter p fs)) ≡ true
+    by_test true e = both (p f) (list_all p (filter p fs)) e (all-filtered p fs)
+    by_test false e = all-filtered p fs
+
+folder-placed : (files : List File) (folder : List ℕ) → is_placed (path_below files folder) ≡ true
+folder-placed files folder = all-put_all file_ahead (λ (f : File). is_at_or_below folder f.path) (filter (λ (f : File). is_at_or_below folder f.path) files) (all-filtered (λ (f : File). is_at_or_below folder f.path) files)
+
+below-placed : (files : List File) (ps : List (List ℕ)) → list_all is_placed (below_at files ps) ≡ true
+below-placed files ps = all-put_all below_ahead is_placed (map (path_below files) ps) (each ps)
+  where
+    each : (qs : List (List ℕ)) → list_all is_placed (map (path_below files) qs) ≡ true
+    each [] = refl
+    each (q ∷ qs) = both (is_placed (path_below files q)) (list_all is_placed (map (path_below files) qs)) (folder-placed files q) (each qs)
+
+-- each is the file of its path
+abbrev IsThere : List File → PathBelow → Type 0
+IsThere files b = b.files ≡ files_below files b.path
+
+module _ (P : PathBelow → Type 0) where
+  each-put : (x : PathBelow) (xs : List PathBelow) → P x → AllByRecursion P xs → AllByRecursion P (put below_ahead x xs)
+  each-put x [] h k = (h, tt)
+  each-put x (y ∷ ys) h k = by_order (below_ahead x y) (below_ahead y x) (each-put x ys h k.1)
+    where
+      by_order : (a b : Bool) → AllByRecursion P (put below_ahead x ys) → AllByRecursion P (cond a (x ∷ y ∷ ys) (cond b (y ∷ put below_ahead x ys) (x ∷ ys)))
+      by_order true b e = (h, k)
+      by_order false true e = (k.0, e)
+      by_order false false e = (h, k.1)
+
+  each-put_all : (xs : List PathBelow) → AllByRecursion P xs → AllByRecursion P (put_all below_ahead xs)
+  each-put_all [] h = tt
+  each-put_all (x ∷ xs) h = each-put x (put_all below_ahead xs) h.0 (each-put_all xs h.1)
+
+all-there : (files : List File) (ps : List (List ℕ)) → AllByRecursion (IsThere files) (below_at files ps)
+all-there files ps = each-put_all (IsThere files) (map (path_below files) ps) (each ps)
+  where
+    each : (qs : List (List ℕ)) → AllByRecursion (IsThere files) (map (path_below files) qs)
+    each [] = tt
+    each (q ∷ qs) = (refl, each qs)
+
+-- in a list in order each file is found by its path
+none-before : (f g : File) → file_ahead f g ≡ true → is_same f.path g.path ≡ false
+none-before f g k = by_path (is_same f.path g.path) refl
+  where
+    by_path : (b : Bool) → is_same f.path g.path ≡ b → b ≡ false
+    by_path true e =
+        let no : true ≡ false = sym k ∙ (ap (bytes_less f.path) (sym (is_same-eq f.path g.path e)) ∙ paths.irreflexive f.path) in
+        no
+    by_path false e = refl
+
+found-each : (fs : List File) → is_rising file_ahead fs ≡ true → AllByRecursion (λ (f : File). file_at fs f.path ≡ Some f) fs
+found-each [] h = tt
+found-each (f ∷ fs) h = (
+  ap (λ (b : Bool). cond b (Some f) (file_at fs f.path)) (is_same-refl f.path),
+  behind fs (first_of_both (list_all (file_ahead f) fs) (is_rising file_ahead fs) h) (found-each fs (second_of_both (list_all (file_ahead f) fs) (is_rising file_ahead fs) h)),
+)
+  where
+    behind : (gs : List File) → list_all (file_ahead f) gs ≡ true → AllByRecursion (λ (g : File). file_at fs g.path ≡ Some g) gs → AllByRecursion (λ (g : File). file_at (f ∷ fs) g.path ≡ Some g) gs
+    behind [] a h = tt
+    behind (g ∷ gs) a h = (
+      ap (λ (b : Bool). cond b (Some f) (file_at fs g.path)) (none-before f g (first_of_both (file_ahead f g) (list_all (file_ahead f) gs) a)) ∙ h.0,
+      behind gs (second_of_both (file_ahead f g) (list_all (file_ahead f) gs) a) h.1,
+    )
+
+module _ (files : List File) (folder : List ℕ) where
+  -- so it is what the tree has there
+  one-there : (f : File) → file_at (files_below files folder) f.path ≡ Some f → (known_file f).content ≡ content_at files f.path
+  one-there f e = by_place (is_at_or_below folder f.path) (sym (below-file files folder f.path) ∙ e)
+    where
+      by_place : (b : Bool) → cond b (file_at files f.path) None ≡ Some f → (known_file f).content ≡ content_at files f.path
+      by_place true k = λ i. content_of (sym k i) (is_folder files f.path) (has_room files f.path)
+      by_place false k = cc
+
+  files-there : (fs : List File) → AllByRecursion (λ (f : File). file_at (files_below files folder) f.path ≡ Some f) fs → AreAt files (map known_file fs)
+  files-there [] h = tt
+  files-there (f ∷ fs) h = (one-there f h.0, files-there fs h.1)
+
+known-at : (files : List File) (bs : List PathBelow) → AllByRecursion (IsThere files) bs → AreAt files (known_in bs)
+known-at files [] h = tt
+known-at files (b ∷ bs) h =
+    at-append files (map known_file b.files) (known_in bs)
+    (subst (λ (fs : List File). AreAt files (map known_file fs)) (sym h.0) (files-there files b.path (files_below files b.path) (found-each (files_below files b.path) (below-in-order files b.path))))
+    (known-at files bs h.1)
+
+-- a file that is told as it is stays
+file-is : (files : List File) (path : List ℕ) (generation : ℕ) (bytes : List ℕ) (moment : ℕ) → OfFile generation bytes moment ≡ content_at files path → (o : Option File) → file_at files path ≡ o →
+    file_then path generation (OfFile generation bytes moment) o ≡ o
+file-is files path generation bytes moment e None k = by_folder (is_folder files path) (e ∙ ap (λ (o : Option File). content_of o (is_folder files path) (has_room files path)) k)
+  where
+    by_folder : (b : Bool) → OfFile generation bytes moment ≡ content_of None b (has_room files path) → file_then path generation (OfFile generation bytes moment) None ≡ None
+    by_folder true h = cc
+    by_folder false h = cc
+file-is files path generation bytes moment e (Some f) k =
+    let same : OfFile generation bytes moment ≡ OfFile f.generation f.bytes f.moment = e ∙ ap (λ (o : Option File). content_of o (is_folder files path) (has_room files path)) k in
+    by_number (f.generation == generation) same
+  where
+    by_number : (b : Bool) → OfFile generation bytes moment ≡ OfFile f.generation f.bytes f.moment → Some (cond b (with_content_of (OfFile generation bytes moment) f) f) ≡ Some f
+    by_number true h = ap (λ (c : Content). Some (with_content_of c f)) h
+    by_number false h = refl
+
+stays-below : (path : List ℕ) (generation : ℕ) (bytes : List ℕ) (moment : ℕ) (files : List File) (folder : List ℕ) → OfFile generation bytes moment ≡ content_at files path → is_at_or_below folder path ≡ true →
+    with_file path generation (OfFile generation bytes moment) (files_below files folder) ≡ files_below files folder
+stays-below path generation bytes moment files folder e h =
+    told-apart _ _ file_path paths (with_file path generation (OfFile generation bytes moment) (files_below files folder)) (files_below files folder)
+    (rising-with_file path generation (OfFile generation bytes moment) (files_below files folder) (below-in-order files folder)) (below-in-order files folder) (λ p.
+    found-with_file path generation (OfFile generation bytes moment) (files_below files folder) p ∙ by_path p (is_same p path) refl)
+  where
+    here : file_at (files_below files folder) path ≡ file_at files path
+    here = below-file files folder path ∙ ap (λ (b : Bool). cond b (file_at files path) None) h
+
+    by_path : (p : List ℕ) (b : Bool) → is_same p path ≡ b → cond b (file_then path generation (OfFile generation bytes moment) (file_at (files_below files folder) path)) (file_at (files_below files folder) p) ≡ file_at (files_below files folder) p
+    by_path p true k =
+        ap (file_then path generation (OfFile generation bytes moment)) here
+        ∙ (file-is files path generation bytes moment e (file_at files path) refl
+        ∙ (sym here ∙ ap (file_at (files_below files folder)) (sym (is_same-eq p path k))))
+    by_path p false k = refl
+
+stays-blocks : (path : List ℕ) (generation : ℕ) (bytes : List ℕ) (moment : ℕ) (files : List File) (bs : List PathBelow) → OfFile generation bytes moment ≡ content_at files path → AllByRecursion (IsThere files) bs →
+    map (with_bytes_below path generation (OfFile generation bytes moment)) bs ≡ bs
+stays-blocks path generation bytes moment files [] e h = refl
+stays-blocks path generation bytes moment files (b ∷ bs) e h = λ i. by_place (is_at_or_below b.path path) refl i ∷ stays-blocks path generation bytes moment files bs e h.1 i
+  where
+    by_place : (x : Bool) → is_at_or_below b.path path ≡ x → cond x (record b { files = with_file path generation (OfFile generation bytes moment) b.files }) b ≡ b
+    by_place true k = λ i. record b { files = (ap (with_file path generation (OfFile generation bytes moment)) h.0 ∙ (stays-below path generation bytes moment files b.path e k ∙ sym h.0)) i }
+    by_place false k = refl
+
 module _ (app : List ℕ) (s : State) where
   abbrev v : AppView
   v = view s app
 
+  -- all of which it tells
+  abbrev all_known : List PathContent
+  all_known = v.contents ++ known_in v.below
+
+  known-are : AreAt s.files all_known
+  known-are = at-append s.files v.contents (known_in v.below) (contents-at s.files (named_paths v.documents v.connections)) (known-at s.files v.below (all-there s.files (folder_paths v.documents)))
+
   stable : (path : List ℕ) (generation : ℕ) (bytes : List ℕ) (moment : ℕ) → OfFile generation bytes moment ≡ content_at s.files path → apply v (Bytes path generation (OfFile generation bytes moment)) ≡ v
   stable path generation bytes moment e =
-      (λ i. prune (record v { contents = stays-all path generation bytes moment s.files v.contents e (contents-at s.files (named_paths v.documents v.connections)) i }))
+      (λ i. prune (record v { contents = stays-all path generation bytes moment s.files v.contents e (contents-at s.files (named_paths v.documents v.connections)) i; below = stays-blocks path generation bytes moment s.files v.below e (all-there s.files (folder_paths v.documents)) i }))
       ∙ prune-named s.limits s.files (held_of s.rights app) s.documents (own_connections app s.handles s.connections) (own_connections app s.handles s.connections) (λ path h. h)
 
   -- ---- all that is in sight
@@ -187,7 +454,7 @@ module _ (app : List ℕ) (s : State) where
   one_told path (OfFile generation bytes moment) sees w e h = by_sight (reads v (file_of path generation))
     where
       by_sight : (x : Bool) → blind_but (cond x (seeing sees path generation) sees) (cond x (apply w (Bytes path generation (OfFile generation bytes moment))) w) ≡ blind_but (cond x (seeing sees path generation) sees) v
-      by_sight true = comes sees path generation bytes moment v w (stable path generation bytes moment e) h
+      by_sight true = comes sees path generation bytes moment v w (below-placed s.files (folder_paths v.documents)) (stable path generation bytes moment e) h
       by_sight false = h
 
   each_told : (cs : List PathContent) (sees : FileName → Bool) (w : AppView) → AreAt s.files cs → blind_but sees w ≡ blind_but sees v → blind_but (seen_all cs sees) (told_all cs w) ≡ blind_but (seen_all cs sees) v
@@ -264,19 +531,83 @@ module _ (app : List ℕ) (s : State) where
     less_all [] h = refl
     less_all (c ∷ cs) h = λ i. record c { content = less c.path c.content h.0 i } ∷ less_all cs h.1 i
 
-    narrowed : (w : AppView) → blind_but sees w ≡ blind_but sees v → CoversAll sees v.contents → blind_but (reads v) w ≡ blind_but (reads v) v
+    -- the same of files below folders
+    covers-front : (cs ds : List PathContent) → CoversAll sees (cs ++ ds) → CoversAll sees cs
+    covers-front [] ds h = tt
+    covers-front (c ∷ cs) ds h = (h.0, covers-front cs ds h.1)
+
+    covers-back : (cs ds : List PathContent) → CoversAll sees (cs ++ ds) → CoversAll sees ds
+    covers-back [] ds h = h
+    covers-back (c ∷ cs) ds h = covers-back cs ds h.1
+
+    abbrev FilesCovered : List File → Type 0
+    FilesCovered fs = AllByRecursion (λ (f : File). reads v (file_of f.path f.generation) ≡ true → sees (file_of f.path f.generation) ≡ true) fs
+
+    abbrev BlocksCovered : List PathBelow → Type 0
+    BlocksCovered bs = AllByRecursion (λ (b : PathBelow). FilesCovered b.files) bs
+
+    files_covered : (fs : List File) (ds : List PathContent) → CoversAll sees (map known_file fs ++ ds) → FilesCovered fs
+    files_covered [] ds h = tt
+    files_covered (f ∷ fs) ds h = (h.0, files_covered fs ds h.1)
+
+    files_left : (fs : List File) (ds : List PathContent) → CoversAll sees (map known_file fs ++ ds) → CoversAll sees ds
+    files_left fs ds h = covers-back (map known_file fs) ds h
+
+    blocks_covered : (bs : List PathBelow) → CoversAll sees (known_in bs) → BlocksCovered bs
+    blocks_covered [] h = tt
+    blocks_covered (b ∷ bs) h = (files_covered b.files (known_in bs) h, blocks_covered bs (files_left b.files (known_in bs) h))
+
+    one_blind : (f : File) → (reads v (file_of f.path f.generation) ≡ true → sees (file_of f.path f.generation) ≡ true) →
+        reads v (file_of (blind_file sees f).path (blind_file sees f).generation) ≡ true → sees (file_of (blind_file sees f).path (blind_file sees f).generation) ≡ true
+    one_blind f h = elim (sees (file_of f.path f.generation)) as (λ x. reads v (file_of (cond x f (hidden_file f)).path (cond x f (hidden_file f)).generation) ≡ true → sees (file_of (cond x f (hidden_file f)).path (cond x f (hidden_file f)).generation) ≡ true) [ true ↦ h | false ↦ h ]
+
+    files_blind : (fs : List File) → FilesCovered fs → FilesCovered (map (blind_file sees) fs)
+    files_blind [] h = tt
+    files_blind (f ∷ fs) h = (one_blind f h.0, files_blind fs h.1)
+
+    blocks_blind : (bs : List PathBelow) → BlocksCovered bs → BlocksCovered (map (blind_below sees) bs)
+    blocks_blind [] h = tt
+    blocks_blind (b ∷ bs) h = (files_blind b.files h.0, blocks_blind bs h.1)
+
+    less_file : (f : File) → (reads v (file_of f.path f.generation) ≡ true → sees (file_of f.path f.generation) ≡ true) → blind_file (reads v) (blind_file sees f) ≡ blind_file (reads v) f
+    less_file f h = by_sight (reads v (file_of f.path f.generation)) (sees (file_of f.path f.generation)) refl refl
+      where
+        by_sight : (x y : Bool) → reads v (file_of f.path f.generation) ≡ x → sees (file_of f.path f.generation) ≡ y → blind_file (reads v) (cond y f (hidden_file f)) ≡ blind_file (reads v) f
+        by_sight x true e k = refl
+        by_sight true false e k = let no : true ≡ false = sym (h e) ∙ k in cc
+        by_sight false false e k =
+            ap (λ (b : Bool). cond b (hidden_file f) (hidden_file (hidden_file f))) e
+            ∙ (file-hidden-twice f ∙ sym (ap (λ (b : Bool). cond b f (hidden_file f)) e))
+
+    -- of a file that is blinded as of the file itself
+    own_cover : (f : File) → (reads v (file_of (blind_file sees f).path (blind_file sees f).generation) ≡ true → sees (file_of (blind_file sees f).path (blind_file sees f).generation) ≡ true) →
+        reads v (file_of f.path f.generation) ≡ true → sees (file_of f.path f.generation) ≡ true
+    own_cover f = elim (sees (file_of f.path f.generation)) as (λ x. (reads v (file_of (cond x f (hidden_file f)).path (cond x f (hidden_file f)).generation) ≡ true → sees (file_of (cond x f (hidden_file f)).path (cond x f (hidden_file f)).generation) ≡ true) →
+        reads v (file_of f.path f.generation) ≡ true → sees (file_of f.path f.generation) ≡ true) [ true ↦ (λ h. h) | false ↦ (λ h. h) ]
+
+    less_files : (fs : List File) → FilesCovered (map (blind_file sees) fs) → map (blind_file (reads v)) (map (blind_file sees) fs) ≡ map (blind_file (reads v)) fs
+    less_files [] h = refl
+    less_files (f ∷ fs) h = λ i. less_file f (own_cover f h.0) i ∷ less_files fs h.1 i
+
+    less_blocks : (bs : List PathBelow) → BlocksCovered (map (blind_below sees) bs) → map (blind_below (reads v)) (map (blind_below sees) bs) ≡ map (blind_below (reads v)) bs
+    less_blocks [] h = refl
+    less_blocks (b ∷ bs) h = λ i. record b { files = less_files b.files h.0 i } ∷ less_blocks bs h.1 i
+
+    narrowed : (w : AppView) → blind_but sees w ≡ blind_but sees v → CoversAll sees all_known → blind_but (reads v) w ≡ blind_but (reads v) v
     narrowed w h a =
-        let there : CoversAll sees (map (blind_content sees) v.contents) = blind_all_covered v.contents a in
+        let there : CoversAll sees (map (blind_content sees) v.contents) = blind_all_covered v.contents (covers-front v.contents (known_in v.below) a) in
         let here : CoversAll sees (map (blind_content sees) w.contents) = subst (λ (x : AppView). CoversAll sees x.contents) (sym h) there in
-        (λ i. record w { contents = sym (less_all w.contents here) i })
-        ∙ (ap (blind_but (reads v)) h ∙ (λ i. record v { contents = less_all v.contents there i }))
+        let there_below : BlocksCovered (map (blind_below sees) v.below) = blocks_blind v.below (blocks_covered v.below (covers-back v.contents (known_in v.below) a)) in
+        let here_below : BlocksCovered (map (blind_below sees) w.below) = subst (λ (x : AppView). BlocksCovered x.below) (sym h) there_below in
+        (λ i. record w { contents = sym (less_all w.contents here) i; below = sym (less_blocks w.below here_below) i })
+        ∙ (ap (blind_but (reads v)) h ∙ (λ i. record v { contents = less_all v.contents there i; below = less_blocks v.below there_below i }))
 
   -- the view after all that is told
-  told-blinded : (w : AppView) → blind_but nothing w ≡ blind_but nothing v → blinded (told_all v.contents w) ≡ blinded v
+  told-blinded : (w : AppView) → blind_but nothing w ≡ blind_but nothing v → blinded (told_all all_known w) ≡ blinded v
   told-blinded w h =
-      let same : blind_but (reads v) (told_all v.contents w) ≡ blind_but (reads v) v =
-      narrowed (seen_all v.contents nothing) (told_all v.contents w) (each_told v.contents nothing w (contents-at s.files (named_paths v.documents v.connections)) h) (all_covered v.contents nothing) in
-      ap (λ (sees : FileName → Bool). blind_but sees (told_all v.contents w)) (ap reads same) ∙ same
+      let same : blind_but (reads v) (told_all all_known w) ≡ blind_but (reads v) v =
+      narrowed (seen_all all_known nothing) (told_all all_known w) (each_told all_known nothing w known-are h) (all_covered all_known nothing) in
+      ap (λ (sees : FileName → Bool). blind_but sees (told_all all_known w)) (ap reads same) ∙ same
 
   one-sight : (path : List ℕ) (c : Content) (w : AppView) → apply_all w (sight_at (reads v) path c) ≡ told_at path c w
   one-sight path OfFolder w = refl
@@ -294,9 +625,27 @@ module _ (app : List ℕ) (s : State) where
       ∙ (ap (λ (x : AppView). apply_all x (flat_map (λ (c : PathContent). sight_at (reads v) c.path c.content) cs)) (one-sight c.path c.content w)
       ∙ all-sights cs (told_at c.path c.content w))
 
+  abbrev sight_in : PathContent → List Effect
+  sight_in c = sight_at (reads v) c.path c.content
+
+  file-sights : (fs : List File) → flat_map (sight_of (reads v)) fs ≡ flat_map sight_in (map known_file fs)
+  file-sights [] = refl
+  file-sights (f ∷ fs) = ap (λ (more : List Effect). sight_of (reads v) f ++ more) (file-sights fs)
+
+  join-sights : (cs ds : List PathContent) → flat_map sight_in (cs ++ ds) ≡ flat_map sight_in cs ++ flat_map sight_in ds
+  join-sights [] ds = refl
+  join-sights (c ∷ cs) ds = ap (λ (more : List Effect). sight_in c ++ more) (join-sights cs ds) ∙ sym (append_assoc (sight_in c) (flat_map sight_in cs) (flat_map sight_in ds))
+
+  below-sights : (bs : List PathBelow) → flat_map (λ (b : PathBelow). flat_map (sight_of (reads v)) b.files) bs ≡ flat_map sight_in (known_in bs)
+  below-sights [] = refl
+  below-sights (b ∷ bs) = (λ i. file-sights b.files i ++ below-sights bs i) ∙ sym (join-sights (map known_file b.files) (known_in bs))
+
+  sights-known : sights v ≡ flat_map sight_in all_known
+  sights-known = ap (λ (more : List Effect). flat_map sight_in v.contents ++ more) (below-sights v.below) ∙ sym (join-sights v.contents (known_in v.below))
+
   -- from any view with all but bytes
   pub sights-blinded : (w : AppView) → blind_but nothing w ≡ blind_but nothing v → blinded (apply_all w (sights v)) ≡ blinded v
-  sights-blinded w h = ap blinded (all-sights v.contents w) ∙ told-blinded w h
+  sights-blinded w h = ap blinded (ap (apply_all w) sights-known ∙ all-sights all_known w) ∙ told-blinded w h
 
 -- ---- effects, and all but bytes of them
 
@@ -304,7 +653,7 @@ content-alike : (path : List ℕ) (c : Content) → blind_at nothing path (hidde
 content-alike path c = hidden-is path (hidden c) ∙ (hidden-twice c ∙ sym (hidden-is path c))
 
 effect-alike : (f : Effect) → blind_effect nothing (hidden_effect f) ≡ blind_effect nothing f
-effect-alike (effect.Gained d rights content) = ap (λ (c : Content). effect.Gained d rights c) (content-alike d.path content)
+effect-alike (effect.Gained d rights holding) = ap (λ (h : Holding). effect.Gained d rights h) (holding-alike d.path holding)
 effect-alike (effect.Lost id rights) = refl
 effect-alike (effect.Gone id) = refl
 effect-alike (effect.Bytes path generation content) = ap (λ (c : Content). effect.Bytes path generation c) (content-alike path content)
@@ -318,9 +667,9 @@ effects-alike (f ∷ fs) = λ i. effect-alike f i ∷ effects-alike fs i
 blind-less : (v w : AppView) → blinded w ≡ blinded v → blind_but nothing w ≡ blind_but nothing v
 blind-less v w h = sym (all-blind (reads w) w) ∙ (ap (blind_but nothing) h ∙ all-blind (reads v) v)
 
-all-hidden : (cs : List Content) → map hidden (map hidden cs) ≡ map hidden cs
+all-hidden : (cs : List Holding) → map hidden_holding (map hidden_holding cs) ≡ map hidden_holding cs
 all-hidden [] = refl
-all-hidden (c ∷ cs) = λ i. hidden-twice c i ∷ all-hidden cs i
+all-hidden (c ∷ cs) = λ i. holding-twice c i ∷ all-hidden cs i
 
 own-twice : (own : Own) → own_blinded (own_blinded own) ≡ own_blinded own
 own-twice own = λ i. record own { shown = all-hidden own.shown i }

@@ -1,18 +1,52 @@
 -- A blinded view: what is found in it, and that pruning it, and the effects of others, come to the same.
-use Rattle.std.proofs.Common.{◌≡◌, ℕ, ◌==◌, List, [], ◌∷◌, length, map, replicate, Bool, true, false, cond, Option, Some, None, refl, sym, ap, ◌∙◌}
-use Rattle.std.specs.List.{filter}
+use Rattle.std.proofs.Common.{◌≡◌, ℕ, ◌==◌, List, [], ◌∷◌, fold, length, map, replicate, Bool, true, false, ◌||◌, cond, Option, Some, None, is_some, refl, sym, ap, ◌∙◌}
+use Rattle.std.specs.List.{filter, find, list_any}
 use Rattle.std.specs.Option.{option_map}
 use Rattle.std.proofs.lemmas.List.{length-replicate}
-use Rattle.portal_base.specs.Names.{is_same}
+use Rattle.portal_base.specs.Content.{content_at, content_of, file_at, has_room, is_above, is_folder, is_named, paths_of}
+use Rattle.portal_base.specs.FileChanges.{change_named}
+use Rattle.portal_base.specs.FolderNames.{put_path}
+use Rattle.portal_base.specs.Names.{is_same, parent_of, root}
+use Rattle.portal_base.specs.declared.files.File.{File}
 use Rattle.portal_base.specs.declared.files.FileName.{FileName}
 use Rattle.portal_base.specs.declared.files.Look.{Look}
 use Rattle.portal_model.specs.Content.{Content, OfFile, OfFolder, NotThere, look_of}
-use Rattle.portal_model.specs.Ordered.{put}
+use Rattle.portal_model.specs.Ordered.{bytes_less, put}
+use Rattle.portal_model.proofs.DocumentChanges.{first_of_both}
 use Rattle.portal_model.proofs.ListLookups.{find-map, found_passes, is_same-eq, nat_is}
-use Rattle.app_world.specs.Effect.{Effect, Gained, Lost, Gone, Bytes, apply, apply_all, changed, changed_content, with_bytes, with_content}
-use Rattle.app_world.specs.Shown.{bytes_in, is_file, is_place, of_generation, own_bytes, own_content, own_file, shown}
-use Rattle.app_world.specs.View.{AppView, OwnConnection, PathContent, ahead, found_content, is_among, is_held, named_paths, path_of, prune}
-use Rattle.connection_laws.specs.Blinded.{blind_at, blind_but, blind_content, file_of}
+use Rattle.app_world.specs.Effect.{Effect, Gained, Lost, Gone, Bytes, apply, apply_all, changed, changed_content, file_of as file_made, with_below, with_bytes, with_bytes_below, with_content, with_content_of, with_file, with_first}
+use Rattle.app_world.specs.Shown.{bytes_in, covering, is_file, is_place, names_below, of_generation, own_bytes, own_content, own_file, shown, shown_below}
+use Rattle.app_world.specs.View.{Alone, AppView, Below, Holding, OwnConnection, PathBelow, PathContent, ahead, below_ahead, file_ahead, folder_of, folder_paths, found_below, found_content, is_among, is_at_or_below, is_held, named_paths, path_of, prune}
+use Rattle.connection_laws.specs.Blinded.{blind_at, blind_below, blind_but, blind_content, blind_file, file_of, hidden_file}
+
+-- ---- lists in which each item is blinded
+
+module _ {X : Type 0} (key : X → List ℕ) (blind : X → X) (keeps : (x : X) → key (blind x) ≡ key x) where
+  abbrev before_by : X → X → Bool
+  before_by x y = bytes_less (key x) (key y)
+
+  filter-mapped : (q : List ℕ → Bool) (xs : List X) → filter (λ x. q (key x)) (map blind xs) ≡ map blind (filter (λ x. q (key x)) xs)
+  filter-mapped q [] = refl
+  filter-mapped q (x ∷ xs) =
+      ap (λ (k : List ℕ). cond (q k) (blind x ∷ filter (λ y. q (key y)) (map blind xs)) (filter (λ y. q (key y)) (map blind xs))) (keeps x)
+      ∙ by_test (q (key x)) (filter-mapped q xs)
+    where
+      by_test : (b : Bool) → filter (λ y. q (key y)) (map blind xs) ≡ map blind (filter (λ y. q (key y)) xs) →
+          cond b (blind x ∷ filter (λ y. q (key y)) (map blind xs)) (filter (λ y. q (key y)) (map blind xs)) ≡ map blind (cond b (x ∷ filter (λ y. q (key y)) xs) (filter (λ y. q (key y)) xs))
+      by_test true e = ap (λ (ys : List X). blind x ∷ ys) e
+      by_test false e = e
+
+  put-mapped : (x : X) (xs : List X) → put before_by (blind x) (map blind xs) ≡ map blind (put before_by x xs)
+  put-mapped x [] = refl
+  put-mapped x (y ∷ ys) =
+      (λ i. cond (bytes_less (keeps x i) (keeps y i)) (blind x ∷ blind y ∷ map blind ys) (cond (bytes_less (keeps y i) (keeps x i)) (blind y ∷ put before_by (blind x) (map blind ys)) (blind x ∷ map blind ys)))
+      ∙ by_order (before_by x y) (before_by y x) (put-mapped x ys)
+    where
+      by_order : (a b : Bool) → put before_by (blind x) (map blind ys) ≡ map blind (put before_by x ys) →
+          cond a (blind x ∷ blind y ∷ map blind ys) (cond b (blind y ∷ put before_by (blind x) (map blind ys)) (blind x ∷ map blind ys)) ≡ map blind (cond a (x ∷ y ∷ ys) (cond b (y ∷ put before_by x ys) (x ∷ ys)))
+      by_order true b e = refl
+      by_order false true e = ap (λ (zs : List X). blind y ∷ zs) e
+      by_order false false e = refl
 
 module _ (sees : FileName → Bool) where
   -- ---- one content
@@ -97,15 +131,68 @@ module _ (sees : FileName → Bool) where
   pub found-blind : (cs : List PathContent) (path : List ℕ) → found_content (map (blind_content sees) cs) path ≡ option_map (blind_content sees) (found_content cs path)
   found-blind cs path = find-map (λ (c : PathContent). is_same (path_of c) path) (blind_content sees) cs
 
-  shown-blind : (path : List ℕ) (o : Option PathContent) → ((c : PathContent) → o ≡ Some c → c.path ≡ path) → shown (option_map (blind_content sees) o) ≡ blind_at sees path (shown o)
-  shown-blind path None h = refl
-  shown-blind path (Some c) h = ap (λ (p : List ℕ). blind_at sees p c.content) (h c refl)
+  -- ---- among the files below a folder
+
+  pub path-kept : (f : File) → (blind_file sees f).path ≡ f.path
+  path-kept f = elim (sees (file_of f.path f.generation)) as (λ x. (cond x f (hidden_file f)).path ≡ f.path) [ true ↦ refl | false ↦ refl ]
+
+  pub paths-kept : (fs : List File) → paths_of (map (blind_file sees) fs) ≡ paths_of fs
+  paths-kept [] = refl
+  paths-kept (f ∷ fs) = λ i. path-kept f i ∷ paths-kept fs i
+
+  found-same : (p : List ℕ) (fs : List File) → find (λ (f : File). is_same (blind_file sees f).path p) fs ≡ file_at fs p
+  found-same p [] = refl
+  found-same p (f ∷ fs) = λ i. cond (is_same (path-kept f i) p) (Some f) (found-same p fs i)
+
+  pub file-found : (p : List ℕ) (fs : List File) → file_at (map (blind_file sees) fs) p ≡ option_map (blind_file sees) (file_at fs p)
+  file-found p fs = find-map (λ (f : File). is_same f.path p) (blind_file sees) fs ∙ ap (option_map (blind_file sees)) (found-same p fs)
+
+  any-kept : (q : List ℕ → Bool) (fs : List File) → list_any (λ (f : File). q f.path) (map (blind_file sees) fs) ≡ list_any (λ (f : File). q f.path) fs
+  any-kept q [] = refl
+  any-kept q (f ∷ fs) = λ i. q (path-kept f i) || any-kept q fs i
+
+  pub folder-kept : (p : List ℕ) (fs : List File) → is_folder (map (blind_file sees) fs) p ≡ is_folder fs p
+  folder-kept p fs = ap (λ (b : Bool). is_same p root || b) (any-kept (is_above p) fs)
+
+  of-blind : (path : List ℕ) (o : Option File) (folder room : Bool) → ((f : File) → o ≡ Some f → f.path ≡ path) → content_of (option_map (blind_file sees) o) folder room ≡ blind_at sees path (content_of o folder room)
+  of-blind path None true room h = refl
+  of-blind path None false room h = refl
+  of-blind path (Some f) folder room h = by_sight (sees (file_of f.path f.generation)) refl
+    where
+      by_sight : (x : Bool) → sees (file_of f.path f.generation) ≡ x → content_of (Some (cond x f (hidden_file f))) folder room ≡ blind_at sees path (OfFile f.generation f.bytes f.moment)
+      by_sight true e = sym (seen-is path f.generation f.bytes f.moment (ap (λ (p : List ℕ). sees (file_of p f.generation)) (sym (h f refl)) ∙ e))
+      by_sight false e = sym (unseen-is path f.generation f.bytes f.moment (ap (λ (p : List ℕ). sees (file_of p f.generation)) (sym (h f refl)) ∙ e))
+
+  content-in : (fs : List File) (path : List ℕ) → content_at (map (blind_file sees) fs) path ≡ blind_at sees path (content_at fs path)
+  content-in fs path =
+      (λ i. content_of (file-found path fs i) (folder-kept path fs i) (folder-kept (parent_of path) fs i))
+      ∙ of-blind path (file_at fs path) (is_folder fs path) (has_room fs path) (λ f e. is_same-eq f.path path (found_passes (λ (x : File). is_same x.path path) fs f e))
+
+  covering-blind : (below : List PathBelow) (path : List ℕ) → covering (map (blind_below sees) below) path ≡ option_map (blind_below sees) (covering below path)
+  covering-blind below path = find-map (λ (b : PathBelow). is_at_or_below b.path path) (blind_below sees) below
+
+  below-shown : (path : List ℕ) (o : Option PathBelow) → shown_below path (option_map (blind_below sees) o) ≡ blind_at sees path (shown_below path o)
+  below-shown path None = refl
+  below-shown path (Some b) = content-in b.files path
+
+  shown-blind : (below : List PathBelow) (path : List ℕ) (o : Option PathContent) → ((c : PathContent) → o ≡ Some c → c.path ≡ path) →
+      shown (map (blind_below sees) below) path (option_map (blind_content sees) o) ≡ blind_at sees path (shown below path o)
+  shown-blind below path None h = ap (shown_below path) (covering-blind below path) ∙ below-shown path (covering below path)
+  shown-blind below path (Some c) h = ap (λ (p : List ℕ). blind_at sees p c.content) (h c refl)
+
+  -- and the names in a folder are the same
+  names-in : (path : List ℕ) (o : Option PathBelow) → names_below path (option_map (blind_below sees) o) ≡ names_below path o
+  names-in path None = refl
+  names-in path (Some b) = λ i. cond (folder-kept path b.files i) (Some (fold (put_path path) [] (paths-kept b.files i))) None
+
+  pub listed-blind : (below : List PathBelow) (path : List ℕ) → names_below path (covering (map (blind_below sees) below) path) ≡ names_below path (covering below path)
+  listed-blind below path = ap (names_below path) (covering-blind below path) ∙ names-in path (covering below path)
 
   module _ (v : AppView) where
     pub content-blind : (path : List ℕ) → own_content (blind_but sees v) path ≡ blind_at sees path (own_content v path)
     content-blind path =
-        ap shown (found-blind v.contents path)
-        ∙ shown-blind path (found_content v.contents path) (λ c e. is_same-eq c.path path (found_passes (λ (x : PathContent). is_same (path_of x) path) v.contents c e))
+        ap (shown (map (blind_below sees) v.below) path) (found-blind v.contents path)
+        ∙ shown-blind v.below path (found_content v.contents path) (λ c e. is_same-eq c.path path (found_passes (λ (x : PathContent). is_same (path_of x) path) v.contents c e))
 
     pub own_file-blind : (name : FileName) → own_file (blind_but sees v) name ≡ blind_at sees name.path (own_file v name)
     own_file-blind name = ap (of_generation name.generation) (content-blind name.path) ∙ generation-blind name.path name.generation (own_content v name.path)
@@ -131,6 +218,7 @@ module _ (sees : FileName → Bool) where
   prune-blind v = λ i. record (blind_but sees v) {
     documents = filter is_held v.documents;
     contents = filter-blind (is_among (named_paths (filter is_held v.documents) v.connections)) v.contents i;
+    below = filter-mapped folder_of (blind_below sees) (λ b. refl) (is_among (folder_paths (filter is_held v.documents))) v.below i;
   }
 
   put-first : (x c : PathContent) (xs cs : List PathContent) (b d : Bool) → xs ≡ map (blind_content sees) cs → (ys : List PathContent) →
@@ -150,13 +238,34 @@ module _ (sees : FileName → Bool) where
   all-twice [] = refl
   all-twice (c ∷ cs) = λ i. record c { content = blind-twice c.path c.content i } ∷ all-twice cs i
 
+  file-twice : (f : File) → blind_file sees (blind_file sees f) ≡ blind_file sees f
+  file-twice f = by_sight (sees (file_of f.path f.generation)) refl
+    where
+      by_sight : (x : Bool) → sees (file_of f.path f.generation) ≡ x → blind_file sees (cond x f (hidden_file f)) ≡ cond x f (hidden_file f)
+      by_sight true e = ap (λ (b : Bool). cond b f (hidden_file f)) e
+      by_sight false e =
+          ap (λ (b : Bool). cond b (hidden_file f) (hidden_file (hidden_file f))) e
+          ∙ ap (λ (n : ℕ). record f { bytes = replicate n 0 }) (length-replicate (length f.bytes) 0)
+
+  files-twice : (fs : List File) → map (blind_file sees) (map (blind_file sees) fs) ≡ map (blind_file sees) fs
+  files-twice [] = refl
+  files-twice (f ∷ fs) = λ i. file-twice f i ∷ files-twice fs i
+
+  below-twice : (bs : List PathBelow) → map (blind_below sees) (map (blind_below sees) bs) ≡ map (blind_below sees) bs
+  below-twice [] = refl
+  below-twice (b ∷ bs) = λ i. record b { files = files-twice b.files i } ∷ below-twice bs i
+
   pub view-twice : (v : AppView) → blind_but sees (blind_but sees v) ≡ blind_but sees v
-  view-twice v = λ i. record v { contents = all-twice v.contents i }
+  view-twice v = λ i. record v { contents = all-twice v.contents i; below = below-twice v.below i }
 
   -- ---- effects
 
+  abbrev pub blind_holding : List ℕ → Holding → Holding
+  blind_holding path (Alone content) = Alone (blind_at sees path content)
+  blind_holding path (Below files) = Below (map (blind_file sees) files)
+
   abbrev pub blind_effect : Effect → Effect
-  blind_effect (Gained d more content) = Gained d more (blind_at sees d.path content)
+  blind_effect (Gained d more holding) = Gained d more (blind_holding d.path holding)
   blind_effect (Lost id less) = Lost id less
   blind_effect (Gone id) = Gone id
   blind_effect (Bytes path generation content) = Bytes path generation (blind_at sees path content)
@@ -165,7 +274,7 @@ module _ (sees : FileName → Bool) where
   with_content-blind path content None = refl
   with_content-blind path content (Some c) = refl
 
-  gained-blind : (path : List ℕ) (content : Content) (cs : List PathContent) →
+  pub gained-blind : (path : List ℕ) (content : Content) (cs : List PathContent) →
       put ahead (with_content path (blind_at sees path content) (found_content (map (blind_content sees) cs) path)) (map (blind_content sees) cs) ≡ map (blind_content sees) (put ahead (with_content path content (found_content cs path)) cs)
   gained-blind path content cs =
       ap (λ (o : Option PathContent). put ahead (with_content path (blind_at sees path content) o) (map (blind_content sees) cs)) (found-blind cs path)
@@ -199,11 +308,97 @@ module _ (sees : FileName → Bool) where
   bytes-blind path generation new [] = refl
   bytes-blind path generation new (c ∷ cs) = λ i. one_changed path generation new c (is_same c.path path) refl i ∷ bytes-blind path generation new cs i
 
+  -- a folder that joins, and a file that changes below one
+  with_below-blind : (path : List ℕ) (files : List File) (o : Option PathBelow) → with_below path (map (blind_file sees) files) (option_map (blind_below sees) o) ≡ blind_below sees (with_below path files o)
+  with_below-blind path files None = refl
+  with_below-blind path files (Some b) = refl
+
+  joined-blind : (path : List ℕ) (files : List File) (bs : List PathBelow) →
+      put below_ahead (with_below path (map (blind_file sees) files) (found_below (map (blind_below sees) bs) path)) (map (blind_below sees) bs) ≡ map (blind_below sees) (put below_ahead (with_below path files (found_below bs path)) bs)
+  joined-blind path files bs =
+      ap (λ (o : Option PathBelow). put below_ahead (with_below path (map (blind_file sees) files) o) (map (blind_below sees) bs)) (find-map (λ (b : PathBelow). is_same (folder_of b) path) (blind_below sees) bs)
+      ∙ (ap (λ (b : PathBelow). put below_ahead b (map (blind_below sees) bs)) (with_below-blind path files (found_below bs path))
+      ∙ put-mapped folder_of (blind_below sees) (λ b. refl) (with_below path files (found_below bs path)) bs)
+
+  module _ (path : List ℕ) (generation : ℕ) (new : Content) where
+    abbrev name : FileName
+    name = record { path = path; generation = generation }
+
+    -- the file that is changed
+    file_renewed : (x f : File) → f.path ≡ x.path → x.path ≡ path → (c : Content) → f ≡ blind_file sees x → with_content_of (blind_at sees path c) f ≡ blind_file sees (with_content_of c x)
+    file_renewed x f k e OfFolder h = h
+    file_renewed x f k e (NotThere room) h = h
+    file_renewed x f k e (OfFile g bytes moment) h = by_sight (sees (file_of path g)) refl
+      where
+        by_sight : (s : Bool) → sees (file_of path g) ≡ s → with_content_of (cond s (OfFile g bytes moment) (OfFile g (replicate (length bytes) 0) moment)) f ≡ blind_file sees (record x { generation = g; bytes = bytes; moment = moment })
+        by_sight true u =
+            (λ i. record { path = k i; generation = g; bytes = bytes; moment = moment })
+            ∙ sym (ap (λ (b : Bool). cond b (record x { generation = g; bytes = bytes; moment = moment }) (hidden_file (record x { generation = g; bytes = bytes; moment = moment }))) (ap (λ (p : List ℕ). sees (file_of p g)) e ∙ u))
+        by_sight false u =
+            (λ i. record { path = k i; generation = g; bytes = replicate (length bytes) 0; moment = moment })
+            ∙ sym (ap (λ (b : Bool). cond b (record x { generation = g; bytes = bytes; moment = moment }) (hidden_file (record x { generation = g; bytes = bytes; moment = moment }))) (ap (λ (p : List ℕ). sees (file_of p g)) e ∙ u))
+
+    one_renewed : (x : File) → cond (is_named name (blind_file sees x)) (with_content_of (blind_at sees path new) (blind_file sees x)) (blind_file sees x) ≡ blind_file sees (cond (is_named name x) (with_content_of new x) x)
+    one_renewed x = ap (λ (b : Bool). cond b (with_content_of (blind_at sees path new) (blind_file sees x)) (blind_file sees x)) named-kept ∙ by_name (is_named name x) refl
+      where
+        named-kept : is_named name (blind_file sees x) ≡ is_named name x
+        named-kept = elim (sees (file_of x.path x.generation)) as (λ b. is_named name (cond b x (hidden_file x)) ≡ is_named name x) [ true ↦ refl | false ↦ refl ]
+
+        by_name : (n : Bool) → is_named name x ≡ n → cond n (with_content_of (blind_at sees path new) (blind_file sees x)) (blind_file sees x) ≡ blind_file sees (cond n (with_content_of new x) x)
+        by_name true e = file_renewed x (blind_file sees x) (path-kept x) (is_same-eq x.path path (first_of_both (is_same x.path path) (x.generation == generation) e)) new refl
+        by_name false e = refl
+
+    all_renewed : (fs : List File) → change_named name (with_content_of (blind_at sees path new)) (map (blind_file sees) fs) ≡ map (blind_file sees) (change_named name (with_content_of new) fs)
+    all_renewed [] = refl
+    all_renewed (x ∷ xs) = λ i. one_renewed x i ∷ all_renewed xs i
+
+    -- a first file
+    first-blind : (c : Content) (fs : List File) → with_first path (blind_at sees path c) (map (blind_file sees) fs) ≡ map (blind_file sees) (with_first path c fs)
+    first-blind OfFolder fs = refl
+    first-blind (NotThere room) fs = refl
+    first-blind (OfFile g bytes moment) fs =
+        by_sight (sees (file_of path g))
+        ∙ put-mapped (λ (f : File). f.path) (blind_file sees) path-kept (file_made path g bytes moment) fs
+      where
+        by_sight : (s : Bool) → with_first path (cond s (OfFile g bytes moment) (OfFile g (replicate (length bytes) 0) moment)) (map (blind_file sees) fs)
+            ≡ put file_ahead (cond s (file_made path g bytes moment) (hidden_file (file_made path g bytes moment))) (map (blind_file sees) fs)
+        by_sight true = refl
+        by_sight false = refl
+
+    some-mapped : (o : Option File) → is_some (option_map (blind_file sees) o) ≡ is_some o
+    some-mapped None = refl
+    some-mapped (Some f) = refl
+
+    with_file-blind : (fs : List File) → with_file path generation (blind_at sees path new) (map (blind_file sees) fs) ≡ map (blind_file sees) (with_file path generation new fs)
+    with_file-blind fs =
+        ap (λ (b : Bool). cond b (change_named name (with_content_of (blind_at sees path new)) (map (blind_file sees) fs)) (cond (generation == 0) (with_first path (blind_at sees path new) (map (blind_file sees) fs)) (map (blind_file sees) fs)))
+        (ap is_some (file-found path fs) ∙ some-mapped (file_at fs path))
+        ∙ by_file (is_some (file_at fs path)) (generation == 0)
+      where
+        by_file : (a b : Bool) →
+            cond a (change_named name (with_content_of (blind_at sees path new)) (map (blind_file sees) fs)) (cond b (with_first path (blind_at sees path new) (map (blind_file sees) fs)) (map (blind_file sees) fs))
+            ≡ map (blind_file sees) (cond a (change_named name (with_content_of new) fs) (cond b (with_first path new fs) fs))
+        by_file true b = all_renewed fs
+        by_file false true = first-blind new fs
+        by_file false false = refl
+
+    one_below : (b : PathBelow) → with_bytes_below path generation (blind_at sees path new) (blind_below sees b) ≡ blind_below sees (with_bytes_below path generation new b)
+    one_below b = by_place (is_at_or_below b.path path)
+      where
+        by_place : (x : Bool) → cond x (record b { files = with_file path generation (blind_at sees path new) (map (blind_file sees) b.files) }) (blind_below sees b) ≡ blind_below sees (cond x (record b { files = with_file path generation new b.files }) b)
+        by_place true = λ i. record b { files = with_file-blind b.files i }
+        by_place false = refl
+
+    below-blind : (bs : List PathBelow) → map (with_bytes_below path generation (blind_at sees path new)) (map (blind_below sees) bs) ≡ map (blind_below sees) (map (with_bytes_below path generation new) bs)
+    below-blind [] = refl
+    below-blind (b ∷ bs) = λ i. one_below b i ∷ below-blind bs i
+
   changed-blind : (v : AppView) (f : Effect) → changed (blind_but sees v) (blind_effect f) ≡ blind_but sees (changed v f)
-  changed-blind v (Gained d more content) = λ i. record (changed v (Gained d more content)) { contents = gained-blind d.path content v.contents i }
+  changed-blind v (Gained d more (Alone content)) = λ i. record (blind_but sees (changed v (Gained d more (Alone content)))) { contents = gained-blind d.path content v.contents i }
+  changed-blind v (Gained d more (Below files)) = λ i. record (blind_but sees (changed v (Gained d more (Below files)))) { below = joined-blind d.path files v.below i }
   changed-blind v (Lost id less) = refl
   changed-blind v (Gone id) = refl
-  changed-blind v (Bytes path generation content) = λ i. record v { contents = bytes-blind path generation content v.contents i }
+  changed-blind v (Bytes path generation content) = λ i. record v { contents = bytes-blind path generation content v.contents i; below = below-blind path generation content v.below i }
 
   pub apply-blind : (v : AppView) (f : Effect) → apply (blind_but sees v) (blind_effect f) ≡ blind_but sees (apply v f)
   apply-blind v f = ap prune (changed-blind v f) ∙ prune-blind (changed v f)

@@ -2,6 +2,7 @@
 -- sight.
 use Rattle.std.specs.Prelude.{ℕ, List, [], ◌∷◌, ◌++◌, map, Bool, cond}
 use Rattle.std.specs.List.{flat_map}
+use Rattle.portal_base.specs.declared.files.File.{File}
 use Rattle.portal_base.specs.declared.files.FileName.{FileName}
 use Rattle.portal_model.specs.declared.entry.Entry.{Entry}
 use Rattle.portal_model.specs.Content.{Content, OfFile, OfFolder, NotThere}
@@ -13,11 +14,11 @@ use Rattle.app_world.specs.TraceItem as item
 use Rattle.app_world.specs.TraceItem.{TraceItem, item_of}
 use Rattle.app_world.specs.View.{AppView, view}
 use Rattle.app_world.specs.World.{Trace, own_of, touch}
-use Rattle.connection_laws.specs.Blinded.{blinded, file_of, hidden, own_blinded, reads}
+use Rattle.connection_laws.specs.Blinded.{blinded, file_of, hidden, hidden_holding, own_blinded, reads}
 
 -- of an effect all but bytes
 abbrev pub hidden_effect : Effect → Effect
-hidden_effect (Gained d rights content) = Gained d rights (hidden content)
+hidden_effect (Gained d rights holding) = Gained d rights (hidden_holding holding)
 hidden_effect (Lost id rights) = Lost id rights
 hidden_effect (Gone id) = Gone id
 hidden_effect (Bytes path generation content) = Bytes path generation (hidden content)
@@ -30,9 +31,14 @@ sight_at sees path (OfFile generation bytes moment) =
 sight_at sees path OfFolder = []
 sight_at sees path (NotThere room) = []
 
+abbrev pub sight_of : (FileName → Bool) → File → List Effect
+sight_of sees f = sight_at sees f.path (OfFile f.generation f.bytes f.moment)
+
 -- the bytes of all that is in sight of a view
 abbrev pub sights : AppView → List Effect
-sights v = flat_map (λ c. sight_at (reads v) c.path c.content) v.contents
+sights v =
+    flat_map (λ c. sight_at (reads v) c.path c.content) v.contents
+    ++ flat_map (λ b. flat_map (sight_of (reads v)) b.files) v.below
 
 -- What others change, where they change anything: all but bytes, and then what is in sight of the
 -- view after it. So where the right to read is gained, the bytes come as news.

@@ -15,7 +15,7 @@ use Rattle.portal_model.specs.State.{State}
 use Rattle.portal_model.specs.Step.{after}
 use Rattle.app_world.specs.Shown.{bytes_in}
 use Rattle.app_world.specs.TraceItem as item
-use Rattle.app_world.specs.View.{PathContent, view}
+use Rattle.app_world.specs.View.{Alone, PathContent, view}
 use Rattle.connection_laws.specs.Blinded.{blinded}
 use Rattle.connection_laws.specs.BlindedTrace.{blinded_items}
 
@@ -91,7 +91,7 @@ abbrev pub BytesComeWithTheRight : Type 0
 BytesComeWithTheRight =
     blinded_items editor (with_rights 2) (host_opens ∷ host_writes ∷ gives_read ∷ [])
     ≡ item.Bytes a_text 0 (OfFile 0 zeros 7)
-    ∷ item.Gained the_document read_alone (OfFile 0 zeros 7)
+    ∷ item.Gained the_document read_alone (Alone (OfFile 0 zeros 7))
     ∷ item.Bytes a_text 0 (OfFile 0 (codes "Hello") 7) ∷ []
 
 -- ---- parts that code gives

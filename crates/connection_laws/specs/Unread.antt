@@ -1,6 +1,7 @@
 -- What an application may not read is in no reply to it, and in no byte that its client is written:
 -- these are functions of what is in sight of it.
 use Rattle.std.specs.Prelude.{◌≡◌, ℕ, List, ◌∷◌, ◌++◌, length, true, false}
+use Rattle.portal_base.specs.declared.files.File.{File}
 use Rattle.portal_base.specs.declared.files.FileName.{FileName}
 use Rattle.portal_model.specs.declared.entry.Entry.{Entry}
 use Rattle.portal_model.specs.Content.{OfFile}
@@ -11,9 +12,9 @@ use Rattle.portal_model.specs.Seated.{Seated}
 use Rattle.portal_model.specs.State.{State}
 use Rattle.portal_model.specs.Step.{after, reply_at}
 use Rattle.portal_model.specs.Valid.{Valid}
-use Rattle.app_world.specs.Effect.{apply_all}
+use Rattle.app_world.specs.Effect.{apply_all, file_of}
 use Rattle.app_world.specs.Own.{Own}
-use Rattle.app_world.specs.View.{AppView, PathContent, view}
+use Rattle.app_world.specs.View.{AppView, PathBelow, PathContent, view}
 use Rattle.app_world.specs.World.{Trace, app_run, app_step, own_of, touch}
 use Rattle.session.specs.declared.act.Client.{Client}
 use Rattle.session.specs.declared.served.Stop.{Stop}
@@ -34,6 +35,16 @@ with_file v front back name bytes moment = record v {
       ++ record { path = name.path; content = OfFile name.generation bytes moment } ∷ back;
 }
 
+-- and one that has it below a folder
+abbrev pub with_file_below :
+    AppView → List PathBelow → List PathBelow → List ℕ → List File → List File → FileName
+    → List ℕ → ℕ → AppView
+with_file_below v front back folder first last name bytes moment =
+    let file = file_of name.path name.generation bytes moment in
+    record v {
+      below = front ++ record { path = folder; files = first ++ file ∷ last } ∷ back;
+    }
+
 -- an entry that the application makes, over a tree that tells its files
 pub record IsOwnEntry (app : List ℕ) (s : State) (e : Entry) : Type 0 where
   pub told : s.told ≡ true
@@ -48,6 +59,12 @@ pub record UnreadBytesAreInNoReply : Type 0 where
       (moment : ℕ) (own : Own) → reads v name ≡ false → length bytes ≡ length other →
       (app_step (with_file v front back name bytes moment) own).1
       ≡ (app_step (with_file v front back name other moment) own).1
+  pub below :
+      (v : AppView) (front back : List PathBelow) (folder : List ℕ) (first last : List File)
+      (name : FileName) (bytes other : List ℕ) (moment : ℕ) (own : Own) →
+      reads v name ≡ false → length bytes ≡ length other →
+      (app_step (with_file_below v front back folder first last name bytes moment) own).1
+      ≡ (app_step (with_file_below v front back folder first last name other moment) own).1
   -- views that are equal when blinded give equal replies to requests that are
   pub reply :
       (v w : AppView) (own other : Own) → blinded v ≡ blinded w →

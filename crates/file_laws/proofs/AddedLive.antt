@@ -207,7 +207,7 @@ module _ (P : Doing → Type 0) where
       of-check (not (are_add_arguments c.queue a)) Code.InvalidArgument (add_allowed s c a numbers) now looks failed (λ j.
       of-check (not (may_list_all s c.who a (document_paths c.queue a))) Code.NotAllowed (add_looking s c a numbers) now looks failed (λ k.
       of-walk (paths_shown c.queue a) (add_shown s c a numbers) now looks failed (λ all now2 more failed2 m.
-      of-kind (not (are_of_kind a all)) Code.InvalidArgument (added s (added_files s c a numbers)) (λ w. done (i ∙ (j ∙ (k ∙ (m ∙ w)))))))))
+      of-kind (not (are_of_kind a (paths_shown c.queue a) all)) Code.InvalidArgument (added s (added_files s c a numbers)) (λ w. done (i ∙ (j ∙ (k ∙ (m ∙ w)))))))))
 
 -- where it is done, the state is that to which the request came
 module _ (s refused : State) (given : Given) (effects : List Effect) where

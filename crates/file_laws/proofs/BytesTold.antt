@@ -1,5 +1,5 @@
--- A request on a node tells the bytes of the file that it changes, once, if the view names the path.
-use Rattle.std.proofs.Common.{◌≡◌, ℕ, List, [], ◌∷◌, map, Bool, true, false, ◌&&◌, cond, Option, Some, None, is_some, refl, ap, subst, ◌∙◌}
+-- A request on a node tells the bytes of the file that it changes, once, if the view tells what is at the path.
+use Rattle.std.proofs.Common.{◌≡◌, ℕ, List, [], ◌∷◌, map, Bool, true, false, ◌&&◌, ◌||◌, cond, Option, Some, None, is_some, refl, subst, ◌∙◌}
 use Rattle.std.specs.List.{IsDistinct}
 use Rattle.portal_base.specs.FileChanges.{cut_to, overlaid}
 use Rattle.portal_base.specs.Names.{is_same}
@@ -27,14 +27,14 @@ use Rattle.app_world.specs.Effect.{Bytes}
 use Rattle.app_world.specs.Laws.{asks}
 use Rattle.app_world.specs.Node.{bytes_at, bytes_effects, node_touch, verdict_touch}
 use Rattle.app_world.specs.Touched.{is_done}
-use Rattle.app_world.specs.View.{AppView, held_documents, named_paths, names, own_connections, path_content, view}
+use Rattle.app_world.specs.Shown.{covering}
+use Rattle.app_world.specs.View.{AppView, PathBelow, covers, folder_paths, held_documents, is_at_or_below, knows, named_paths, names, own_connections, path_content, view}
 use Rattle.app_world.specs.World.{touch}
 use Rattle.app_world.proofs.ContentLaws.{contents-found}
-use Rattle.portal_model.proofs.ValidLaws.{told-sight}
-use Rattle.app_world.proofs.NamedPaths.{HandleOn, Plain, SightOn, sound-plain}
+use Rattle.app_world.proofs.NamedPaths.{HandleOn, SightOn}
+use Rattle.app_world.proofs.ShownLaws.{IsFoundSo, IsOneOf, covered-by-one}
 use Rattle.app_world.proofs.WalksAlong.{CanBe, CanChange, given-can, walk-along}
-use Rattle.file_laws.specs.Touches.{AreBytesOf, if_named, path_changed, path_changed_on, path_if, path_told}
-use Rattle.file_laws.proofs.SeatMounts.{mount-seat}
+use Rattle.file_laws.specs.Touches.{AreBytesOf, if_known, path_changed, path_changed_on, path_if, path_told}
 use Rattle.file_laws.proofs.ChangedContents.{made-now, resized-now, written-now}
 use Rattle.file_laws.proofs.ChangedPaths.{ChangesPath, path_of_change, walk-path}
 
@@ -43,7 +43,7 @@ use Rattle.file_laws.proofs.ChangedPaths.{ChangesPath, path_of_change, walk-path
 abbrev Any : List ℕ → Type 0
 Any path = Unit {0}
 
-any-sight : (o : Option Sight) → SightOn Any o
+any-sight : (o : Option Sight) → SightOn Any Any o
 any-sight None = tt
 any-sight (Some (SightOfFile d may_write)) = tt
 any-sight (Some (SightBelow view d path may_write)) = tt
@@ -57,11 +57,11 @@ any-handle None = tt
 any-handle (Some (Handle.File name node document strict read write)) = tt
 any-handle (Some (Handle.Folder node entries)) = tt
 
-can-be : (t : State) (c : Connection) (r : NodeRequest) (given : Given) → Plain (sight_on t c r.node) → LawfulNode t c r given → t.told ≡ true → CanBe t.files Any (node_given (walk_on_node t c r) given)
-can-be t c r given plain l told =
-    given-can t.files Any (λ target. Unit {0}) (λ call. Unit {0}) (walk_on_node t c r) (moment_given given.now) given.listed given.looks (is_tree given.fault)
+can-be : (t : State) (c : Connection) (r : NodeRequest) (given : Given) → LawfulNode t c r given → t.told ≡ true → CanBe t.files Any (node_given (walk_on_node t c r) given)
+can-be t c r given l told =
+    given-can t.files Any (λ target. Unit {0}) (λ call. Unit {0}) Any (walk_on_node t c r) (moment_given given.now) given.listed given.looks (is_tree given.fault)
     (subst (λ (b : Bool). Gives (cond b (Some t.files) None) (walk_on_node t c r) given.looks (is_tree given.fault)) told l.looks)
-    (walk-along t.files Any (λ target. Unit {0}) (λ call. Unit {0}) (λ path h. tt) (λ name h. tt) (λ name h. tt) (λ name h. tt) (λ path h e. tt) (facts_of t c r.node) r r.op plain
+    (walk-along t.files Any (λ target. Unit {0}) (λ call. Unit {0}) Any Any (λ path h. tt) (λ path name p h e. tt) (λ path h. tt) (λ path h. tt) (λ name h. tt) (λ name h. tt) (λ name h. tt) (λ path h e. tt) (facts_of t c r.node) r r.op
     (any-sight (sight_on t c r.node)) (λ fh. any-handle (handle_of t.handles c.seat fh)))
 
 -- ---- what is told
@@ -73,22 +73,33 @@ module _ (app : List ℕ) (s : State) where
   abbrev paths : List (List ℕ)
   paths = named_paths (held_documents (held_of s.rights app) s.documents) (own_connections app s.handles s.connections)
 
-  named-at : (files : List File) (name : FileName) (bytes : List ℕ) (now : ℕ) (b : Bool) → names v name.path ≡ b → content_at files name.path ≡ OfFile name.generation bytes now →
+  is-found : (path : List ℕ) (o : Option PathBelow) → IsFoundSo (IsOneOf s.files (folder_paths v.documents)) (λ b. is_at_or_below b.path path) o → is_some o ≡ true
+  is-found path None h = absurd h
+  is-found path (Some b) h = refl
+
+  -- it is found by its name, or covered by a folder
+  by_names : (path : List ℕ) (a b : Bool) → covers v path ≡ b → (a || b) ≡ true → (is_some (cond a (Some (path_content s.files path)) None) || is_some (covering v.below path)) ≡ true
+  by_names path true b f e = refl
+  by_names path false b f e = is-found path (covering v.below path) (covered-by-one s.files (folder_paths v.documents) path (f ∙ e))
+
+  known-at : (files : List File) (name : FileName) (bytes : List ℕ) (now : ℕ) (b : Bool) → knows v name.path ≡ b → content_at files name.path ≡ OfFile name.generation bytes now →
       AreBytesOf v files (path_if b (Some name.path)) (cond b (Bytes name.path name.generation (OfFile name.generation bytes now) ∷ []) [])
-  named-at files name bytes now true e h = record {
+  known-at files name bytes now true e h = record {
     generation = name.generation;
     bytes = bytes;
     moment = now;
     told = refl;
     holds = h;
-    there = ap is_some (contents-found s.files name.path paths) ∙ ap (λ (b : Bool). is_some (cond b (Some (path_content s.files name.path)) None)) e;
+    there =
+        (λ i. is_some (contents-found s.files name.path paths i) || is_some (covering v.below name.path))
+        ∙ by_names name.path (names v name.path) (covers v name.path) refl e;
   }
-  named-at files name bytes now false e h = refl
+  known-at files name bytes now false e h = refl
 
-  name-told : (files : List File) (name : FileName) (bytes : List ℕ) (now : ℕ) → content_at files name.path ≡ OfFile name.generation bytes now → AreBytesOf v files (if_named v (Some name.path)) (bytes_at v name bytes now)
-  name-told files name bytes now h = named-at files name bytes now (names v name.path) refl h
+  name-told : (files : List File) (name : FileName) (bytes : List ℕ) (now : ℕ) → content_at files name.path ≡ OfFile name.generation bytes now → AreBytesOf v files (if_known v (Some name.path)) (bytes_at v name bytes now)
+  name-told files name bytes now h = known-at files name bytes now (knows v name.path) refl h
 
-  change-told : IsDistinct is_same (map (λ (f : File). f.path) s.files) → (change : FileChange) → CanChange s.files change → AreBytesOf v (files_after true change s.files) (if_named v (path_of_change change)) (bytes_effects v (bytes_named s.files) change)
+  change-told : IsDistinct is_same (map (λ (f : File). f.path) s.files) → (change : FileChange) → CanChange s.files change → AreBytesOf v (files_after true change s.files) (if_known v (path_of_change change)) (bytes_effects v (bytes_named s.files) change)
   change-told differ FilesStay h = refl
   change-told differ (Writes name offset [] now) h = refl
   change-told differ (Writes name offset (b ∷ bs) now) h = name-told (files_after true (Writes name offset (b ∷ bs) now) s.files) name (overlaid (bytes_named s.files name) offset (b ∷ bs)) now (written-now s.files differ name h offset b bs now)
@@ -97,26 +108,26 @@ module _ (app : List ℕ) (s : State) where
 
   -- over a tree that tells its files or not
   told-by : IsDistinct is_same (map (λ (f : File). f.path) s.files) → (b : Bool) (change : FileChange) → (b ≡ true → CanChange s.files change) →
-      AreBytesOf v (files_after b change s.files) (path_if b (if_named v (path_of_change change))) (cond b (bytes_effects v (bytes_named s.files) change) [])
+      AreBytesOf v (files_after b change s.files) (path_if b (if_known v (path_of_change change))) (cond b (bytes_effects v (bytes_named s.files) change) [])
   told-by differ true change h = change-told differ change (h refl)
   told-by differ false change h = refl
 
   verdict-told : (tree : Option (List File)) (c : Connection) (path : Option (List ℕ)) (o : Option NodeVerdict) → IsDistinct is_same (map (λ (f : File). f.path) s.files) → IfMet tree (ChangesPath path) o → (s.told ≡ true → CanBe s.files Any o) →
-      AreBytesOf v (settled_on_node (all_told c.seat s) c o).0.files (path_if (is_done (settled_on_node (all_told c.seat s) c o).1 && s.told) (if_named v path)) (cond (is_done (settled_on_node (all_told c.seat s) c o).1) (verdict_touch app s o) [])
+      AreBytesOf v (settled_on_node (all_told c.seat s) c o).0.files (path_if (is_done (settled_on_node (all_told c.seat s) c o).1 && s.told) (if_known v path)) (cond (is_done (settled_on_node (all_told c.seat s) c o).1) (verdict_touch app s o) [])
   verdict-told tree c path None differ m h = refl
   verdict-told tree c path (Some (Errs errno)) differ m h = refl
   verdict-told tree c path (Some (Yields d)) differ m h =
-      subst (λ (p : Option (List ℕ)). AreBytesOf v (files_after s.told d.file s.files) (path_if s.told (if_named v p)) (cond s.told (bytes_effects v (bytes_named s.files) d.file) [])) m (told-by differ s.told d.file (λ told. (h told).file))
+      subst (λ (p : Option (List ℕ)). AreBytesOf v (files_after s.told d.file s.files) (path_if s.told (if_known v p)) (cond s.told (bytes_effects v (bytes_named s.files) d.file) [])) m (told-by differ s.told d.file (λ told. (h told).file))
 
   mount-told : (seat : ℕ) (r : NodeRequest) (given : Given) (o : Option Connection) → mount_of (connection_of s.connections seat) ≡ o → Valid s → IsDistinct is_same (map (λ (f : File). f.path) s.files) → LawfulOnNode s r given o →
-      AreBytesOf v (node_step s r given o).0.files (path_if (is_done (node_step s r given o).1.answer && s.told) (if_named v (path_changed_on s r o))) (cond (is_done (node_step s r given o).1.answer) (node_touch app s r given o) [])
+      AreBytesOf v (node_step s r given o).0.files (path_if (is_done (node_step s r given o).1.answer && s.told) (if_known v (path_changed_on s r o))) (cond (is_done (node_step s r given o).1.answer) (node_touch app s r given o) [])
   mount-told seat r given None e valid differ l = refl
   mount-told seat r given (Some c) e valid differ l =
       let t = all_told c.seat s in
       let facts = facts_of t c r.node in
       verdict-told (files_told t) c (path_changed facts r.op) (node_given (walk_on_node t c r) given) differ
       (on-given (files_told t) (ChangesPath (path_changed facts r.op)) (walk_on_node t c r) (moment_given given.now) given.listed given.looks (is_tree given.fault) l.looks (walk-path (files_told t) facts r r.op))
-      (can-be t c r given (sound-plain _ r.node _ (told-sight s seat c (mount-seat s.connections seat (connection_of s.connections seat) refl c e).1 valid r.node)) l)
+      (can-be t c r given l)
 
 pub nodes-told : (app : List ℕ) (s : State) (seat : ℕ) (r : NodeRequest) (given : Given) → Valid s → Lawful s (asks seat (Request.Node r) given) →
     AreBytesOf (view s app) (after s (asks seat (Request.Node r) given)).files (path_told app s seat r given) (touch app s (asks seat (Request.Node r) given))

@@ -145,10 +145,10 @@ add-was s c a numbers now h =
     let second = walk-passed s.files now (are_add_arguments c.queue a) Refusal.InvalidArgument (add_allowed s c a numbers) first.1 in
     let third = walk-passed s.files now listed Refusal.NotAllowed (add_looking s c a numbers) second.1 in
     let shown : IsDone (met s.files now (add_shown s c a numbers looks)) = subst IsDone (all-met s.files now (paths_shown c.queue a) (add_shown s c a numbers)) third.1 in
-    and-both (are_presented c.queue a) (are_add_arguments c.queue a && (listed && are_of_kind a looks)) first.0
-    (and-both (are_add_arguments c.queue a) (listed && are_of_kind a looks) second.0
-    (and-both listed (are_of_kind a looks) third.0
-    (passed (are_of_kind a looks) Refusal.InvalidArgument (added s (added_files s c a numbers)) shown).0))
+    and-both (are_presented c.queue a) (are_add_arguments c.queue a && (listed && are_of_kind a (paths_shown c.queue a) looks)) first.0
+    (and-both (are_add_arguments c.queue a) (listed && are_of_kind a (paths_shown c.queue a) looks) second.0
+    (and-both listed (are_of_kind a (paths_shown c.queue a) looks) third.0
+    (passed (are_of_kind a (paths_shown c.queue a) looks) Refusal.InvalidArgument (added s (added_files s c a numbers)) shown).0))
 
 -- ---- a call of the permission store
 
@@ -231,7 +231,7 @@ unlisted files s c (Request.Add a) numbers =
     unlisted-unless files (not (are_presented c.queue a)) Refusal.InvalidArgs (add_presented s c a numbers)
     (unlisted-unless files (not (are_add_arguments c.queue a)) Refusal.InvalidArgument (add_allowed s c a numbers)
     (unlisted-unless files (not (may_list_all s c.who a (document_paths c.queue a))) Refusal.NotAllowed (add_looking s c a numbers)
-    (unlisted-all files (paths_shown c.queue a) (λ looks. unless (not (are_of_kind a looks)) Refusal.InvalidArgument (added s (added_files s c a numbers))))))
+    (unlisted-all files (paths_shown c.queue a) (λ looks. unless (not (are_of_kind a (paths_shown c.queue a) looks)) Refusal.InvalidArgument (added s (added_files s c a numbers))))))
 unlisted files s c request numbers = refl
 
 bus-was : (s : State) (c : Connection) (request : Request) (given : Given) → s.told ≡ true → on_bus request ≡ true → LawfulBus s c request given → given.fault ≡ Fault.None → is_refusal (bus_answer s c request given).1 ≡ false → is_allowed s c request ≡ true

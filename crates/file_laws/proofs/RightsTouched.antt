@@ -18,7 +18,7 @@ use Rattle.portal_base.specs.declared.who.Who.{Who}
 use Rattle.portal_model.specs.Add.{Added, add_file, adding_rights, caller_rights, first_number, new_document, use_document, used_again, with_new_document, with_rights_of}
 use Rattle.portal_model.specs.AddArguments.{document_paths, is_left_out, names_nobody}
 use Rattle.portal_model.specs.Arguments.{document_named}
-use Rattle.portal_model.specs.Content.{content_at}
+use Rattle.app_world.specs.View.{holding_at}
 use Rattle.portal_model.specs.Grant.{given_rights}
 use Rattle.portal_model.specs.State.{State, connection_of, document_of, held_of}
 use Rattle.portal_model.specs.Step.{bus_of, reply_at}
@@ -304,7 +304,7 @@ module _ (app : List ℕ) (s : State) (seat : ℕ) (given : Given) where
       listed = new-listed (rights_named a.names) m;
       new = minus-new (rights_named a.names) m (was d.id.number) k;
       whole = w;
-      shows = ap (λ (fs : List File). content_at fs d.path) h;
+      shows = ap (λ (fs : List File). holding_at fs d) h;
     },
     tt,
   )

@@ -21,6 +21,7 @@ use Rattle.portal_model.specs.State.{State}
 use Rattle.portal_model.specs.Step.{reply_at}
 use Rattle.app_world.specs.Examples.{held, id, reads}
 use Rattle.app_world.specs.TraceItem.{Bytes, Gained}
+use Rattle.app_world.specs.View.{Alone}
 use Rattle.app_world.specs.World.{app_run, touch, trace}
 use Rattle.file_laws.specs.Examples.{enters_bus}
 use Rattle.file_laws.specs.TouchExamples.{asks_op, editor_opens, editor_writes, entered_item, given_looks, viewer_own}
@@ -71,7 +72,7 @@ pub record UsedAgainIsShared : Type 0 where
   pub viewer_told :
       (trace viewer (opened read_write) reusing).items
       ≡ entered_item
-      ∷ Gained a_document reads (OfFile 0 (codes "hello") 0)
+      ∷ Gained a_document reads (Alone (OfFile 0 (codes "hello") 0))
       ∷ viewer_own (asks_op a_node (NodeOp.Open 0)) 1
       ∷ Bytes a_text 0 (OfFile 0 (codes "Jello") 7)
       ∷ viewer_own (asks_op a_node (NodeOp.Read 1 0 5)) 0

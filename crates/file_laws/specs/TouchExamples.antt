@@ -25,6 +25,7 @@ use Rattle.rights_rule.specs.Rights.{RightSet}
 use Rattle.app_world.specs.DocumentExamples.{a_document, in_tree}
 use Rattle.app_world.specs.Examples.{at_path, b_text, both, held, old_file, viewing}
 use Rattle.app_world.specs.TraceItem.{TraceItem, Own, Bytes}
+use Rattle.app_world.specs.View.{Alone}
 use Rattle.app_world.specs.World.{Trace, app_run, trace}
 use Rattle.file_laws.specs.Touches.{IsGained}
 
@@ -167,4 +168,4 @@ three_rights =
 abbrev pub IsToldOfAGrant : RightSet → Type 0
 IsToldOfAGrant rights =
     IsGained viewer viewer_reads_only 2 three_rights nothing_given a_document rights
-    (OfFile 0 [] 0)
+    (Alone (OfFile 0 [] 0))

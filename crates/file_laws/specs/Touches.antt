@@ -1,8 +1,8 @@
--- What the entries of others tell an application: the bytes of files whose paths its view names,
--- where a request changes them; and its rights in documents. Nothing else of what others ask is
+-- What the entries of others tell an application: the bytes of files at paths of which its view
+-- tells, where a request changes them; and its rights in documents. Nothing else of what others ask is
 -- told. The requests that change a file are those of include/uapi/linux/fuse.h; those on documents
 -- are of the documentation of org.freedesktop.portal.Documents.
-use Rattle.std.specs.Prelude.{◌≡◌, ℕ, List, [], ◌∷◌, ◌++◌, Bool, true, false, ◌&&◌, cond, Option, Some, None, is_some}
+use Rattle.std.specs.Prelude.{◌≡◌, ℕ, List, [], ◌∷◌, ◌++◌, Bool, true, false, ◌&&◌, ◌||◌, cond, Option, Some, None, is_some}
 use Rattle.portal_base.specs.Names.{is_same, named_child}
 use Rattle.portal_base.specs.declared.files.File.{File}
 use Rattle.portal_base.specs.declared.names.doc_id.DocId.{DocId}
@@ -19,7 +19,7 @@ use Rattle.portal_model.specs.declared.state.Connection.{Connection}
 use Rattle.portal_model.specs.declared.state.Document.{Document}
 use Rattle.portal_model.specs.Add.{Added, add_files, taken_from_queue, used_again}
 use Rattle.portal_model.specs.AddArguments.{document_paths, is_left_out}
-use Rattle.portal_model.specs.Content.{Content, OfFile, content_at}
+use Rattle.portal_model.specs.Content.{OfFile, content_at}
 use Rattle.portal_model.specs.Lawful.{Lawful}
 use Rattle.portal_model.specs.Node.{NodeFacts, facts_of}
 use Rattle.portal_model.specs.Open.{truncates}
@@ -34,7 +34,8 @@ use Rattle.app_world.specs.Laws.{asks}
 use Rattle.app_world.specs.Revoke.{common}
 use Rattle.app_world.specs.RightsTold.{identifies}
 use Rattle.app_world.specs.Touched.{is_done}
-use Rattle.app_world.specs.View.{AppView, HeldDocument, found_content, found_document, names, view}
+use Rattle.app_world.specs.Shown.{covering}
+use Rattle.app_world.specs.View.{AppView, HeldDocument, Holding, found_content, found_document, holding_at, knows, view}
 use Rattle.app_world.specs.World.{touch}
 
 -- ---- the file that a request on a node changes
@@ -92,20 +93,20 @@ path_changed_on s r (Some c) = path_changed (facts_of s c r.node) r.op
 
 -- ---- the bytes that are told
 
--- the path, where a document or an open file of the view names it
-abbrev pub if_named : AppView → Option (List ℕ) → Option (List ℕ)
-if_named v None = None
-if_named v (Some path) = path_if (names v path) (Some path)
+-- the path, where the view tells what is at it
+abbrev pub if_known : AppView → Option (List ℕ) → Option (List ℕ)
+if_known v None = None
+if_known v (Some path) = path_if (knows v path) (Some path)
 
 -- of a request on a node that is done, over a tree that tells its files: the path that it changes,
--- if the view names it
+-- if the view tells what is at it
 abbrev pub path_told : List ℕ → State → ℕ → NodeRequest → Given → Option (List ℕ)
 path_told app s seat r given =
     path_if (is_done (reply_at s (asks seat (Request.Node r) given)).answer && s.told)
-    (if_named (view s app) (path_changed_on s r (mount_of (connection_of s.connections seat))))
+    (if_known (view s app) (path_changed_on s r (mount_of (connection_of s.connections seat))))
 
 -- The file of this path is told once and nothing else: as the tree has it after the entry. The view
--- has a content for the path
+-- has a content for the path, or a folder at or below which it lies.
 pub record IsToldOnce (v : AppView) (files : List File) (path : List ℕ)
     (effects : List Effect) : Type 0 where
   pub generation : ℕ
@@ -113,7 +114,8 @@ pub record IsToldOnce (v : AppView) (files : List File) (path : List ℕ)
   pub moment : ℕ
   pub told : effects ≡ Bytes path generation (OfFile generation bytes moment) ∷ []
   pub holds : content_at files path ≡ OfFile generation bytes moment
-  pub there : is_some (found_content v.contents path) ≡ true
+  pub there :
+      (is_some (found_content v.contents path) || is_some (covering v.below path)) ≡ true
 
 abbrev pub AreBytesOf : AppView → List File → Option (List ℕ) → List Effect → Type 0
 AreBytesOf v files None effects = effects ≡ []
@@ -181,15 +183,15 @@ IsGivenBy app s seat (Request.Grant call) given d more = IsGranted app s call d 
 IsGivenBy app s seat request given d more = ⊥
 
 -- All the rights that a request lists for the application and that are new to it, and none that it
--- had before the request, in a document with the content that the files have at its path
+-- had before the request, in a document with what the files have for it
 pub record IsGained (app : List ℕ) (s : State) (seat : ℕ) (request : Request) (given : Given)
-    (d : Document) (more : RightSet) (content : Content) : Type 0 where
+    (d : Document) (more : RightSet) (holding : Holding) : Type 0 where
   pub named : gives_to app d.id.number request ≡ true
   pub some : holds_any more ≡ true
   pub listed : contains (rights_listed request) more ≡ true
   pub new : minus more (held_of s.rights app d.id.number) ≡ more
   pub whole : IsGivenBy app s seat request given d more
-  pub shows : content ≡ content_at s.files d.path
+  pub shows : holding ≡ holding_at s.files d
 
 -- all the rights that a request lists and that the application has in a document that it holds
 pub record IsLost (app : List ℕ) (v : AppView) (request : Request) (id : DocId)
@@ -209,15 +211,15 @@ pub record IsGone (v : AppView) (request : Request) (id : DocId) : Type 0 where
 
 -- of a request that is none on a node; bytes are not told by it
 abbrev pub IsOfDocument : List ℕ → State → ℕ → Request → Given → Effect → Type 0
-IsOfDocument app s seat request given (Gained d more content) =
-    IsGained app s seat request given d more content
+IsOfDocument app s seat request given (Gained d more holding) =
+    IsGained app s seat request given d more holding
 IsOfDocument app s seat request given (Lost id less) = IsLost app (view s app) request id less
 IsOfDocument app s seat request given (Gone id) = IsGone (view s app) request id
 IsOfDocument app s seat request given (Bytes path generation content) = ⊥
 
 -- rights in a live document are told, and nothing else
 abbrev pub IsLiveIn : List Document → Effect → Type 0
-IsLiveIn documents (Gained d more content) = document_of documents d.id.number ≡ Some d
+IsLiveIn documents (Gained d more holding) = document_of documents d.id.number ≡ Some d
 IsLiveIn documents (Lost id less) = ⊥
 IsLiveIn documents (Gone id) = ⊥
 IsLiveIn documents (Bytes path generation content) = ⊥
@@ -233,7 +235,7 @@ is_on_node request = false
 -- ---- the law
 
 -- An entry that is not done tells nothing. A lawful request on a node tells the bytes of the file
--- that it changes, once, if the view names the path, and nothing else. Every other request tells
+-- that it changes, once, if the view tells what is at the path, and nothing else. Every other request tells
 -- of all rights that it lists and that are new to the application, and of documents that it holds.
 -- A lawful Add tells of documents that are live after it.
 pub record TouchesAreOfWhatIsHeld : Type 0 where

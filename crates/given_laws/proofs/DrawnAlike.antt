@@ -163,10 +163,10 @@ looks_alike (path ∷ paths) v u h now other (look ∷ looks) failed = looks_ali
 
 add_alike : (s : State) (c : Connection) (a : AddRequest) (ns ms : List DocId) → DrawAlike (add s c a ns) (add s c a ms)
 add_alike s c a ns ms =
-    let v : List DocId → List Look → Verdict = λ numbers looks. unless (not (are_of_kind a looks)) Code.InvalidArgument (added s (added_files s c a numbers)) in
+    let v : List DocId → List Look → Verdict = λ numbers looks. unless (not (are_of_kind a (paths_shown c.queue a) looks)) Code.InvalidArgument (added s (added_files s c a numbers)) in
     let base = taken_from_queue c a s in
     let same = files_counts c.who a (document_paths c.queue a) (record { state = base; numbers = ns; ids = [] }) (record { state = base; numbers = ms; ids = [] }) (counts_itself base) in
-    let one = λ (looks : List Look). unless_alike (not (are_of_kind a looks)) Code.InvalidArgument (added s (added_files s c a ns)) (added s (added_files s c a ms)) (added_alike s (added_files s c a ns) (added_files s c a ms) same) in
+    let one = λ (looks : List Look). unless_alike (not (are_of_kind a (paths_shown c.queue a) looks)) Code.InvalidArgument (added s (added_files s c a ns)) (added s (added_files s c a ms)) (added_alike s (added_files s c a ns) (added_files s c a ms) same) in
     walk_alike (not (are_presented c.queue a)) Code.InvalidArgs (add_presented s c a ns) (add_presented s c a ms)
     (walk_alike (not (are_add_arguments c.queue a)) Code.InvalidArgument (add_allowed s c a ns) (add_allowed s c a ms)
     (walk_alike (not (may_list_all s c.who a (document_paths c.queue a))) Code.NotAllowed (add_looking s c a ns) (add_looking s c a ms)

@@ -5,6 +5,7 @@ use Rattle.std.specs.Map.{lookup}
 use Rattle.trace_items.specs.Awaited.{HasOpen, Shows}
 use Rattle.trace_items.specs.declared.lent.Lent.{Lent}
 use Rattle.app_view.specs.Books.{Lends}
+use Rattle.file_ops.specs.SeatNames.{AreNamed}
 use Rattle.node_looks.specs.OpenHandles.{AreOpen, AreOpened, open_on}
 use Rattle.named_paths.specs.OpenNumbers.{Cover, is_open, is_open_in}
 use Rattle.named_paths.proofs.OpenPaths.{found, sound-at}
@@ -23,13 +24,14 @@ in-table s seat c None o e h = absurd (cc)
 in-table s seat c (Some d) None e h = absurd h
 in-table s seat c (Some d) (Some o) e h = (h.last ∙ ap (λ (x : Connection). x.opens) (same-connection c d e), h.handles)
 
-pub shows : (lent : Lent) (s : State) → Lends lent.book s → lent.connections.now ≡ map silent s.connections → AreOpen s lent.handles.now → Cover lent.numbers.now s.handles → s.told ≡ true → s.files ≡ lent.files.now → Shows lent s
-shows lent s book connections handles covered told files = record {
+pub shows : (lent : Lent) (s : State) → Lends lent.book s → lent.connections.now ≡ map silent s.connections → AreOpen s lent.handles.now → AreNamed s lent.namings.now → Cover lent.numbers.now s.handles → s.told ≡ true → s.files ≡ lent.files.now → Shows lent s
+shows lent s book connections handles names covered told files = record {
   documents = book.documents;
   rights = book.rights;
   applications = book.applications;
   connections = sym connections;
   handles = λ seat c here. in-table s seat c (connection_of s.connections seat) (opened_on lent.handles.now.seats seat) here (handles.each seat);
+  namings = names;
   covered = covered;
   told = told;
   files = files;

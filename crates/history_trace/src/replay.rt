@@ -126,6 +126,7 @@ fn lent<'a>(portal: &'a QuietPortal, numbers: &'a OpenNumbers, files: &'a TreeFi
         book: portal.book(),
         connections: portal.connections(),
         handles: portal.handles(),
+        namings: portal.namings(),
         numbers,
         files,
     }

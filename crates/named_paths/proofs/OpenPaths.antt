@@ -1,5 +1,5 @@
--- The paths that a view names by open files, by the numbers of handles.
-use Rattle.std.proofs.Common.{◌≡◌, ◌==◌, ◌&&◌, ◌||◌, ℕ, List, [], ◌∷◌, ◌++◌, map, nat_eq, Bool, true, false, cond, Option, Some, None, option_map, refl, sym, ap, ◌∙◌, arith}
+-- The paths that a view names by open files, by the numbers of handles; and all of which it tells.
+use Rattle.std.proofs.Common.{◌≡◌, ◌==◌, ◌&&◌, ◌||◌, ℕ, List, [], ◌∷◌, ◌++◌, map, nat_eq, Bool, true, false, not, cond, Option, Some, None, option_map, refl, sym, ap, ◌∙◌, arith}
 use Rattle.std.specs.List.{AllByRecursion, IsDistinct, filter, find, flat_map, list_all, list_any}
 use Rattle.std.specs.Map.{lookup}
 use Rattle.std.proofs.lemmas.Bool.Decides.{nat_tests}
@@ -10,8 +10,8 @@ use Rattle.portal_model.specs.declared.state.Connection.{Connection}
 use Rattle.portal_model.specs.State.{State, connection_of, handle_of, handles_of, is_app, is_handle}
 use Rattle.portal_model.specs.Valid.{Valid, has_host_path, is_sound_handle, opened_here, same_handle, viewed_here}
 use Rattle.open_handles.specs.Opened.{Opened, handle_of as handle_in, opened_on}
-use Rattle.app_world.specs.View.{OwnHandle, is_among, own_connection, own_connections, own_handle, paths_of_connection, paths_of_handle}
-use Rattle.named_paths.specs.Named.{any_has_open, is_open_at}
+use Rattle.app_world.specs.View.{HeldDocument, OwnConnection, OwnHandle, folder_paths, is_among, is_at_or_below, is_folder_document, is_plain_document, named_paths, own_connection, own_connections, own_handle, paths_of_connection, paths_of_handle, paths_where}
+use Rattle.named_paths.specs.Named.{any_has_open, are_of, is_open_at}
 use Rattle.named_paths.specs.OpenNumbers.{Cover, OpenNumbers, is_among as has, numbers_of}
 use Rattle.named_paths.specs.Seated.{HasOpen, numbered, silent}
 
@@ -283,3 +283,44 @@ module _ (s : State) (v : Valid s) (numbers : OpenNumbers) (cover : Cover number
       ≡ is_among (flat_map paths_of_connection (own_connections app s.handles s.connections)) path
   open-named = table-named s.connections (each-here s.connections v.seats_differ)
       ∙ sym (connections-named path app s.handles s.connections)
+
+-- ---- the paths of which a view tells
+
+module _ (path : List ℕ) where
+  abbrev plain : List HeldDocument → Bool
+  plain ds = is_among (paths_where is_plain_document ds) path
+
+  abbrev covered : List HeldDocument → Bool
+  covered ds = list_any (λ folder. is_at_or_below folder path) (folder_paths ds)
+
+  behind_first : (x a b c : Bool) → a ≡ (b || c) → (x || a) ≡ (b || (x || c))
+  behind_first true a true c e = refl
+  behind_first true a false c e = refl
+  behind_first false a b c e = e
+
+  ahead_first : (x a b c : Bool) → a ≡ (b || c) → (x || a) ≡ ((x || b) || c)
+  ahead_first true a b c e = refl
+  ahead_first false a b c e = e
+
+  of-documents : (ds : List HeldDocument) → are_of ds path ≡ (plain ds || covered ds)
+  of-documents [] = refl
+  of-documents (d ∷ ds) = by_kind d.document.folder (of-documents ds)
+    where
+      by_kind : (b : Bool) → are_of ds path ≡ (plain ds || covered ds) → (cond b (is_at_or_below d.document.path path) (is_same d.document.path path) || are_of ds path)
+          ≡ (is_among (map (λ (x : HeldDocument). x.document.path) (cond (not b) (d ∷ filter (λ (x : HeldDocument). is_plain_document x.document) ds) (filter (λ (x : HeldDocument). is_plain_document x.document) ds))) path
+            || list_any (λ folder. is_at_or_below folder path) (map (λ (x : HeldDocument). x.document.path) (cond b (d ∷ filter (λ (x : HeldDocument). is_folder_document x.document) ds) (filter (λ (x : HeldDocument). is_folder_document x.document) ds))))
+      by_kind true e = behind_first (is_at_or_below d.document.path path) (are_of ds path) (plain ds) (covered ds) e
+      by_kind false e = ahead_first (is_same d.document.path path) (are_of ds path) (plain ds) (covered ds) e
+
+  last_moved : (a o c : Bool) → ((a || o) || c) ≡ ((a || c) || o)
+  last_moved true o c = refl
+  last_moved false true true = refl
+  last_moved false true false = refl
+  last_moved false false true = refl
+  last_moved false false false = refl
+
+  pub known-of : (ds : List HeldDocument) (cs : List OwnConnection) → (is_among (named_paths ds cs) path || covered ds) ≡ (are_of ds path || is_among (flat_map paths_of_connection cs) path)
+  known-of ds cs =
+      ap (λ (b : Bool). b || covered ds) (among-joined path (paths_where is_plain_document ds) (flat_map paths_of_connection cs))
+      ∙ (last_moved (plain ds) (is_among (flat_map paths_of_connection cs) path) (covered ds)
+      ∙ ap (λ (b : Bool). b || is_among (flat_map paths_of_connection cs) path) (sym (of-documents ds)))

@@ -1,14 +1,14 @@
--- The paths that the documents of a view name, without the view.
+-- The paths of which the documents of a view tell, without the view.
 use Rattle.std.proofs.Common.{◌≡◌, ◌==◌, ◌&&◌, ◌||◌, ℕ, List, [], ◌∷◌, map, filter, Bool, true, false, cond, nat_eq, nat_lt, None, refl, ap, ◌∙◌, arith}
 use Rattle.std.specs.List.{list_any, IsDistinct, AllByRecursion}
 use Rattle.std.proofs.lemmas.Bool.Decides.{nat_tests}
-use Rattle.portal_base.specs.Names.{is_same}
 use Rattle.portal_model.specs.declared.state.Document.{Document}
 use Rattle.portal_model.specs.Ordered.{put, put_all}
 use Rattle.rights_rule.specs.Rights.{RightSet, holds_any}
-use Rattle.app_world.specs.View.{HeldDocument, found_document, held_document, held_documents, is_among, is_held, lower, number_of}
+use Rattle.app_world.specs.View.{HeldDocument, found_document, held_document, held_documents, is_held, is_of_document, lower, number_of}
 use Rattle.app_world.proofs.Found.{find-put_all}
 use Rattle.app_world.proofs.Orders.{numbers}
+use Rattle.named_paths.specs.Named.{are_of}
 
 -- a document whose number isn't there joins the others
 same_number : (a b : ℕ) → nat_lt a b ≡ false → nat_lt b a ≡ false → (b == a) ≡ true
@@ -46,17 +46,16 @@ module _ (held : ℕ → RightSet) where
       by_rights true one rest = one
       by_rights false one rest = rest
 
-  names-here : (path : List ℕ) (ds : List Document) → list_any (λ (d : HeldDocument). is_same d.document.path path) (collected ds) ≡ list_any (λ (d : Document). holds_any (held d.id.number) && is_same d.path path) ds
-  names-here path [] = refl
-  names-here path (d ∷ ds) = grind (arith, names-here path ds)
+  tells-here : (path : List ℕ) (ds : List Document) → are_of (collected ds) path ≡ list_any (λ (d : Document). holds_any (held d.id.number) && is_of_document d path) ds
+  tells-here path [] = refl
+  tells-here path (d ∷ ds) = by_rights (holds_any (held d.id.number)) (tells-here path ds)
+    where
+      by_rights : (b : Bool) → are_of (collected ds) path ≡ list_any (λ (x : Document). holds_any (held x.id.number) && is_of_document x path) ds →
+          are_of (cond b (held_document held d ∷ collected ds) (collected ds)) path ≡ ((b && is_of_document d path) || list_any (λ (x : Document). holds_any (held x.id.number) && is_of_document x path) ds)
+      by_rights true e = ap (λ (b : Bool). is_of_document d path || b) e
+      by_rights false e = e
 
-  among-map : (path : List ℕ) (hs : List HeldDocument) → is_among (map (λ (d : HeldDocument). d.document.path) hs) path ≡ list_any (λ (d : HeldDocument). is_same d.document.path path) hs
-  among-map path [] = refl
-  among-map path (h ∷ hs) = ap (λ (b : Bool). is_same h.document.path path || b) (among-map path hs)
-
-  -- a document with a right has the path
+  -- a document with a right has the path, or is a folder above it
   pub paths-held : (path : List ℕ) (ds : List Document) → IsDistinct nat_eq (map (λ (d : Document). d.id.number) ds) →
-      is_among (map (λ (d : HeldDocument). d.document.path) (held_documents held ds)) path ≡ list_any (λ (d : Document). holds_any (held d.id.number) && is_same d.path path) ds
-  paths-held path ds h =
-      among-map path (held_documents held ds)
-      ∙ (any-collected (λ (d : HeldDocument). is_same d.document.path path) ds h ∙ names-here path ds)
+      are_of (held_documents held ds) path ≡ list_any (λ (d : Document). holds_any (held d.id.number) && is_of_document d path) ds
+  paths-held path ds h = any-collected (λ (d : HeldDocument). is_of_document d.document path) ds h ∙ tells-here path ds

@@ -1,4 +1,5 @@
--- The paths that the open files of connections name, by the numbers of their handles.
+-- The paths of which documents tell, and those that the open files of connections name, by the
+-- numbers of their handles.
 use Rattle.std.specs.Prelude.{ℕ, List, Bool, false, ◌&&◌, Option, Some, None}
 use Rattle.std.specs.List.{list_any}
 use Rattle.portal_base.specs.Names.{is_same}
@@ -6,7 +7,12 @@ use Rattle.portal_model.specs.declared.handle.Handle.{Handle}
 use Rattle.portal_model.specs.declared.state.Connection.{Connection}
 use Rattle.portal_model.specs.State.{is_app}
 use Rattle.open_handles.specs.Opened.{Opened, handle_of, opened_on}
+use Rattle.app_world.specs.View.{HeldDocument, is_of_document}
 use Rattle.named_paths.specs.OpenNumbers.{OpenNumbers, numbers_of}
+
+-- the path is that of one of the documents, or lies below one that is a folder
+abbrev pub are_of : List HeldDocument → List ℕ → Bool
+are_of documents path = list_any (λ d. is_of_document d.document path) documents
 
 -- a file of this path is open
 abbrev pub is_open_at : List ℕ → Option Handle → Bool

@@ -1,19 +1,19 @@
-//! The paths that an application's view names.
+//! The paths of which an application's view tells.
 //!
-//! **It promises** that [`names`] says whether a document in which the application
-//! has a right, or an open file of its connections, has a path; and that
-//! [`OpenNumbers`], which [`follow`] keeps entry by entry, have the number of each
+//! **It promises** that [`knows`] says whether a document in which the application
+//! has a right, or an open file of its connections, has a path, or such a document is a
+//! folder above it; and that [`OpenNumbers`], which [`follow`] keeps entry by entry, have the number of each
 //! open handle, so that only open ones are looked at. Only want of memory is another
 //! answer.
 //!
 //! | Room | Holds |
 //! |---|---|
-//! | `named` | [`names`] |
+//! | `named` | [`knows`] |
 //! | `numbers` | [`OpenNumbers`] and [`follow`] |
 //! | `specs/OpenNumbers` | when numbers cover what a state has open |
 //!
 //! ```text
-//! let named = names(documents, rights, handles, &numbers, connections, &app, &path);
+//! let known = knows(documents, rights, handles, &numbers, connections, &app, &path);
 //! follow(alloc, &mut numbers, handles, connection, seat, &request)?;
 //! ```
 #![tactic(auto)]
@@ -21,5 +21,5 @@
 pub mod named;
 pub mod numbers;
 
-pub use named::{is_app, names};
+pub use named::{is_app, knows};
 pub use numbers::{OpenNumbers, follow};

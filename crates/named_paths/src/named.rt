@@ -1,26 +1,27 @@
-//! Which paths a view names.
+//! Of which paths a view tells.
 
-ghost use Rattle.std.specs.Prelude.{◌≡◌, ◌&&◌, ◌||◌, map, option_copied};
+ghost use Rattle.std.specs.Prelude.{◌≡◌, ◌&&◌, ◌||◌, option_copied};
 ghost use Rattle.std.specs.List.{list_any};
-ghost use Rattle.app_world.specs.View.{held_documents, is_among};
+ghost use Rattle.app_world.specs.View.{held_documents, is_of_document};
 ghost use Rattle.open_handles.specs.Opened.{handle_of, opened_on};
-ghost use Rattle.portal_base.specs.Names.{is_same};
 ghost use Rattle.portal_model.specs.State.{held_of, is_app};
 ghost use Rattle.rights_rule.specs.Rights.{holds_any};
-ghost use Rattle.named_paths.specs.Named.{any_has_open, has_open as does_have_open, is_open_at as is_file_at};
+ghost use Rattle.named_paths.specs.Named.{any_has_open, are_of, has_open as does_have_open, is_open_at as is_file_at};
 
 use crate::numbers::OpenNumbers;
 use document_records::{Documents, Grants};
 use open_handles::Handles;
+use portal_base::names::host_path::lies_above;
 use portal_base::names::{AppId, HostPath};
 use portal_base::who::Who;
 use portal_model::handle::Handle;
 use portal_model::state::{Connection, Document};
 
 /// Says whether a document in which the application has a right, or an open file
-/// of its connections, has this path. The connections wait for nothing, and these
-/// are the numbers of what they have open.
-pub fn names(
+/// of its connections, has this path, or a document of those that is a folder has it
+/// below it. The connections wait for nothing, and these are the numbers of what they
+/// have open.
+pub fn knows(
     documents: &Documents,
     rights: &Grants,
     handles: &Handles,
@@ -29,17 +30,18 @@ pub fn names(
     app: &AppId,
     path: &HostPath,
 ) -> bool
-    ensures { result ≡ (is_among (map (λ d. d.document.path)
-        (held_documents (held_of rights.now app.now) documents.now.live)) path.now
+    ensures { result ≡ (are_of
+        (held_documents (held_of rights.now app.now) documents.now.live) path.now
         || any_has_open numbers.now handles.now.seats app.now path.now connections.now) }
 {
     holds_path(documents, rights, app, path) || opens_path(handles, numbers, connections, app, path)
 }
 
-/// Says whether a document in which the application has a right has this path.
+/// Says whether a document in which the application has a right has this path, or is a
+/// folder above it.
 fn holds_path(documents: &Documents, rights: &Grants, app: &AppId, path: &HostPath) -> bool
-    ensures { result ≡ is_among (map (λ d. d.document.path)
-        (held_documents (held_of rights.now app.now) documents.now.live)) path.now }
+    ensures { result ≡ are_of
+        (held_documents (held_of rights.now app.now) documents.now.live) path.now }
 {
     any_holds(documents.live(), rights, app, path)
 }
@@ -47,7 +49,7 @@ fn holds_path(documents: &Documents, rights: &Grants, app: &AppId, path: &HostPa
 /// The same of a list of documents.
 fn any_holds(documents: &[Document], rights: &Grants, app: &AppId, path: &HostPath) -> bool
     ensures { result ≡ list_any
-        (λ d. holds_any (held_of rights.now app.now d.id.number) && is_same d.path path.now)
+        (λ d. holds_any (held_of rights.now app.now d.id.number) && is_of_document d path.now)
         documents.now }
 {
     documents
@@ -58,9 +60,20 @@ fn any_holds(documents: &[Document], rights: &Grants, app: &AppId, path: &HostPa
 /// The same of one document.
 fn holds(document: &Document, rights: &Grants, app: &AppId, path: &HostPath) -> bool
     ensures { result ≡ (holds_any (held_of rights.now app.now document.now.id.number)
-        && is_same document.now.path path.now) }
+        && is_of_document document.now path.now) }
 {
-    !rights.rights(app, document.id).is_empty() && document.path == *path
+    !rights.rights(app, document.id).is_empty() && is_of(document, path)
+}
+
+/// Says whether a document has this path, or is a folder above it.
+fn is_of(document: &Document, path: &HostPath) -> bool
+    ensures { result ≡ is_of_document document.now path.now }
+{
+    if document.folder {
+        *path == document.path || lies_above(document.path.as_bytes(), path.as_bytes())
+    } else {
+        document.path == *path
+    }
 }
 
 /// Says whether a connection of the application has a file of this path open.

@@ -30,7 +30,7 @@ view_of (SeenPlace.Folder view seen) = view
 view_of (SeenPlace.Root view subject) = view
 view_of SeenPlace.Views = 0
 
--- what is there only a look tells
+-- whether a file or a folder is there only a look tells
 abbrev pub is_below : SeenPlace → Bool
 is_below (SeenPlace.File view seen) = false
 is_below (SeenPlace.Below view below) = true

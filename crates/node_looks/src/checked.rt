@@ -128,7 +128,7 @@ fn at_place<T: HostTree>(
     }
 }
 
-/// The answer for a folder in which no names are made.
+/// The answer for a folder that isn't at or below a document that is one.
 fn in_folder(mask: u32) -> Asked
     ensures { (tree : TreeIs) (folder : Folder) → is_writable folder ≡ false →
         Follows (access_folder mask folder) tree result tree }

@@ -201,7 +201,7 @@ fn at_place<T: HostTree>(
     }
 }
 
-/// The answer for a folder in which no names are made.
+/// The answer for a folder that isn't at or below a document that is one.
 fn of_folder(request: &NodeRequest) -> Asked
     ensures { (tree : TreeIs) (folder : Folder) → is_writable folder ≡ false →
         Follows (tells_folder request.now folder) tree result tree }

@@ -1,7 +1,8 @@
 -- A portal that starts: its lists are those of a valid state, and the keeper's records stand for it.
 use Rattle.std.specs.Prelude.{IfSome, option_map}
-use Rattle.std.proofs.Common.{◌≡◌, ℕ, inl, inr, List, [], ◌∷◌, ◌++◌, map, cond, Option, Some, None, refl, sym, ap, subst, ◌∙◌, arith}
-use Rattle.std.specs.List.{IsDistinct}
+use Rattle.std.proofs.Common.{◌≡◌, ℕ, inl, inr, List, [], ◌∷◌, ◌++◌, map, false, cond, Option, Some, None, refl, sym, ap, subst, ◌∙◌, arith}
+use Rattle.std.specs.List.{IsDistinct, list_all}
+use Rattle.std.proofs.lemmas.List.Folds.{list_all-weaken}
 use Rattle.document_records.specs.Documents.{DocumentList}
 use Rattle.folder_documents.specs.Named.{Named, named_on}
 use Rattle.node_looks.specs.OpenHandles.{AreOpened, open_on}
@@ -14,15 +15,16 @@ use Rattle.portal_model.specs.declared.records.RecordChange.TheVariants.{Upgrade
 use Rattle.portal_model.specs.declared.records.Records.{Records}
 use Rattle.portal_model.specs.declared.state.Triple.{Triple}
 use Rattle.portal_model.specs.Kept.{records_of}
-use Rattle.portal_model.specs.Opening.{document_kept, files_of, is_told, opened_over, rights_kept}
+use Rattle.portal_model.specs.Opening.{document_kept, files_of, is_folder_kept, is_told, opened_over, rights_kept}
 use Rattle.portal_model.specs.RecordChanges.{changed_by, records_version}
-use Rattle.portal_model.specs.Valid.{Valid}
+use Rattle.portal_model.specs.Valid.{Valid, is_sound_folder}
+use Rattle.portal_model.proofs.OpeningLaws.{still_named}
 use Rattle.record_keeper.specs.BadRecords.{IsVersion}
 use Rattle.record_keeper.specs.Keepers.{KeeperIs}
 use Rattle.portal_steps.specs.Answered.{KeepsState}
 use Rattle.portal_steps.specs.Held.{Stands}
 use Rattle.portal_start.specs.Loading.{LoadsGood}
-use Rattle.portal_start.proofs.GoodRecords.{over_any}
+use Rattle.portal_start.proofs.GoodRecords.{none_folders, over_any}
 use Rattle.portal_start.proofs.LoadedRecords.{back}
 
 -- the files that a state tells that began so
@@ -38,13 +40,14 @@ valid_untold o began v = record {
   numbers_made = v.numbers_made;
   identifiers = v.identifiers;
   paths = v.paths;
-  folders_none = v.folders_none;
+  folders_sound = list_all-weaken (is_sound_folder (is_told began) (files_of began)) (is_sound_folder false []) (still_named (is_told began) (files_of began)) (map document_kept o.documents) v.folders_sound;
   applications_differ = v.applications_differ;
   names = v.names;
   rights_in_order = v.rights_in_order;
   rights_placed = v.rights_placed;
   seats_differ = v.seats_differ;
   connections_sound = v.connections_sound;
+  namings_sound = tt;
   handles_differ = v.handles_differ;
   handles_sound = v.handles_sound;
   handles_made = v.handles_made;
@@ -63,6 +66,11 @@ valid_untold o began v = record {
   queued_limit = v.queued_limit;
 }
 
+-- records open a state that is valid over any tree, for no document of theirs is a folder
+pub valid_first : (began : Option (List File)) (o : OpeningState) (limits : Limits) (old new : KeeperIs) → LoadsGood limits old o new → Valid (opened_over None o) → IfSome began IsTree → Valid (opened_over began o)
+valid_first began o limits old new g v t =
+    over_any o began (λ files. ap (λ (x : OpeningState). list_all (is_folder_kept files) x.documents) g.opening_is.whole ∙ none_folders files g.records.documents) v t
+
 module _ (began : Option (List File)) (o : OpeningState) (ds : DocumentList) (rs : List Triple) (apps : List (List ℕ)) (k : ds ≡ record { most_live = o.limits.documents; most_made = o.limits.made; live = map document_kept o.documents; made = o.made }) (r : rs ≡ rights_kept o.documents) (a : apps ≡ o.applications) where
   nothing-open : (q : ℕ) (n : Option Opened) → n ≡ None → AreOpened (open_on [] q) None n
   nothing-open q None e = tt
@@ -71,9 +79,9 @@ module _ (began : Option (List File)) (o : OpeningState) (ds : DocumentList) (rs
   nothing-named : (q : ℕ) (n : Option Named) → n ≡ None → option_map (λ (x : Named). x.namings) n ≡ None
   nothing-named q n e = ap (λ (o : Option Named). option_map (λ (x : Named). x.namings) o) e
 
-  pub stands_first : (limit : ℕ) (table : HandleTable) (names : List (ℕ × Named)) (told : Option (List File)) → Valid (opened_over None o) → IfSome began IsTree → limit ≡ o.limits.history → table.most ≡ o.limits.handles → table.seats ≡ [] → names ≡ [] → told ≡ began → Stands began o [] limit ds rs apps [] table names told
-  stands_first limit table names told v t l m e n f = record {
-    legal = record { opening = over_any o began v t; lawful = tt };
+  pub stands_first : (limit : ℕ) (table : HandleTable) (names : List (ℕ × Named)) (told : Option (List File)) → Valid (opened_over began o) → limit ≡ o.limits.history → table.most ≡ o.limits.handles → table.seats ≡ [] → names ≡ [] → told ≡ began → Stands began o [] limit ds rs apps [] table names told
+  stands_first limit table names told v l m e n f = record {
+    legal = record { opening = v; lawful = tt };
     limit_is = l;
     within = omega arith;
     holds = record {

@@ -25,7 +25,7 @@ OpensByRights p =
     (rest : List Entry) (app : List ℕ) (r : NodeRequest) (flags : ℕ) →
     p.history ≡ before ++ earlier ∷ (between ++ opening ∷ rest) →
     OpensFile app r flags (run (after (run (state_first p) before) earlier) between) opening →
-    IsOpenedByRights app flags r (run (state_first p) before) earlier between
+    IsOpenedByRights app flags opening.seat r (run (state_first p) before) earlier between
 
 -- Each entry that was answered the number of a new handle, and each later one of its seat that goes
 -- by that number: it goes by the handle that the first opened, whatever was revoked or deleted, as

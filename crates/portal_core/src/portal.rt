@@ -2,6 +2,7 @@
 
 ghost use Rattle.std.specs.Prelude.{◌≡◌, ◌+◌, ◌<◌, ◌≤◌, ◌^◌, [], length, map, false, true, IfErr, IfOk, IsOk, OnErr, OnOk, None, unwrap_or};
 ghost use Rattle.app_view.specs.Books.{Lends as LendsBook};
+ghost use Rattle.file_ops.specs.SeatNames.{AreNamed};
 ghost use Rattle.node_looks.specs.OpenHandles.{AreOpen};
 ghost use Rattle.portal_desk.specs.Opening.{IsOpeningState};
 ghost use Rattle.portal_model.specs.History.{Legal, cost};
@@ -160,6 +161,7 @@ impl<T: HostTree, K: Keeper, C: Clock, W: Words> Portal<T, K, C, W> {
         ensures ok { IfOk result (Starts T.is K.is tree keeper clock words limits) }
         ensures err { IfErr result (HandsBack K.is tree keeper clock words limits) }
     {
+        tree.known();
         let mut keeper = keeper;
         match load(alloc, &mut keeper, &limits) {
             Ok(lists) => Ok(Portal::over(alloc, tree, keeper, clock, words, lists)),
@@ -183,14 +185,13 @@ impl<T: HostTree, K: Keeper, C: Clock, W: Words> Portal<T, K, C, W> {
         lists: Lists,
     ) -> Portal<T, K, C, W>
         requires lists { AreLists lists }
-        requires valid { Valid (opened_over None lists.opening) }
+        requires valid { Valid (opened_over (T.is tree).began lists.opening) }
         requires started { IsOpeningState (opened_over None lists.opening) }
         requires told { (T.is tree).told ≡ (T.is tree).began }
         requires kept { KeepsState (K.is keeper).told
             (opened_over (T.is tree).began lists.opening) }
         ensures { result ≡ reopened T.is tree keeper clock words lists.opening }
     {
-        tree.known();
         let handles = Handles::new(alloc, &lists.opening.limits);
         let history = History::new(alloc, &lists.opening.limits);
         let Lists {
@@ -261,6 +262,13 @@ impl<T: HostTree, K: Keeper, C: Clock, W: Words> Portal<T, K, C, W> {
         ensures { AreOpen (state_now self.now.story) result.now }
     {
         &self.handles
+    }
+
+    /// What each connection has named below folders that are documents.
+    pub fn namings(&self) -> &Namings
+        ensures { AreNamed (state_now self.now.story) result.now }
+    {
+        &self.namings
     }
 
     /// What is true of every portal: its history began in an opening state, is

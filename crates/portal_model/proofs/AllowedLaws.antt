@@ -151,7 +151,7 @@ add_fails s c a numbers =
     (walk_unless_fails (not (are_add_arguments c.queue a)) Code.InvalidArgument (add_allowed s c a numbers) (λ e. cc)
     (walk_unless_fails (not (may_list_all s c.who a (document_paths c.queue a))) Code.NotAllowed (add_looking s c a numbers) (λ e. cc)
     (looks_fail (paths_shown c.queue a) (add_shown s c a numbers)
-    (λ looks. unless_fails (not (are_of_kind a looks)) Code.InvalidArgument (added s (added_files s c a numbers)) (λ e. cc) tt))))
+    (λ looks. unless_fails (not (are_of_kind a (paths_shown c.queue a) looks)) Code.InvalidArgument (added s (added_files s c a numbers)) (λ e. cc) tt))))
 
 -- the code of a refusal
 abbrev code_in : Answer → Code
@@ -289,15 +289,15 @@ add_done : (s : State) (c : Connection) (a : AddRequest) (numbers : List DocId) 
     DoneGiven (walked (add s c a numbers) now looks false)
 add_done s c a numbers looks now h g =
     let paths = document_paths c.queue a in
-    let first = both_true (are_presented c.queue a) (are_add_arguments c.queue a && (may_list_all s c.who a paths && are_of_kind a (map (look_at s.files) (paths_shown c.queue a)))) h in
-    let second = both_true (are_add_arguments c.queue a) (may_list_all s c.who a paths && are_of_kind a (map (look_at s.files) (paths_shown c.queue a))) first.1 in
-    let third = both_true (may_list_all s c.who a paths) (are_of_kind a (map (look_at s.files) (paths_shown c.queue a))) second.1 in
+    let first = both_true (are_presented c.queue a) (are_add_arguments c.queue a && (may_list_all s c.who a paths && are_of_kind a (paths_shown c.queue a) (map (look_at s.files) (paths_shown c.queue a)))) h in
+    let second = both_true (are_add_arguments c.queue a) (may_list_all s c.who a paths && are_of_kind a (paths_shown c.queue a) (map (look_at s.files) (paths_shown c.queue a))) first.1 in
+    let third = both_true (may_list_all s c.who a paths) (are_of_kind a (paths_shown c.queue a) (map (look_at s.files) (paths_shown c.queue a))) second.1 in
     let g1 = gives_behind (Some s.files) (are_presented c.queue a) Code.InvalidArgs (add_presented s c a numbers) looks first.0 g in
     let g2 = gives_behind (Some s.files) (are_add_arguments c.queue a) Code.InvalidArgument (add_allowed s c a numbers) looks second.0 g1 in
     let g3 = gives_behind (Some s.files) (may_list_all s c.who a paths) Code.NotAllowed (add_looking s c a numbers) looks third.0 g2 in
-    let v : List Look → Verdict = λ ls. unless (not (are_of_kind a ls)) Code.InvalidArgument (added s (added_files s c a numbers)) in
+    let v : List Look → Verdict = λ ls. unless (not (are_of_kind a (paths_shown c.queue a) ls)) Code.InvalidArgument (added s (added_files s c a numbers)) in
     let shown : walked (add_looking s c a numbers) now looks false ≡ Some (v (map (look_at s.files) (paths_shown c.queue a))) = shown_walked s.files (paths_shown c.queue a) v looks now g3 in
-    let done : Done (v (map (look_at s.files) (paths_shown c.queue a))) = passes (are_of_kind a (map (look_at s.files) (paths_shown c.queue a))) Code.InvalidArgument (added s (added_files s c a numbers)) third.1 refl in
+    let done : Done (v (map (look_at s.files) (paths_shown c.queue a))) = passes (are_of_kind a (paths_shown c.queue a) (map (look_at s.files) (paths_shown c.queue a))) Code.InvalidArgument (added s (added_files s c a numbers)) third.1 refl in
     walk_passes (are_presented c.queue a) Code.InvalidArgs (add_presented s c a numbers) now looks first.0
     (walk_passes (are_add_arguments c.queue a) Code.InvalidArgument (add_allowed s c a numbers) now looks second.0
     (walk_passes (may_list_all s c.who a paths) Code.NotAllowed (add_looking s c a numbers) now looks third.0

@@ -204,7 +204,7 @@ module _ (P : State → Type 0)
       (walk_unless-holds (not (are_add_arguments c.queue a)) Code.InvalidArgument (add_allowed s c a numbers)
       (walk_unless-holds (not (may_list_all s c.who a paths)) Code.NotAllowed (add_looking s c a numbers)
       (looks-hold (paths_shown c.queue a) (add_shown s c a numbers)
-      (λ looks. unless-holds (not (are_of_kind a looks)) Code.InvalidArgument (added s done) (all, refl)))))
+      (λ looks. unless-holds (not (are_of_kind a (paths_shown c.queue a) looks)) Code.InvalidArgument (added s done) (all, refl)))))
 
   -- ---- a step
 

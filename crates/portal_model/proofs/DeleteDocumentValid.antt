@@ -9,9 +9,11 @@ use Rattle.portal_model.specs.Arguments.{reached}
 use Rattle.portal_model.specs.DeleteDocument.{delete_document, delete_reached, deleted}
 use Rattle.portal_model.specs.Rights.{forget_document, held_by}
 use Rattle.portal_model.specs.State.{State}
-use Rattle.portal_model.specs.Valid.{Valid}
+use Rattle.portal_model.specs.Valid.{Valid, is_sound_folder}
 use Rattle.portal_model.specs.Verdict.{Doing, does}
+use Rattle.portal_model.proofs.DistinctItems.{list_all-filter}
 use Rattle.portal_model.proofs.DocumentChanges.{documented-deleted}
+use Rattle.portal_model.proofs.NamesValid.{names-deleted}
 use Rattle.portal_model.proofs.WalkDoings.{IfDoes, if-passes}
 use Rattle.portal_model.proofs.SoundParts.{fewer-lists, valid-sound}
 
@@ -31,7 +33,9 @@ module _ (P : Doing → Type 0) (valid : (d : Doing) → Valid d.state → P d) 
       if-passes P (held_by s.rights who number).delete Code.NotAllowed (does (deleted s number) Answer.Done)
       (λ may. valid _ (fewer-lists s left (forget_document number s.rights) v
       (documented-deleted s.documents s.made s.rights s.applications number (valid-sound s v).documented)
-      (le_trans (length left) (length s.documents) s.limits.documents (filtered_less (λ (x : Document). not (x.id.number == number)) s.documents) v.documents_within)))
+      (le_trans (length left) (length s.documents) s.limits.documents (filtered_less (λ (x : Document). not (x.id.number == number)) s.documents) v.documents_within)
+      (list_all-filter (is_sound_folder s.told s.files) (λ (x : Document). not (x.id.number == number)) s.documents v.folders_sound)
+      (names-deleted s.made s.documents number s.connections v.namings_sound)))
 
   pub delete-valid : (doc : List ℕ) → IfDoes P (delete_document s who doc)
   delete-valid doc = delete_reached-valid (reached s who doc)

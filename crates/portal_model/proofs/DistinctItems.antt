@@ -1,5 +1,5 @@
 -- Lists whose items differ: joined, filtered, and made of the parts of other lists.
-use Rattle.std.proofs.Common.{◌≡◌, List, [], ◌∷◌, Bool, true, false, not, cond, refl, arith}
+use Rattle.std.proofs.Common.{◌≡◌, List, [], ◌∷◌, ◌++◌, Bool, true, false, not, cond, refl, arith}
 use Rattle.std.specs.List.{list_all, filter, IsDistinct, AllByRecursion}
 
 module _ {X : Type 0} (same : X → X → Bool) where
@@ -40,3 +40,16 @@ list_all-filter p q (x ∷ xs) h = grind (arith, list_all-filter p q xs)
 pub list_all-weaken : {X : Type 0} (p q : X → Bool) → ((x : X) → p x ≡ true → q x ≡ true) → (xs : List X) → list_all p xs ≡ true → list_all q xs ≡ true
 list_all-weaken p q f [] h = refl
 list_all-weaken p q f (x ∷ xs) h = grind (arith, f x, list_all-weaken p q f xs)
+
+-- ---- a list that gets one more
+
+module _ {X : Type 0} (same : X → X → Bool) where
+  others_more : (x new : X) (ys : List X) → same x new ≡ false → AllByRecursion (λ y. same x y ≡ false) ys → AllByRecursion (λ y. same x y ≡ false) (ys ++ new ∷ [])
+  others_more x new [] e k = (e, tt)
+  others_more x new (y ∷ ys) e k = (k.0, others_more x new ys e k.1)
+
+  -- one that none is the same as
+  pub IsDistinct-more : (new : X) (xs : List X) → AllByRecursion (λ x. same x new ≡ false) xs → IsDistinct same xs → IsDistinct same (xs ++ new ∷ [])
+  unfolding IsDistinct
+  IsDistinct-more new [] e k = (tt, tt)
+  IsDistinct-more new (x ∷ xs) e k = (others_more x new xs e.0 k.0, IsDistinct-more new xs e.1 k.1)

@@ -1,5 +1,5 @@
 -- Documents and rights that change: what is true of a valid state's stays true.
-use Rattle.std.proofs.Common.{◌≡◌, ℕ, ◌==◌, nat_eq, List, [], ◌∷◌, ◌++◌, Bool, true, false, not, ◌&&◌, ◌||◌, cond, Option, Some, is_some, refl, sym, ap, subst, ◌∙◌, arith}
+use Rattle.std.proofs.Common.{◌≡◌, ℕ, ◌==◌, nat_eq, List, [], ◌∷◌, ◌++◌, Bool, true, false, not, ◌&&◌, ◌||◌, cond, Option, Some, None, is_some, ◌⊎◌, inl, inr, refl, sym, ap, subst, ◌∙◌, arith}
 use Rattle.std.specs.List.{filter, list_all, list_any, IsDistinct}
 use Rattle.std.specs.Cmp.Lexicographic.{nat_list_eq_equiv}
 use Rattle.std.proofs.lemmas.Bool.Decides.{nat_tests}
@@ -72,7 +72,6 @@ module _ (ds : List Document) (made : List DocId) (rights : List Triple) (apps :
     numbers_made = k.numbers_made;
     identifiers = k.identifiers;
     paths = k.paths;
-    folders_none = k.folders_none;
     applications_differ = numbered_differ apps app (is_numbered apps app) refl k.applications_differ;
     names = numbered_named apps app (is_numbered apps app) named k.names;
     rights_in_order = ordered-add_rights app id set rights;
@@ -93,7 +92,6 @@ module _ (ds : List Document) (made : List DocId) (rights : List Triple) (apps :
     numbers_made = k.numbers_made;
     identifiers = k.identifiers;
     paths = k.paths;
-    folders_none = k.folders_none;
     applications_differ = k.applications_differ;
     names = k.names;
     rights_in_order = ordered-take_rights app number set rights k.rights_in_order;
@@ -135,9 +133,9 @@ still_live : (d : Document) (n : ℕ) (ds : List Document) → is_live ds n ≡ 
 still_live d n [] h = cc
 still_live d n (x ∷ xs) h = live_first d x n xs (x.id.number == n) (still_live d n xs) h
 
-pub documented-new : (ds : List Document) (made : List DocId) (rights : List Triple) (apps : List (List ℕ)) (d : Document) → is_made made d.id.number ≡ false → has_identifier d ≡ true → is_host_path d.path ≡ true → not d.folder ≡ true →
+pub documented-new : (ds : List Document) (made : List DocId) (rights : List Triple) (apps : List (List ℕ)) (d : Document) → is_made made d.id.number ≡ false → has_identifier d ≡ true → is_host_path d.path ≡ true →
     Documented ds made rights apps → Documented (ds ++ d ∷ []) (made ++ d.id ∷ []) rights apps
-documented-new ds made rights apps d f short p plain k = record {
+documented-new ds made rights apps d f short p k = record {
   numbers_differ = subst (IsDistinct nat_eq) (sym (new_numbers d ds)) (IsDistinct-push nat_eq_equiv (numbers ds) d.id.number k.numbers_differ (none_live made d.id.number ds f k.numbers_made));
   numbers_made = list_all-append (λ (x : Document). is_made (made ++ d.id ∷ []) x.id.number) ds (d ∷ [])
       ∙ both (list_all (λ (x : Document). is_made (made ++ d.id ∷ []) x.id.number) ds) (is_made (made ++ d.id ∷ []) d.id.number && true)
@@ -145,7 +143,6 @@ documented-new ds made rights apps d f short p plain k = record {
       (both (is_made (made ++ d.id ∷ []) d.id.number) true (now_made made d.id) refl);
   identifiers = list_all-append has_identifier ds (d ∷ []) ∙ both (list_all has_identifier ds) (has_identifier d && true) k.identifiers (both (has_identifier d) true short refl);
   paths = list_all-append (λ (x : Document). is_host_path x.path) ds (d ∷ []) ∙ both (list_all (λ (x : Document). is_host_path x.path) ds) (is_host_path d.path && true) k.paths (both (is_host_path d.path) true p refl);
-  folders_none = list_all-append (λ (x : Document). not x.folder) ds (d ∷ []) ∙ both (list_all (λ (x : Document). not x.folder) ds) (not d.folder && true) k.folders_none (both (not d.folder) true plain refl);
   applications_differ = k.applications_differ;
   names = k.names;
   rights_in_order = k.rights_in_order;
@@ -156,7 +153,7 @@ documented-new ds made rights apps d f short p plain k = record {
 
 -- ---- a document that goes
 
-abbrev others : ℕ → List Document → List Document
+abbrev pub others : ℕ → List Document → List Document
 others number ds = filter (λ (d : Document). not (d.id.number == number)) ds
 
 other_numbers : (number : ℕ) (ds : List Document) → numbers (others number ds) ≡ filter (λ (n : ℕ). not (n == number)) (numbers ds)
@@ -171,6 +168,25 @@ is_other number n d h e = grind (arith, nat_tests)
 
 found_still : (number n : ℕ) (ds : List Document) → not (n == number) ≡ true → document_of (others number ds) n ≡ document_of ds n
 found_still number n ds h = find-filter (λ (d : Document). d.id.number == n) (λ (d : Document). not (d.id.number == number)) true (λ d e. is_other number n d h e) ds
+
+is_this : (number n : ℕ) (d : Document) → (n == number) ≡ true → (d.id.number == n) ≡ true → not (d.id.number == number) ≡ false
+is_this number n d h e = grind (arith, nat_tests)
+
+-- a document stays or goes
+pub still-or-gone : (number n : ℕ) (ds : List Document) → (document_of (others number ds) n ≡ document_of ds n) ⊎ (document_of (others number ds) n ≡ None)
+still-or-gone number n ds = step (n == number) refl
+  where
+    step : (b : Bool) → (n == number) ≡ b → (document_of (others number ds) n ≡ document_of ds n) ⊎ (document_of (others number ds) n ≡ None)
+    step true e = inr (find-filter (λ (d : Document). d.id.number == n) (λ (d : Document). not (d.id.number == number)) false (λ d h. is_this number n d e h) ds)
+    step false e = inl (found_still number n ds (ap not e))
+
+-- a new document is found by its own number alone
+found_before : (number : ℕ) (d : Document) (ds : List Document) → (d.id.number == number) ≡ false → document_of (ds ++ d ∷ []) number ≡ document_of ds number
+found_before number d [] e = ap (λ (b : Bool). cond b (Some d) None) e
+found_before number d (x ∷ xs) e = ap (λ (o : Option Document). cond (x.id.number == number) (Some x) o) (found_before number d xs e)
+
+pub found-of-made : (made : List DocId) (d : Document) (ds : List Document) (number : ℕ) → is_made made d.id.number ≡ false → is_made made number ≡ true → document_of (ds ++ d ∷ []) number ≡ document_of ds number
+found-of-made made d ds number f h = found_before number d ds (not_this made d.id.number number (d.id.number == number) refl f h)
 
 -- what a filter leaves passes a test that follows from an old one and the filter's
 left_first : {X : Type 0} (p q r : X → Bool) (x : X) (xs : List X) (b : Bool) → q x ≡ b → ((x : X) → p x ≡ true → q x ≡ true → r x ≡ true) → p x ≡ true → list_all r (filter q xs) ≡ true →
@@ -189,7 +205,6 @@ documented-deleted ds made rights apps number k = record {
   numbers_made = list_all-filter (λ (d : Document). is_made made d.id.number) _ ds k.numbers_made;
   identifiers = list_all-filter has_identifier _ ds k.identifiers;
   paths = list_all-filter (λ (d : Document). is_host_path d.path) _ ds k.paths;
-  folders_none = list_all-filter (λ (d : Document). not d.folder) _ ds k.folders_none;
   applications_differ = k.applications_differ;
   names = k.names;
   rights_in_order = ordered-forget_document number rights k.rights_in_order;

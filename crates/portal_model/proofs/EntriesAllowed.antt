@@ -52,7 +52,7 @@ may_delete-told seat s who (Some d) = refl
 
 may_add-told : (seat : ℕ) (s : State) (c : Connection) (a : AddRequest) → may_add (all_told seat s) c a ≡ may_add s c a
 may_add-told seat s c a =
-    ap (λ (b : Bool). are_presented c.queue a && (are_add_arguments c.queue a && ((names_nobody a || b) && are_of_kind a (map (look_at s.files) (paths_shown c.queue a)))))
+    ap (λ (b : Bool). are_presented c.queue a && (are_add_arguments c.queue a && ((names_nobody a || b) && are_of_kind a (paths_shown c.queue a) (map (look_at s.files) (paths_shown c.queue a)))))
     (may_list_all-told seat s c.who a (document_paths c.queue a))
 
 pub allowed-told : (seat : ℕ) (s : State) (c : Connection) (request : Request) → is_allowed (all_told seat s) c request ≡ is_allowed s c request

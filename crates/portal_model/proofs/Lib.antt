@@ -16,6 +16,7 @@ pub mod NodeWalks
 pub mod NodeValid
 pub mod NodeAllowed
 pub mod Queues
+pub mod NamesValid
 pub mod WhoWaits
 pub mod EntriesKept
 pub mod RowTexts

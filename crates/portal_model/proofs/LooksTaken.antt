@@ -62,7 +62,7 @@ shown_unless files false code w u e = e
 
 add_shown_alike : (files : List File) (s : State) (c : Connection) (a : AddRequest) (ns ms : List DocId) → looks_shown files (add s c a ns) ≡ looks_shown files (add s c a ms)
 add_shown_alike files s c a ns ms =
-    let v : List DocId → List Look → Verdict = λ numbers looks. unless (not (are_of_kind a looks)) Code.InvalidArgument (added s (added_files s c a numbers)) in
+    let v : List DocId → List Look → Verdict = λ numbers looks. unless (not (are_of_kind a (paths_shown c.queue a) looks)) Code.InvalidArgument (added s (added_files s c a numbers)) in
     shown_unless files (not (are_presented c.queue a)) Code.InvalidArgs (add_presented s c a ns) (add_presented s c a ms)
     (shown_unless files (not (are_add_arguments c.queue a)) Code.InvalidArgument (add_allowed s c a ns) (add_allowed s c a ms)
     (shown_unless files (not (may_list_all s c.who a (document_paths c.queue a))) Code.NotAllowed (add_looking s c a ns) (add_looking s c a ms)

@@ -61,7 +61,7 @@ module _ (tree : Option (List File)) (P : NodeDoing → Type 0) where
   pub at_name-on : (name : FileName) (next : OnFile) → ((generation size moment : ℕ) → OnNode (next generation size moment)) → OnNode (at_name name next)
   at_name-on name next h = λ look shown. if_file-on next h look
 
-  by_look-on : (view : ℕ) (at : Spot) (file : Spot → OnFile) (folder : Folder → Walk NodeVerdict) → ((generation size moment : ℕ) → OnNode (file at generation size moment)) →
+  pub by_look-on : (view : ℕ) (at : Spot) (file : Spot → OnFile) (folder : Folder → Walk NodeVerdict) → ((generation size moment : ℕ) → OnNode (file at generation size moment)) →
       OnNode (folder (Exported view at.document at.path at.may_write)) → (look : Look) → OnNode (by_look view at file folder look)
   by_look-on view at file folder h k (Look.File generation size moment) = h generation size moment
   by_look-on view at file folder h k Look.Folder = k

@@ -4,7 +4,7 @@ use Rattle.std.specs.List.{list_any, list_all, filter, IsDistinct}
 use Rattle.std.proofs.lemmas.Bool.Decides.{nat_tests}
 use Rattle.std.proofs.lemmas.List.{length-map}
 use Rattle.std.proofs.lemmas.List.Folds.{list_all-append, list_all-map, list_any-append}
-use Rattle.portal_base.specs.Names.{is_same, is_app_name, is_host_path}
+use Rattle.portal_base.specs.Names.{is_same, is_app_name, is_host_path, root}
 use Rattle.portal_base.specs.declared.names.doc_id.DocId.{DocId}
 use Rattle.portal_model.specs.declared.opening.FileItem.{FileItem}
 use Rattle.portal_model.specs.declared.opening.OpeningDocument.{OpeningDocument}
@@ -18,7 +18,7 @@ use Rattle.portal_model.specs.Laws.{OpeningsAreValid}
 use Rattle.portal_model.specs.Opening.{id_of, document_kept, set_of_bits, with_grant, with_grants, each, file_of, opened, opened_over, first_named, names_kept, SoundOpening, ValidOpening}
 use Rattle.portal_model.specs.Rights.{are_in_order}
 use Rattle.portal_model.specs.State.{State, document_of}
-use Rattle.portal_model.specs.Valid.{Valid, has_identifier, is_made, is_numbered, is_placed, same_handle}
+use Rattle.portal_model.specs.Valid.{Valid, has_identifier, is_made, is_numbered, is_placed, is_sound_folder, same_handle}
 use Rattle.portal_model.proofs.DistinctItems.{IsDistinct-first, list_all-filter, list_all-weaken}
 use Rattle.portal_model.proofs.ListLookups.{is_same-eq, is_same-refl}
 use Rattle.portal_model.proofs.RightsLaws.{all-add_rights, ordered-add_rights}
@@ -169,13 +169,14 @@ sound-Valid o k = record {
   numbers_made = list_all-map (λ (d : Document). is_made o.made d.id.number) document_kept o.documents ∙ (ap (λ (made : List DocId). list_all (λ (d : OpeningDocument). is_made made d.kept.number) o.documents) k.made ∙ made_kept o.documents);
   identifiers = list_all-map has_identifier document_kept o.documents ∙ k.identifiers;
   paths = list_all-map (λ (d : Document). is_host_path d.path) document_kept o.documents ∙ k.paths;
-  folders_none = list_all-map (λ (d : Document). not d.folder) document_kept o.documents ∙ k.no_folders;
+  folders_sound = list_all-map (is_sound_folder true (map file_of o.files)) document_kept o.documents ∙ k.folders_sound;
   applications_differ = subst (IsDistinct is_same) (sym k.applications) (first_named-distinct (each names_kept o.documents));
   names = ap (list_all is_app_name) k.applications ∙ first_named-all is_app_name (each names_kept o.documents) (all_each is_app_name names_kept o.documents k.names);
   rights_in_order = ordered_kept o.documents [] refl;
   rights_placed = placed_kept (opened o) o.documents [] (ap (λ (apps : List (List ℕ)). list_all (λ (d : OpeningDocument). is_live o.documents d.kept.number && list_all (is_numbered apps) (names_kept d)) o.documents) k.applications ∙ all_placed o.documents) refl;
   seats_differ = no_seats;
   connections_sound = refl;
+  namings_sound = tt;
   handles_differ = no_handles;
   handles_sound = refl;
   handles_made = refl;
@@ -202,6 +203,14 @@ no_files : IsDistinct is_same []
 unfolding IsDistinct
 no_files = tt
 
+named_by : (folder named there : Bool) → (not folder || (named && there)) ≡ true → (not folder || (named && true)) ≡ true
+named_by true true there h = refl
+named_by true false there h = h
+named_by false named there h = refl
+
+pub still_named : (told : Bool) (files : List File) (d : Document) → is_sound_folder told files d ≡ true → is_sound_folder false [] d ≡ true
+still_named told files d h = named_by d.folder (not (is_same d.path root)) (not told || is_folder files d.path) h
+
 quiet-Valid : (o : OpeningState) → SoundOpening o → Valid (opened_over None o)
 quiet-Valid o k =
     let v : Valid (opened o) = sound-Valid o k in
@@ -210,13 +219,14 @@ quiet-Valid o k =
       numbers_made = v.numbers_made;
       identifiers = v.identifiers;
       paths = v.paths;
-      folders_none = v.folders_none;
+      folders_sound = list_all-weaken (is_sound_folder true (map file_of o.files)) (is_sound_folder false []) (still_named true (map file_of o.files)) (map document_kept o.documents) v.folders_sound;
       applications_differ = v.applications_differ;
       names = v.names;
       rights_in_order = v.rights_in_order;
       rights_placed = v.rights_placed;
       seats_differ = v.seats_differ;
       connections_sound = v.connections_sound;
+      namings_sound = tt;
       handles_differ = v.handles_differ;
       handles_sound = v.handles_sound;
       handles_made = v.handles_made;

@@ -9,10 +9,10 @@ use Rattle.portal_model.specs.declared.state.Connection.{Connection}
 use Rattle.portal_model.specs.Present.{requeued}
 use Rattle.portal_model.specs.State.{State, connection_of}
 use Rattle.portal_model.specs.Step.{told_of}
-use Rattle.portal_model.specs.Valid.{has_no_names, is_bound_connection, is_caller, is_host_bus, is_none, is_sound_change, is_sound_connection}
+use Rattle.portal_model.specs.Valid.{has_no_temps, is_bound_connection, is_caller, is_host_bus, is_none, is_sound_change, is_sound_connection}
 use Rattle.portal_model.proofs.DocumentChanges.{both, first_of_both, second_of_both}
 use Rattle.portal_model.proofs.ListLookups.{nat_is}
-use Rattle.portal_model.proofs.SoundParts.{Sound, SoundConnections, SoundHandles}
+use Rattle.portal_model.proofs.SoundParts.{AreSoundNames, Sound, SoundConnections, SoundHandles}
 
 abbrev pub seats : List Connection → List ℕ
 seats cs = map (λ (c : Connection). c.seat) cs
@@ -26,12 +26,12 @@ is_sound_queue queued queue = list_all is_host_path queue && nat_le (length queu
 abbrev requeue : (List (List ℕ) → List (List ℕ)) → Connection → Connection
 requeue change c = record c { queue = change c.queue }
 
--- it is bound as it has to be, and nothing is named on it
+-- it is bound as it has to be, and no temporary was made on it
 pub sound_bound : (queued : ℕ) (c : Connection) → is_sound_connection queued c ≡ true → is_bound_connection queued c ≡ true
-sound_bound queued c h = second_of_both (has_no_names c) (is_bound_connection queued c) h
+sound_bound queued c h = second_of_both (has_no_temps c) (is_bound_connection queued c) h
 
-pub sound_unnamed : (queued : ℕ) (c : Connection) → is_sound_connection queued c ≡ true → has_no_names c ≡ true
-sound_unnamed queued c h = first_of_both (has_no_names c) (is_bound_connection queued c) h
+pub sound_no_temps : (queued : ℕ) (c : Connection) → is_sound_connection queued c ≡ true → has_no_temps c ≡ true
+sound_no_temps queued c h = first_of_both (has_no_temps c) (is_bound_connection queued c) h
 
 -- what a connection waits for isn't changed
 waits_sound : (queued : ℕ) (c : Connection) → is_sound_connection queued c ≡ true → is_sound_queue queued c.queue ≡ true
@@ -51,7 +51,7 @@ requeued_sound queued c queue h k =
     let texts = list_all is_sound_change c.unsent in
     let behind = second_of_both (is_caller c.who) (waits && (texts && is_sound_queue queued c.queue)) (sound_bound queued c h) in
     let later = second_of_both waits (texts && is_sound_queue queued c.queue) behind in
-    both (has_no_names c) (is_bound_connection queued (record c { queue = queue })) (sound_unnamed queued c h)
+    both (has_no_temps c) (is_bound_connection queued (record c { queue = queue })) (sound_no_temps queued c h)
     (both (is_caller c.who) (waits && (texts && is_sound_queue queued queue)) (caller_sound queued c h)
     (both waits (texts && is_sound_queue queued queue) (first_of_both waits (texts && is_sound_queue queued c.queue) behind)
     (both texts (is_sound_queue queued queue) (first_of_both texts (is_sound_queue queued c.queue) later) k)))
@@ -136,6 +136,27 @@ apart_from seat first (c ∷ cs) e h = (not_same first c.seat seat e h.0, apart_
     not_same : (a b n : ℕ) → a ≡ n → nat_eq a b ≡ false → (b == n) ≡ false
     not_same a b n e h = grind (arith, nat_tests)
 
+module _ (seat : ℕ) (P : Connection → Type 0) where
+  -- what is true of the connection of the seat
+  abbrev pub AtSeat : List Connection → Type 0
+  AtSeat [] = Unit {0}
+  AtSeat (c ∷ cs) = ((c.seat == seat) ≡ true → P c) × AtSeat cs
+
+  at_elsewhere : (cs : List Connection) → Elsewhere seat cs → AtSeat cs
+  at_elsewhere [] h = tt
+  at_elsewhere (c ∷ cs) h = (λ e. let no : true ≡ false = sym e ∙ h.0 in cc, at_elsewhere cs h.1)
+
+  at_first : (x c : Connection) (xs : List Connection) (b : Bool) → (x.seat == seat) ≡ b → AllByRecursion (λ n. nat_eq x.seat n ≡ false) (seats xs) → P c → (connection_of xs seat ≡ Some c → AtSeat xs) → cond b (Some x) (connection_of xs seat) ≡ Some c → AtSeat (x ∷ xs)
+  at_first x c xs true e d p f g =
+      let same : x ≡ c = cc in
+      (λ s. subst P (sym same) p, at_elsewhere xs (apart_from seat x.seat xs (nat_is x.seat seat e) d))
+  at_first x c xs false e d p f g = (λ s. let no : true ≡ false = sym s ∙ e in cc, f g)
+
+  pub found-at : (cs : List Connection) (c : Connection) → IsDistinct nat_eq (seats cs) → connection_of cs seat ≡ Some c → P c → AtSeat cs
+  unfolding IsDistinct
+  found-at [] c d f p = tt
+  found-at (x ∷ xs) c d f p = at_first x c xs (x.seat == seat) refl d.0 p (λ g. found-at xs c d.1 g p) f
+
 module _ (queued seat : ℕ) (path : List ℕ) (p : is_host_path path ≡ true) where
   abbrev push : List (List ℕ) → List (List ℕ)
   push queue = queue ++ path ∷ []
@@ -184,8 +205,8 @@ picked p (suc n) zero (x ∷ xs) h l m = first_of_both (p x) (list_all p xs) h
 picked p (suc n) (suc i) (x ∷ xs) h l m = picked p n i xs (second_of_both (p x) (list_all p xs) h) (omega arith) (omega arith)
 
 -- other connections of a sound state
-pub sound-connected : (s : State) (cs : List Connection) → Sound s → SoundConnections s.limits.queued cs → SoundHandles s.limits.handles cs s.handles → Sound (record s { connections = cs })
-sound-connected s cs k c h = record {
+pub sound-connected : (s : State) (cs : List Connection) → Sound s → SoundConnections s.limits.queued cs → SoundHandles s.limits.handles cs s.handles → AreSoundNames s.made s.documents cs → Sound (record s { connections = cs })
+sound-connected s cs k c h names = record {
   documented = k.documented;
   connected = record {
     seats_differ = c.0;
@@ -204,4 +225,6 @@ sound-connected s cs k c h = record {
     queued_limit = k.connected.queued_limit;
   };
   handles_made = k.handles_made;
+  folders_sound = k.folders_sound;
+  namings_sound = names;
 }

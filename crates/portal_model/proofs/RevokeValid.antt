@@ -24,7 +24,7 @@ module _ (P : Doing → Type 0) (valid : (d : Doing) → Valid d.state → P d) 
       let listed = rights_named call.names in
       if-passes P (may_revoke (held_by s.rights who d.id.number) (names_itself who call.app)) Code.NotAllowed (does (revoked s call d) Answer.Done)
       (λ may. valid _ (fewer-lists s s.documents (take_rights call.app d.id.number listed s.rights) v
-      (documented-taken s.documents s.made s.rights s.applications call.app d.id listed (valid-sound s v).documented d.id.number) v.documents_within))
+      (documented-taken s.documents s.made s.rights s.applications call.app d.id listed (valid-sound s v).documented d.id.number) v.documents_within v.folders_sound v.namings_sound))
 
   pub revoke-valid : IfDoes P (revoke s who call)
   revoke-valid =

@@ -1,7 +1,7 @@
 -- What is true of a valid state beside the limits of documents and applications, in two parts: its documents and rights,
 -- and all else. A change of one part leaves the other.
 use Rattle.std.proofs.Common.{◌≡◌, ℕ, ◌^◌, ◌<◌, ◌≤◌, nat_eq, nat_lt, length, List, [], map, Bool, true, false, not, ◌&&◌, ◌||◌, is_some, refl, arith}
-use Rattle.std.specs.List.{list_all, IsDistinct}
+use Rattle.std.specs.List.{list_all, AllByRecursion, IsDistinct}
 use Rattle.std.proofs.lemmas.Bool.Decides.{nat_tests}
 use Rattle.portal_base.specs.Names.{is_same, is_app_name, is_host_path}
 use Rattle.portal_base.specs.declared.files.File.{File}
@@ -14,8 +14,9 @@ use Rattle.portal_model.specs.declared.store.StoredEntry.{StoredEntry}
 use Rattle.portal_model.specs.Content.{is_folder}
 use Rattle.portal_model.specs.Grant.{exceeds_limits}
 use Rattle.portal_model.specs.Rights.{are_in_order}
+use Rattle.portal_model.specs.SoundNames.{SoundNamings}
 use Rattle.portal_model.specs.State.{State, document_of}
-use Rattle.portal_model.specs.Valid.{Valid, applications_limit, has_identifier, is_made, is_numbered, is_of_made, is_sound_connection, is_sound_handle, opens_within, is_valid_entry, same_entry, same_handle}
+use Rattle.portal_model.specs.Valid.{Valid, applications_limit, has_identifier, is_made, is_numbered, is_of_made, is_sound_connection, is_sound_folder, is_sound_handle, opens_within, is_valid_entry, same_entry, same_handle}
 
 abbrev pub numbers : List Document → List ℕ
 numbers ds = map (λ (d : Document). d.id.number) ds
@@ -27,13 +28,16 @@ is_live ds number = is_some (document_of ds number)
 abbrev pub is_placed_in : List Document → List (List ℕ) → Triple → Bool
 is_placed_in ds apps t = is_live ds t.id.number && is_numbered apps t.app
 
+-- what each connection has named below exported folders is sound
+abbrev pub AreSoundNames : List DocId → List Document → List Connection → Type 0
+AreSoundNames made ds cs = AllByRecursion (λ (c : Connection). SoundNamings made ds c.namings) cs
+
 -- what is true of documents, made numbers, rights and applications
 pub record Documented (ds : List Document) (made : List DocId) (rights : List Triple) (apps : List (List ℕ)) : Type 0 where
   pub numbers_differ : IsDistinct nat_eq (numbers ds)
   pub numbers_made : list_all (λ (d : Document). is_made made d.id.number) ds ≡ true
   pub identifiers : list_all has_identifier ds ≡ true
   pub paths : list_all (λ (d : Document). is_host_path d.path) ds ≡ true
-  pub folders_none : list_all (λ (d : Document). not d.folder) ds ≡ true
   pub applications_differ : IsDistinct is_same apps
   pub names : list_all is_app_name apps ≡ true
   pub rights_in_order : are_in_order rights ≡ true
@@ -60,6 +64,8 @@ pub record Sound (s : State) : Type 0 where
   pub documented : Documented s.documents s.made s.rights s.applications
   pub connected : Connected s
   pub handles_made : list_all (is_of_made s.made) s.handles ≡ true
+  pub folders_sound : list_all (is_sound_folder s.told s.files) s.documents ≡ true
+  pub namings_sound : AreSoundNames s.made s.documents s.connections
 
 pub valid-sound : (s : State) → Valid s → Sound s
 valid-sound s v = record {
@@ -68,7 +74,6 @@ valid-sound s v = record {
     numbers_made = v.numbers_made;
     identifiers = v.identifiers;
     paths = v.paths;
-    folders_none = v.folders_none;
     applications_differ = v.applications_differ;
     names = v.names;
     rights_in_order = v.rights_in_order;
@@ -91,6 +96,8 @@ valid-sound s v = record {
     queued_limit = v.queued_limit;
   };
   handles_made = v.handles_made;
+  folders_sound = v.folders_sound;
+  namings_sound = v.namings_sound;
 }
 
 -- ---- the limits
@@ -117,13 +124,14 @@ sound-valid s e k =
       numbers_made = k.documented.numbers_made;
       identifiers = k.documented.identifiers;
       paths = k.documented.paths;
-      folders_none = k.documented.folders_none;
+      folders_sound = k.folders_sound;
       applications_differ = k.documented.applications_differ;
       names = k.documented.names;
       rights_in_order = k.documented.rights_in_order;
       rights_placed = k.documented.rights_placed;
       seats_differ = k.connected.seats_differ;
       connections_sound = k.connected.connections_sound;
+      namings_sound = k.namings_sound;
       handles_differ = k.connected.handles_differ;
       handles_sound = k.connected.handles_sound;
       handles_made = k.handles_made;
@@ -146,8 +154,8 @@ sound-valid s e k =
 
 -- other documents and rights
 pub sound-lists : (s : State) (ds : List Document) (made : List DocId) (rights : List Triple) (apps : List (List ℕ)) → Sound s → Documented ds made rights apps → list_all (is_of_made made) s.handles ≡ true →
-    Sound (record s { documents = ds; made = made; rights = rights; applications = apps })
-sound-lists s ds made rights apps k d m = record {
+    list_all (is_sound_folder s.told s.files) ds ≡ true → AreSoundNames made ds s.connections → Sound (record s { documents = ds; made = made; rights = rights; applications = apps })
+sound-lists s ds made rights apps k d m folders names = record {
   documented = d;
   connected = record {
     seats_differ = k.connected.seats_differ;
@@ -166,22 +174,26 @@ sound-lists s ds made rights apps k d m = record {
     queued_limit = k.connected.queued_limit;
   };
   handles_made = m;
+  folders_sound = folders;
+  namings_sound = names;
 }
 
 -- no more documents than there were, and other rights
-pub fewer-lists : (s : State) (ds : List Document) (rights : List Triple) → Valid s → Documented ds s.made rights s.applications → length ds ≤ s.limits.documents → Valid (record s { documents = ds; rights = rights })
-fewer-lists s ds rights v d fewer = record {
+pub fewer-lists : (s : State) (ds : List Document) (rights : List Triple) → Valid s → Documented ds s.made rights s.applications → length ds ≤ s.limits.documents →
+    list_all (is_sound_folder s.told s.files) ds ≡ true → AreSoundNames s.made ds s.connections → Valid (record s { documents = ds; rights = rights })
+fewer-lists s ds rights v d fewer folders names = record {
   numbers_differ = d.numbers_differ;
   numbers_made = d.numbers_made;
   identifiers = d.identifiers;
   paths = d.paths;
-  folders_none = d.folders_none;
+  folders_sound = folders;
   applications_differ = d.applications_differ;
   names = d.names;
   rights_in_order = d.rights_in_order;
   rights_placed = d.rights_placed;
   seats_differ = v.seats_differ;
   connections_sound = v.connections_sound;
+  namings_sound = names;
   handles_differ = v.handles_differ;
   handles_sound = v.handles_sound;
   handles_made = v.handles_made;
@@ -225,19 +237,20 @@ valid-files s v = record { differ = v.files_differ; apart = v.files_apart; named
 
 -- other connections, handles and files
 pub Valid-open : (s : State) (cs : List Connection) (hs : List OpenHandle) (files : List File) → Valid s → SoundConnections s.limits.queued cs → SoundHandles s.limits.handles cs hs → list_all (is_of_made s.made) hs ≡ true → SoundFiles s.told files →
-    Valid (record s { connections = cs; handles = hs; files = files })
-Valid-open s cs hs files v k h m f = record {
+    AreSoundNames s.made s.documents cs → list_all (is_sound_folder s.told files) s.documents ≡ true → Valid (record s { connections = cs; handles = hs; files = files })
+Valid-open s cs hs files v k h m f names folders = record {
   numbers_differ = v.numbers_differ;
   numbers_made = v.numbers_made;
   identifiers = v.identifiers;
   paths = v.paths;
-  folders_none = v.folders_none;
+  folders_sound = folders;
   applications_differ = v.applications_differ;
   names = v.names;
   rights_in_order = v.rights_in_order;
   rights_placed = v.rights_placed;
   seats_differ = k.0;
   connections_sound = k.1;
+  namings_sound = names;
   handles_differ = h.differ;
   handles_sound = h.sound;
   handles_made = m;
@@ -256,8 +269,8 @@ Valid-open s cs hs files v k h m f = record {
   queued_limit = v.queued_limit;
 }
 
-pub Valid-connections : (s : State) (cs : List Connection) → Valid s → SoundConnections s.limits.queued cs → SoundHandles s.limits.handles cs s.handles → Valid (record s { connections = cs })
-Valid-connections s cs v k h = Valid-open s cs s.handles s.files v k h v.handles_made (valid-files s v)
+pub Valid-connections : (s : State) (cs : List Connection) → Valid s → SoundConnections s.limits.queued cs → SoundHandles s.limits.handles cs s.handles → AreSoundNames s.made s.documents cs → Valid (record s { connections = cs })
+Valid-connections s cs v k h names = Valid-open s cs s.handles s.files v k h v.handles_made (valid-files s v) names v.folders_sound
 
 -- other entries of the permission store
 pub Valid-entries : (s : State) (entries : List StoredEntry) → Valid s → IsDistinct same_entry entries → list_all is_valid_entry entries ≡ true → Valid (record s { entries = entries })
@@ -266,13 +279,14 @@ Valid-entries s entries v d e = record {
   numbers_made = v.numbers_made;
   identifiers = v.identifiers;
   paths = v.paths;
-  folders_none = v.folders_none;
+  folders_sound = v.folders_sound;
   applications_differ = v.applications_differ;
   names = v.names;
   rights_in_order = v.rights_in_order;
   rights_placed = v.rights_placed;
   seats_differ = v.seats_differ;
   connections_sound = v.connections_sound;
+  namings_sound = v.namings_sound;
   handles_differ = v.handles_differ;
   handles_sound = v.handles_sound;
   handles_made = v.handles_made;

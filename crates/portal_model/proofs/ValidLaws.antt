@@ -6,6 +6,7 @@ use Rattle.std.proofs.lemmas.List.Folds.{list_all-append}
 use Rattle.std.proofs.lemmas.Cmp.{nat_eq_equiv}
 use Rattle.std.proofs.lemmas.Map.Keys.{IsDistinct-push}
 use Rattle.portal_base.specs.Names.{is_app_name, is_same}
+use Rattle.portal_base.specs.declared.files.File.{File}
 use Rattle.portal_base.specs.declared.names.doc_id.DocId.{DocId}
 use Rattle.portal_base.specs.declared.who.Kind.{Kind}
 use Rattle.portal_base.specs.declared.who.Who.{Who}
@@ -30,11 +31,9 @@ use Rattle.portal_model.specs.Lawful.{Lawful, LawfulGiven, LawfulOnBus, LawfulOn
 use Rattle.portal_model.specs.Leave.{left, of_others}
 use Rattle.portal_model.specs.ListDocuments.{documents_listed, list_documents}
 use Rattle.portal_model.specs.LookupDocument.{lookup_document, text_of}
-use Rattle.portal_model.specs.Node.{node_given, walk_on_node}
-use Rattle.portal_model.specs.NodeOutside.{LawfulNode}
-use Rattle.portal_model.specs.Outside.{AreDrawn, LawfulBus, meets_limit, verdict_of, words_drawn}
+use Rattle.portal_model.specs.Outside.{AreDrawn, LawfulBus, files_told, meets_limit, verdict_of, words_drawn}
 use Rattle.portal_model.specs.Place.{sight_on}
-use Rattle.portal_model.specs.Present.{with_queue}
+use Rattle.portal_model.specs.Present.{requeued, with_queue}
 use Rattle.portal_model.specs.State.{State, connection_of}
 use Rattle.portal_model.specs.Step.{after, all_told, bus_of, bus_step, collect_step, is_mount, told_of, node_step, request_step, mount_of}
 use Rattle.portal_model.specs.Valid.{Valid, is_caller, is_sound_connection}
@@ -42,17 +41,18 @@ use Rattle.portal_model.specs.Verdict.{Doing, Verdict, Refuses, Does, does}
 use Rattle.portal_model.proofs.AddValid.{add-valid}
 use Rattle.portal_model.proofs.DistinctItems.{IsDistinct-filter, list_all-filter}
 use Rattle.portal_model.proofs.DeleteDocumentValid.{delete-valid}
-use Rattle.portal_model.proofs.WalkDoings.{IfDoes, IfGiven, OnWalk, if-passes, on-walked}
+use Rattle.portal_model.proofs.WalkDoings.{IfDoes, IfGiven, OnTree, if-passes, tree-walked}
 use Rattle.portal_model.proofs.DrawnNumbers.{Unused, drawn-length, drawn-unused}
 use Rattle.portal_model.proofs.ListLookups.{found_in_all, found_passes, nat_is}
 use Rattle.portal_model.proofs.GrantValid.{grant-valid}
 use Rattle.portal_model.proofs.PresentValid.{present-valid}
 use Rattle.portal_model.proofs.MadeHandles.{left-made}
-use Rattle.portal_model.proofs.NodeValid.{IsSoundSight, NamesKept, names-kept, node-valid, place-sound, unnamed-connection}
+use Rattle.portal_model.proofs.NamesValid.{names-entered, names-filtered, names-found, names-mapped, requeued_names, told_names}
+use Rattle.portal_model.proofs.NodeValid.{IsSoundSight, node-valid, place-sound}
 use Rattle.portal_model.proofs.OpenHandles.{entered-handles, left-handles, requeued-handles, told-handles}
 use Rattle.portal_model.proofs.Queues.{caller_sound, dropped-connections, found_told, seats}
 use Rattle.portal_model.proofs.RevokeValid.{revoke-valid}
-use Rattle.portal_model.proofs.SoundParts.{SoundConnections, Valid-connections, Valid-open, valid-files, valid-handles}
+use Rattle.portal_model.proofs.SoundParts.{AreSoundNames, SoundConnections, Valid-connections, Valid-open, valid-files, valid-handles}
 use Rattle.portal_model.proofs.StoreValid.{store-valid}
 
 -- ---- Enter
@@ -92,6 +92,16 @@ left_sound seat queued cs (Some c) k = (
   list_all-filter (is_sound_connection queued) _ cs k.1,
 )
 
+-- ---- what was named on them
+
+entered_names : (seat : ℕ) (who : Who) (kind : Kind) (made : List DocId) (ds : List Document) (cs : List Connection) (o : Option Connection) → AreSoundNames made ds cs → AreSoundNames made ds (entered seat who kind cs o)
+entered_names seat who kind made ds cs None h = names-entered made ds cs (new_connection seat who kind) refl h
+entered_names seat who kind made ds cs (Some c) h = h
+
+left_names : (seat : ℕ) (made : List DocId) (ds : List Document) (cs : List Connection) (o : Option Connection) → AreSoundNames made ds cs → AreSoundNames made ds (left seat cs o)
+left_names seat made ds cs None h = h
+left_names seat made ds cs (Some c) h = names-filtered made ds (λ (d : Connection). not (d.seat == seat)) cs h
+
 -- ---- what is told
 
 told_seats : (seat : ℕ) (cs : List Connection) → seats (map (told_of seat) cs) ≡ seats cs
@@ -113,6 +123,7 @@ pub all_told-Valid : (s : State) (seat : ℕ) → Valid s → Valid (all_told se
 all_told-Valid s seat v = Valid-connections s (map (told_of seat) s.connections) v
     (subst (IsDistinct nat_eq) (sym (told_seats seat s.connections)) v.seats_differ, told_sound s.limits.queued seat s.connections v.connections_sound)
     (told-handles seat s.limits.handles s.connections s.handles (valid-handles s v))
+    (names-mapped s.made s.documents (told_of seat) (told_names seat) s.connections v.namings_sound)
 
 -- ---- a step
 
@@ -149,7 +160,10 @@ module _ (s : State) (c found : Connection) (numbers : List DocId) (f : connecti
   list-valid (Who.App caller) app = tt
   list-valid Who.Host app = if-passes P (is_same app [] || is_app_name app) Code.InvalidArgument (does s (Answer.Listed (documents_listed s app))) (λ named. λ e l u. v)
 
-  walk-valid : (request : Request) → OnWalk P (bus_walk s c request numbers)
+  abbrev tree : Option (List File)
+  tree = files_told s
+
+  walk-valid : (request : Request) → OnTree tree P (bus_walk s c request numbers)
   walk-valid (Request.Present path) = present-valid P always s c found path f q v
   walk-valid (Request.Add a) = add-valid P s c found a numbers (λ d h. h) f q caller v
   walk-valid (Request.Grant call) = grant-valid P (λ d h. λ e l u. h e) s c.who call v
@@ -167,6 +181,7 @@ module _ (s : State) (c found : Connection) (numbers : List DocId) (f : connecti
   taken-valid : (a : AddRequest) (b : Bool) → Valid (cond b (with_queue c.seat (drop a.fds) s) s)
   taken-valid a true = Valid-connections s _ v (dropped-connections s.limits.queued c.seat a.fds s.connections (v.seats_differ, v.connections_sound))
       (requeued-handles c.seat s.limits.handles (drop a.fds) s.connections s.handles (valid-handles s v))
+      (names-mapped s.made s.documents (requeued c.seat (drop a.fds)) (requeued_names c.seat (drop a.fds)) s.connections v.namings_sound)
   taken-valid a false = v
 
   refused-valid : (request : Request) → Valid (refused_state s c request)
@@ -199,7 +214,7 @@ module _ (s : State) (c found : Connection) (numbers : List DocId) (f : connecti
 bus_answer-Valid : (s : State) (c found : Connection) (request : Request) (given : Given) → connection_of s.connections c.seat ≡ Some found → found.queue ≡ c.queue → is_caller c.who ≡ true → Valid s → LawfulBus s c request given → Valid (bus_answer s c request given).0
 bus_answer-Valid s c found request given f q caller v l =
     settled-valid s c found given.numbers f q caller v (refused_state s c request) given (verdict_of s c request given) (refused-valid s c found given.numbers f q caller v request) l.numbers l.words l.full
-    (on-walked (Good s given.numbers) (bus_walk s c request given.numbers) (moment_given given.now) given.looks (is_tree given.fault) (walk-valid s c found given.numbers f q caller v request))
+    (tree-walked (files_told s) (Good s given.numbers) (bus_walk s c request given.numbers) (moment_given given.now) given.looks (is_tree given.fault) l.looks (walk-valid s c found given.numbers f q caller v request))
 
 bus_is : (o : Option Connection) (c : Connection) → bus_of o ≡ Some c → o ≡ Some c
 bus_is None c e = cc
@@ -229,21 +244,20 @@ node_step-Valid s seat r given (Some c) e v l =
     let here : connection_of s.connections c.seat ≡ Some c = subst (λ (n : ℕ). connection_of s.connections n ≡ Some c) (sym own) there.0 in
     node-valid (all_told c.seat s) c (record c { unsent = [] }) (found_told c.seat c s.connections here) refl refl refl there.1 (all_told-Valid s c.seat v) r given l
 
--- what the connection of a seat sees, and that nothing is named on it
-pub told-sight : (s : State) (seat : ℕ) (c : Connection) → connection_of s.connections seat ≡ Some c → Valid s → (node : ℕ) → IsSoundSight (record { who = c.who; made = s.made }) node (sight_on (all_told c.seat s) c node)
-told-sight s seat c e v node = place-sound (all_told c.seat s) (all_told-Valid s c.seat v) c node (unnamed-connection s seat c e v)
-
-pub told-kept : (s : State) (seat : ℕ) (c : Connection) → connection_of s.connections seat ≡ Some c → Valid s → (r : NodeRequest) (given : Given) → LawfulNode (all_told c.seat s) c r given → NamesKept (node_given (walk_on_node (all_told c.seat s) c r) given)
-told-kept s seat c e v r given l = names-kept (all_told c.seat s) c (unnamed-connection s seat c e v) (all_told-Valid s c.seat v) r given l
+-- what the connection of a seat sees
+pub told-sight : (s : State) (seat : ℕ) (c : Connection) → connection_of s.connections seat ≡ Some c → Valid s → (node : ℕ) → IsSoundSight (record { who = c.who; made = s.made; documents = s.documents }) node (sight_on (all_told c.seat s) c node)
+told-sight s seat c e v node = place-sound (all_told c.seat s) (all_told-Valid s c.seat v) c node (names-found s.made s.documents seat s.connections c e v.namings_sound)
 
 request_step-Valid : (s : State) (seat : ℕ) (request : Request) (given : Given) → LawfulGiven s seat request given → Valid s → Valid (request_step s seat request given).0
 request_step-Valid s seat (Request.Enter who kind) given l v =
     Valid-connections s _ v (entered_sound seat who kind s.limits.queued l.0 s.connections (connection_of s.connections seat) refl (v.seats_differ, v.connections_sound))
     (entered-handles seat s.limits.handles who kind s.connections s.handles (connection_of s.connections seat) refl (valid-handles s v))
+    (entered_names seat who kind s.made s.documents s.connections (connection_of s.connections seat) v.namings_sound)
 request_step-Valid s seat Request.Leave given l v =
     Valid-open s _ _ s.files v (left_sound seat s.limits.queued s.connections (connection_of s.connections seat) (v.seats_differ, v.connections_sound))
     (left-handles seat s.limits.handles s.connections s.handles (connection_of s.connections seat) (valid-handles s v))
     (left-made s.made seat s.handles (connection_of s.connections seat) v.handles_made) (valid-files s v)
+    (left_names seat s.made s.documents s.connections (connection_of s.connections seat) v.namings_sound) v.folders_sound
 request_step-Valid s seat Request.Collect given l v = collect_step-Valid s (bus_of (connection_of s.connections seat)) v
 request_step-Valid s seat (Request.Node r) given l v = node_step-Valid s seat r given (mount_of (connection_of s.connections seat)) refl v l
 request_step-Valid s seat (Request.Present path) given l v = bus_step-Valid s seat (Request.Present path) given (bus_of (connection_of s.connections seat)) refl v l

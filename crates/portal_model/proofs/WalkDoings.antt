@@ -1,9 +1,10 @@
 -- What is true of all that a walk may do, where it is true whatever the looks show.
 use Rattle.std.proofs.Common.{◌≡◌, ℕ, List, [], ◌∷◌, Bool, true, false, not, Option, Some, None, refl}
+use Rattle.portal_base.specs.declared.files.File.{File}
 use Rattle.portal_base.specs.declared.files.Look.{Look}
 use Rattle.portal_model.specs.declared.reply.Code.{Code}
 use Rattle.portal_model.specs.Verdict.{Doing, Verdict, Refuses, Does, unless, walk_unless}
-use Rattle.portal_model.specs.Walk.{Walk, Answers, Looks, Ends, Lists, looks_at_all, walked}
+use Rattle.portal_model.specs.Walk.{Walk, Answers, AtPath, Looks, Ends, Gives, IsShown, Lists, looks_at_all, walked}
 
 module _ (P : Doing → Type 0) where
   abbrev pub IfDoes : Verdict → Type 0
@@ -42,3 +43,44 @@ module _ (P : Doing → Type 0) where
   on-walked (Ends call done missing) now (look ∷ looks) failed h = h.1
   on-walked (Lists path done missing) now looks true h = tt
   on-walked (Lists path done missing) now looks false h = h
+
+-- ---- by what the tree may have shown
+
+-- what it showed at paths one after another
+abbrev pub AreShown : Option (List File) → List (List ℕ) → List Look → Type 0
+AreShown tree [] [] = Unit {0}
+AreShown tree [] (look ∷ looks) = ⊥
+AreShown tree (path ∷ paths) [] = ⊥
+AreShown tree (path ∷ paths) (look ∷ looks) = IsShown tree (AtPath path) look × AreShown tree paths looks
+
+module _ (tree : Option (List File)) (P : Doing → Type 0) where
+  abbrev pub OnTree : Walk Verdict → Type 0
+  OnTree (Answers v) = IfDoes P v
+  OnTree (Looks target next) = (look : Look) → IsShown tree target look → OnTree (next look)
+  OnTree (Ends call done missing) = ((now : ℕ) → IfDoes P (done now)) × IfDoes P missing
+  OnTree (Lists path done missing) = IfDoes P missing
+
+  -- whatever it showed
+  pub on-any : (w : Walk Verdict) → OnWalk P w → OnTree w
+  on-any (Answers v) h = h
+  on-any (Looks target next) h = λ look shown. on-any (next look) (h look)
+  on-any (Ends call done missing) h = h
+  on-any (Lists path done missing) h = h
+
+  pub tree-passes : (fine : Bool) (code : Code) (w : Walk Verdict) → (fine ≡ true → OnTree w) → OnTree (walk_unless (not fine) code w)
+  tree-passes true code w h = h refl
+  tree-passes false code w h = tt
+
+  pub tree-looks : (paths : List (List ℕ)) (next : List Look → Walk Verdict) → ((looks : List Look) → AreShown tree paths looks → OnTree (next looks)) → OnTree (looks_at_all paths next)
+  tree-looks [] next h = h [] tt
+  tree-looks (path ∷ paths) next h = λ look shown. tree-looks paths (λ looks. next (look ∷ looks)) (λ looks more. h (look ∷ looks) (shown, more))
+
+  pub tree-walked : (w : Walk Verdict) (now : ℕ) (looks : List Look) (failed : Bool) → Gives tree w looks failed → OnTree w → IfGiven P (walked w now looks failed)
+  tree-walked (Answers v) now looks failed g h = h
+  tree-walked (Looks target next) now [] failed g h = tt
+  tree-walked (Looks target next) now (look ∷ looks) failed g h = tree-walked (next look) now looks failed g.1 (h look g.0)
+  tree-walked (Ends call done missing) now [] true g h = tt
+  tree-walked (Ends call done missing) now [] false g h = h.0 now
+  tree-walked (Ends call done missing) now (look ∷ looks) failed g h = h.1
+  tree-walked (Lists path done missing) now looks true g h = tt
+  tree-walked (Lists path done missing) now looks false g h = h

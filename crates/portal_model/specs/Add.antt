@@ -1,7 +1,7 @@
 -- Add, AddFull, AddNamed and AddNamedFull: presented files become documents, all of a call or none.
 use Rattle.std.specs.Prelude.{ℕ, ◌-◌, List, [], ◌∷◌, ◌++◌, drop, fold, length, Bool, true, false, not, ◌&&◌, ◌||◌, cond, Option, Some, None}
-use Rattle.std.specs.List.{list_all}
-use Rattle.portal_base.specs.Names.{doc_text}
+use Rattle.std.specs.List.{list_all, list_any}
+use Rattle.portal_base.specs.Names.{doc_text, is_same, root}
 use Rattle.portal_base.specs.declared.files.Look.{Look}
 use Rattle.portal_base.specs.declared.names.doc_id.DocId.{DocId}
 use Rattle.portal_base.specs.declared.who.Who.{Who}
@@ -67,8 +67,16 @@ are_folders_and_files (above ∷ []) = false
 are_folders_and_files (above ∷ named ∷ looks) =
     is_folder_look above && (not (is_folder_look named) && are_folders_and_files looks)
 
-abbrev pub are_of_kind : AddRequest → List Look → Bool
-are_of_kind a looks = cond a.named (are_folders_and_files looks) (list_all is_file looks)
+-- a folder is exported under its own name, which the root doesn't have
+abbrev pub are_exported : List (List ℕ) → List Look → Bool
+are_exported paths looks =
+    not (list_any (λ path. is_same path root) paths) && list_all is_folder_look looks
+
+-- by the paths that the tree was asked for, and what it showed there
+abbrev pub are_of_kind : AddRequest → List (List ℕ) → List Look → Bool
+are_of_kind a paths looks =
+    cond a.named (are_folders_and_files looks)
+    (cond (exports a) (are_exported paths looks) (list_all is_file looks))
 
 -- ---- the change
 
@@ -152,7 +160,7 @@ added_files s c a numbers =
 
 abbrev pub add_shown : State → Connection → AddRequest → List DocId → List Look → Walk Verdict
 add_shown s c a numbers looks =
-    Answers (unless (not (are_of_kind a looks)) Code.InvalidArgument
+    Answers (unless (not (are_of_kind a (paths_shown c.queue a) looks)) Code.InvalidArgument
     (added s (added_files s c a numbers)))
 
 abbrev pub add_looking : State → Connection → AddRequest → List DocId → Walk Verdict

@@ -1,10 +1,10 @@
 -- What an Add, AddFull, AddNamed or AddNamedFull asks: the files among the presented ones, the
 -- flags, the application that is named and the permissions that are listed for it. Source: XDG
 -- Desktop Portal documentation, org.freedesktop.portal.Documents, AddFull and AddNamedFull, for the
--- arguments and for what the flags 1, 2 and 4 mean. Rules of this project's own: that the files are
--- presented, and that an application has an own folder; that a call has at most 16 files; that a
--- file name has at most 255 bytes and ends with a zero byte; that flag 8, to export a folder, is
--- refused as every unknown flag is; and flag 16, strict.
+-- arguments and for what the flags 1, 2, 4 and 8 mean. Rules of this project's own: that the files
+-- are presented, and that an application has an own folder; that a call has at most 16 files; that
+-- a file name has at most 255 bytes and ends with a zero byte; that a folder is exported under its
+-- own name, and for a run alone; and flag 16, strict.
 use Rattle.std.specs.Prelude.{ℕ, ◌/◌, ◌%◌, ◌==◌, List, [], ◌∷◌, get_or, length, map, nat_le, nat_lt, take, Bool, not, ◌&&◌, ◌||◌, cond}
 use Rattle.std.specs.List.{flat_map, list_all, list_any}
 use Rattle.portal_base.specs.Names.{child_of, is_app_name, is_host_path, is_in_own_folder, is_same, is_slash}
@@ -28,14 +28,13 @@ is_as_needed a = a.flags / 4 % 2 == 1
 abbrev pub makes_strict : AddRequest → Bool
 makes_strict a = a.flags / 16 % 2 == 1
 
--- a folder becomes a document
+-- a folder is exported
 abbrev pub exports : AddRequest → Bool
 exports a = a.flags / 8 % 2 == 1
 
--- 1, 2, 4 and 16. This project's own rule: 8, to export a folder, is refused as every unknown flag
--- is.
-abbrev pub are_flags : ℕ → Bool
-are_flags flags = flags / 8 == 0 || flags / 8 == 2
+-- 1, 2, 4, 8 and 16; 8 where no file is named, and without 2
+abbrev pub are_flags : AddRequest → Bool
+are_flags a = nat_lt a.flags 32 && (not (exports a) || (not a.named && not (persists a)))
 
 -- ---- the application that is named, or nothing
 
@@ -97,6 +96,6 @@ is_named_well queue a =
 abbrev pub are_add_arguments : List (List ℕ) → AddRequest → Bool
 are_add_arguments queue a =
     nat_le (length a.handles) files_limit
-    && (are_flags a.flags
+    && (are_flags a
     && ((names_nobody a || is_app_name a.app)
     && (are_right_names a.names && is_named_well queue a)))

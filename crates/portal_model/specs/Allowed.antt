@@ -49,13 +49,14 @@ abbrev pub is_refusal : Answer → Bool
 is_refusal (Answer.Refused code) = true
 is_refusal answer = false
 
--- the files that are there are of the kind that the call needs
+-- what is there is of the kind that the call needs
 abbrev pub may_add : State → Connection → AddRequest → Bool
 may_add s c a =
     are_presented c.queue a
     && (are_add_arguments c.queue a
     && (may_list_all s c.who a (document_paths c.queue a)
-    && are_of_kind a (map (look_at s.files) (paths_shown c.queue a))))
+    && are_of_kind a (paths_shown c.queue a)
+    (map (look_at s.files) (paths_shown c.queue a))))
 
 -- of a live document
 abbrev pub may_grant_in : State → Who → RightsCall → Option Document → Bool
@@ -166,7 +167,7 @@ is_folder_handle None = false
 is_folder_handle (Some (Handle.File name node document strict read write)) = false
 is_folder_handle (Some (Handle.Folder node names)) = true
 
--- the document's name, of a file or of a folder that is exported
+-- the name in a document's folder: of a file, or of the folder that the document is
 abbrev pub has_document : State → Document → Bool
 has_document s d =
     has_file s d.path || (d.folder && is_folder_look (look_told s d.path))

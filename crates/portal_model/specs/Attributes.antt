@@ -18,14 +18,15 @@ attr_of_file r may_write size moment = record {
   block_size = 4096;
 }
 
--- whether names may be made in a folder: in an exported one and below it, by the right to write
+-- whether a folder is shown as one that may be written: an exported one and those below it, by the
+-- right to write
 abbrev pub is_writable : Folder → Bool
 is_writable (RootOf view numbers has_views) = false
 is_writable (Views applications) = false
 is_writable (FolderOf view d may_write) = false
 is_writable (Exported view d path may_write) = may_write
 
--- of a folder: the mode is 0o040700 where names may be made in it, and else 0o040500
+-- of a folder: the mode is 0o040700 where it may be written, and else 0o040500
 abbrev pub attr_of_folder : NodeRequest → Bool → Attr
 attr_of_folder r may_write = record {
   node = r.node;

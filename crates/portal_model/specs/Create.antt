@@ -18,7 +18,7 @@ use Rattle.portal_model.specs.Walk.{Walk, Looks, Ends, AtPath, Makes}
 
 -- ---- at a path
 
--- what is made: the document, the path, the node, and what the seat has named then
+-- what is made: the document, the path, the node, and how what the seat has named changes
 pub record Made : Type 0 where
   pub document : Document
   pub path : List ℕ

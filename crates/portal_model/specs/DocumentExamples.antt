@@ -414,7 +414,7 @@ one_too_many =
     ∷ presents 1 n_text ∷ []
 
 abbrev pub with_flag : Entry
-with_flag = asked_alone 1 (takes_two (0 ∷ []) 8)
+with_flag = asked_alone 1 (takes_two (0 ∷ []) 10)
 
 abbrev pub with_seventeen : Entry
 with_seventeen = asked_alone 1 (takes_two (replicate 17 0) 0)
@@ -426,8 +426,8 @@ with_bad_handle = asked_alone 1 (takes_two (2 ∷ []) 0)
 abbrev pub with_failing_tree : Entry
 with_failing_tree = failing_tree (asked_alone 1 (takes_two (0 ∷ []) 0))
 
--- The files that a refused Add takes leave the queue, at a limit too: flag 8, and 17 files. They
--- stay where the handles aren't of files that the call takes, and where the tree fails.
+-- The files that a refused Add takes leave the queue, at a limit too: flag 8 with 2, and 17 files.
+-- They stay where the handles aren't of files that the call takes, and where the tree fails.
 pub record RefusesAdditions : Type 0 where
   pub flag :
       answers_behind_three with_flag ≡ refused Refusal.InvalidArgument ∷ Answer.Place 1 ∷ []

@@ -4,6 +4,7 @@ pub mod Rights
 pub mod Documents
 pub mod Applications
 pub mod SeatNames
+pub mod SoundNames
 pub mod Content
 pub mod NodeNumbers
 pub mod Place

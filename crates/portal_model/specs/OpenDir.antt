@@ -66,7 +66,8 @@ entry_of_child c = record { node = unnamed_node; name = c.name; folder = c.folde
 abbrev pub names_of_children : List ChildName → List DirName
 names_of_children names = map entry_of_child names
 
--- the exported folder stands in the document's, and what is below it in a folder without a number
+-- The parent of the exported folder is the document's. That of one below it is told without a
+-- number: paths of namings lie strictly below the document's.
 abbrev pub parent_of_exported : ℕ → Document → List ℕ → ℕ
 parent_of_exported view d path =
     cond (is_same path d.path) (folder_node view d.id.number) unnamed_node

@@ -16,7 +16,7 @@ use Rattle.portal_model.specs.Content.{is_folder}
 use Rattle.portal_model.specs.Rights.{add_rights}
 use Rattle.portal_model.specs.State.{State, bit_of}
 use Rattle.rights_rule.specs.Rights.{RightSet}
-use Rattle.portal_model.specs.Valid.{Valid, applications_limit, is_valid_entry, same_entry}
+use Rattle.portal_model.specs.Valid.{Valid, applications_limit, is_sound_folder, is_valid_entry, same_entry}
 
 abbrev pub id_of : ℕ → DocId
 id_of number = record { number = number }
@@ -127,6 +127,10 @@ pub record ValidOpening (files : Option (List File)) (o : OpeningState) : Type 0
   pub made : o.made ≡ map (λ d. id_of d.kept.number) o.documents
   pub applications : o.applications ≡ first_named (each names_kept o.documents)
 
+-- a document that is a folder is kept where these files have one
+abbrev pub is_folder_kept : List File → OpeningDocument → Bool
+is_folder_kept files d = is_sound_folder true files (document_kept d)
+
 -- no application has two records in a document
 abbrev pub GrantsDiffer : List OpeningDocument → Type 0
 GrantsDiffer [] = Unit {0}
@@ -147,8 +151,8 @@ pub record SoundOpening (o : OpeningState) : Type 0 where
   pub files_differ : IsDistinct is_same (map (λ f. f.path) o.files)
   pub files_apart : list_all (λ f. not (is_folder (map file_of o.files) f.path)) o.files ≡ true
   pub files_named : list_all (λ f. is_host_path f.path) o.files ≡ true
-  -- not yet: no document is a folder, and each file is the first that its path has
-  pub no_folders : list_all (λ d. not d.folder) o.documents ≡ true
+  pub folders_sound : list_all (is_folder_kept (map file_of o.files)) o.documents ≡ true
+  -- not yet: each file is the first that its path has
   pub files_first : list_all is_first_item o.files ≡ true
   pub none_taken : o.taken ≡ []
   pub documents_within : length o.documents ≤ o.limits.documents

@@ -46,6 +46,9 @@ abbrev pub is_none : {X : Type 0} → List X → Bool
 is_none [] = true
 is_none (x ∷ xs) = false
 
+abbrev pub is_made : List DocId → ℕ → Bool
+is_made made number = list_any (λ id. id.number == number) made
+
 -- the number that a record of rights gives a right
 abbrev pub bit_of : Right → ℕ
 bit_of Read = 1

@@ -1,7 +1,8 @@
 -- What is true of every state that a portal reaches.
 use Rattle.std.specs.Prelude.{◌≡◌, ℕ, ◌==◌, ◌^◌, ◌<◌, ◌≤◌, nat_eq, nat_le, nat_lt, List, [], length, map, Bool, true, false, not, ◌&&◌, ◌||◌, Option, Some, None, is_some}
-use Rattle.std.specs.List.{list_any, list_all, IsDistinct}
-use Rattle.portal_base.specs.Names.{is_same, is_app_name, is_host_path, is_byte_of_path}
+use Rattle.std.specs.List.{list_any, list_all, AllByRecursion, IsDistinct}
+use Rattle.portal_base.specs.Names.{is_same, is_app_name, is_host_path, is_byte_of_path, root}
+use Rattle.portal_base.specs.declared.files.File.{File}
 use Rattle.portal_base.specs.declared.names.doc_id.DocId.{DocId}
 use Rattle.portal_base.specs.declared.who.Kind.{Kind}
 use Rattle.portal_base.specs.declared.who.Who.{Who}
@@ -17,12 +18,10 @@ use Rattle.portal_model.specs.Content.{is_folder}
 use Rattle.portal_model.specs.Data.{is_data}
 use Rattle.portal_model.specs.NodeNumbers.{view_of_node}
 use Rattle.portal_model.specs.Rights.{are_in_order}
+use Rattle.portal_model.specs.SoundNames.{SoundNamings}
 use Rattle.portal_model.specs.State.{State, connection_of, document_of, handles_of, is_mount}
 use Rattle.portal_model.specs.Store.{can_be_told}
-pub use Rattle.portal_model.specs.State.{is_none}
-
-abbrev pub is_made : List DocId → ℕ → Bool
-is_made made number = list_any (λ id. id.number == number) made
+pub use Rattle.portal_model.specs.State.{is_made, is_none}
 
 abbrev pub is_numbered : List (List ℕ) → List ℕ → Bool
 is_numbered applications app = list_any (is_same app) applications
@@ -30,6 +29,12 @@ is_numbered applications app = list_any (is_same app) applications
 -- an identifier writes a number of 32 bits
 abbrev pub has_identifier : Document → Bool
 has_identifier d = nat_lt d.id.number (2 ^ 32)
+
+-- An exported folder has a name, so it isn't the root; and where the tree tells its files, a folder
+-- is there.
+abbrev pub is_sound_folder : Bool → List File → Document → Bool
+is_sound_folder told files d =
+    not d.folder || (not (is_same d.path root) && (not told || is_folder files d.path))
 
 -- the document is live, and the application is numbered
 abbrev pub is_placed : State → Triple → Bool
@@ -82,12 +87,12 @@ is_bound_connection queued c =
     && (list_all is_sound_change c.unsent
     && (list_all is_host_path c.queue && nat_le (length c.queue) queued)))
 
--- not yet: nothing was named on it below a folder, and no temporary was made
-abbrev pub has_no_names : Connection → Bool
-has_no_names c = is_none c.namings && (is_none c.temps && c.added == 0)
+-- not yet: no temporary was made on it
+abbrev pub has_no_temps : Connection → Bool
+has_no_temps c = is_none c.temps && c.added == 0
 
 abbrev pub is_sound_connection : ℕ → Connection → Bool
-is_sound_connection queued c = has_no_names c && is_bound_connection queued c
+is_sound_connection queued c = has_no_temps c && is_bound_connection queued c
 
 -- the greatest number of applications that may be numbered
 abbrev pub applications_limit : ℕ
@@ -145,8 +150,7 @@ pub record Valid (s : State) : Type 0 where
   pub numbers_made : list_all (λ d. is_made s.made d.id.number) s.documents ≡ true
   pub identifiers : list_all has_identifier s.documents ≡ true
   pub paths : list_all (λ d. is_host_path d.path) s.documents ≡ true
-  -- not yet: no document is a folder
-  pub folders_none : list_all (λ d. not d.folder) s.documents ≡ true
+  pub folders_sound : list_all (is_sound_folder s.told s.files) s.documents ≡ true
   pub applications_differ : IsDistinct is_same s.applications
   pub names : list_all is_app_name s.applications ≡ true
   -- rights stand in their one order, none twice
@@ -154,6 +158,9 @@ pub record Valid (s : State) : Type 0 where
   pub rights_placed : list_all (is_placed s) s.rights ≡ true
   pub seats_differ : IsDistinct nat_eq (map (λ c. c.seat) s.connections)
   pub connections_sound : list_all (is_sound_connection s.limits.queued) s.connections ≡ true
+  -- what each has named below exported folders
+  pub namings_sound :
+      AllByRecursion (λ c. SoundNamings s.made s.documents c.namings) s.connections
   -- open handles of a seat differ in number
   pub handles_differ : IsDistinct same_handle s.handles
   pub handles_sound : list_all (is_sound_handle s.connections) s.handles ≡ true

@@ -23,9 +23,9 @@ use Rattle.portal_model.specs.declared.records.EntryRecord.{EntryRecord}
 use Rattle.portal_model.specs.declared.records.GrantRecord.{GrantRecord}
 use Rattle.portal_model.specs.declared.records.Records.{Records}
 use Rattle.portal_model.specs.Content.{is_above, is_folder}
-use Rattle.portal_model.specs.Opening.{each, first_named, has_grants, id_of, is_grant, names_kept, opened_over, GrantsDiffer, SoundOpening}
+use Rattle.portal_model.specs.Opening.{document_kept, each, first_named, has_grants, id_of, is_folder_kept, is_grant, names_kept, opened_over, GrantsDiffer, SoundOpening}
 use Rattle.portal_model.specs.Store.{Entries}
-use Rattle.portal_model.specs.Valid.{Valid, applications_limit}
+use Rattle.portal_model.specs.Valid.{Valid, applications_limit, is_sound_folder}
 use Rattle.portal_model.proofs.OpeningLaws.{openings-valid}
 use Rattle.record_keeper.specs.BadRecords.{AllGood, AreGood, EachBehind, IsGoodDocument, IsGoodEntry, applications_of, names_granted}
 use Rattle.record_keeper.specs.KeptEntries.{KeepEntries}
@@ -148,10 +148,10 @@ no_files : IsDistinct is_same []
 unfolding IsDistinct
 no_files = tt
 
--- no record is of a folder
-none_folders : (ds : List DocRecord) → list_all (λ (d : OpeningDocument). not d.folder) (map document_loaded ds) ≡ true
-none_folders [] = refl
-none_folders (d ∷ ds) = none_folders ds
+-- no record is of a folder, so whatever the tree tells
+pub none_folders : (files : List File) (ds : List DocRecord) → list_all (is_folder_kept files) (map document_loaded ds) ≡ true
+none_folders files [] = refl
+none_folders files (d ∷ ds) = none_folders files ds
 
 -- ---- the whole
 
@@ -173,7 +173,7 @@ sound_records limits records entries kept good narrow made queued =
       files_differ = no_files;
       files_apart = refl;
       files_named = refl;
-      no_folders = none_folders ds;
+      folders_sound = none_folders [] ds;
       files_first = refl;
       none_taken = refl;
       documents_within = rw (length-map ds document_loaded) (let within = few records.version limits ds [] limits.documents (λ e d k. k.live) (omega arith) good.documents in omega (arith, within));
@@ -213,20 +213,22 @@ sorted_differ (p ∷ ps) h = (all_past p ps h.0, sorted_differ ps h.1)
 pub paths_differ : (files : List File) → IsTree files → IsDistinct is_same (paths_of files)
 paths_differ files t = sorted_differ (paths_of files) t.placed.in_order
 
--- a state over a tree that tells is valid where it is over one that doesn't
-with_files : (o : OpeningState) (files : List File) → Valid (opened_over None o) → IsTree files → Valid (opened_over (Some files) o)
-with_files o files v t = record {
+-- a state over a tree that tells is valid where it is over one that doesn't, and the tree has the
+-- folders that are documents
+with_files : (o : OpeningState) (files : List File) → list_all (is_folder_kept files) o.documents ≡ true → Valid (opened_over None o) → IsTree files → Valid (opened_over (Some files) o)
+with_files o files k v t = record {
   numbers_differ = v.numbers_differ;
   numbers_made = v.numbers_made;
   identifiers = v.identifiers;
   paths = v.paths;
-  folders_none = v.folders_none;
+  folders_sound = list_all-map (is_sound_folder true files) document_kept o.documents ∙ k;
   applications_differ = v.applications_differ;
   names = v.names;
   rights_in_order = v.rights_in_order;
   rights_placed = v.rights_placed;
   seats_differ = v.seats_differ;
   connections_sound = v.connections_sound;
+  namings_sound = tt;
   handles_differ = v.handles_differ;
   handles_sound = v.handles_sound;
   handles_made = v.handles_made;
@@ -245,9 +247,9 @@ with_files o files v t = record {
   queued_limit = v.queued_limit;
 }
 
-pub over_any : (o : OpeningState) (began : Option (List File)) → Valid (opened_over None o) → IfSome began IsTree → Valid (opened_over began o)
-over_any o None v t = v
-over_any o (Some files) v t = with_files o files v t
+pub over_any : (o : OpeningState) (began : Option (List File)) → ((files : List File) → list_all (is_folder_kept files) o.documents ≡ true) → Valid (opened_over None o) → IfSome began IsTree → Valid (opened_over began o)
+over_any o None k v t = v
+over_any o (Some files) k v t = with_files o files (k files) v t
 
 pub valid_quiet : (o : OpeningState) → SoundOpening o → Valid (opened_over None o)
 valid_quiet o k = (openings-valid.quiet o k).valid

@@ -46,7 +46,7 @@ add-tells s c a numbers now looks failed =
     (walk_unless-tells now looks failed (not (are_add_arguments c.queue a)) Code.InvalidArgument (add_allowed s c a numbers) refl
     (walk_unless-tells now looks failed (not (may_list_all s c.who a (document_paths c.queue a))) Code.NotAllowed (add_looking s c a numbers) refl
     (looks-tell now failed (paths_shown c.queue a) (add_shown s c a numbers) looks
-    (λ shown rest. unless-tells (not (are_of_kind a shown)) Code.InvalidArgument (added s (added_files s c a numbers)) refl refl))))
+    (λ shown rest. unless-tells (not (are_of_kind a (paths_shown c.queue a) shown)) Code.InvalidArgument (added s (added_files s c a numbers)) refl refl))))
 
 -- ---- where a call of the tree failed
 

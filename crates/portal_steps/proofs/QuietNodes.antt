@@ -32,10 +32,11 @@ use Rattle.portal_model.specs.SeatNames.{with_naming}
 use Rattle.portal_model.specs.State.{State, connection_of, handle_of, is_mount}
 use Rattle.portal_model.specs.Step.{all_told, mount_of, node_step, reply_with, told_of, with_signals}
 use Rattle.portal_model.specs.Walk.{Walk, Gives, reads_clock, GivesNames}
-use Rattle.portal_model.specs.Valid.{Valid, has_no_names, is_bound_connection, is_caller, is_host_bus, is_none, is_sound_change, is_sound_connection}
+use Rattle.portal_model.specs.Valid.{Valid, has_no_temps, is_bound_connection, is_caller, is_host_bus, is_none, is_sound_change, is_sound_connection}
 use Rattle.portal_model.proofs.DocumentChanges.{both, first_of_both, second_of_both}
+use Rattle.portal_model.proofs.NamesValid.{names-mapped}
 use Rattle.portal_model.proofs.OpenHandles.{Alike as AlikeConnections, mapped-handles}
-use Rattle.portal_model.proofs.Queues.{is_sound_queue, seats, sound_bound, sound_unnamed}
+use Rattle.portal_model.proofs.Queues.{is_sound_queue, seats, sound_bound, sound_no_temps}
 use Rattle.portal_model.proofs.SoundParts.{Valid-connections, valid-handles}
 use Rattle.portal_model.proofs.WhoWaits.{node_step-quiet}
 use Rattle.portal_steps.proofs.Boxes.{hushed, hushed-found, hushed-unnamed, kept-waits, mount-hushed, told-hushed}
@@ -74,7 +75,7 @@ quiet-one queued c h =
     let queue = is_sound_queue queued c.queue in
     let bound = sound_bound queued c h in
     let later = second_of_both waits (changes && queue) (second_of_both (is_caller c.who) (waits && (changes && queue)) bound) in
-    both (has_no_names c) (is_bound_connection queued (hushed c)) (sound_unnamed queued c h)
+    both (has_no_temps c) (is_bound_connection queued (hushed c)) (sound_no_temps queued c h)
     (both (is_caller c.who) queue (first_of_both (is_caller c.who) (waits && (changes && queue)) bound) (second_of_both changes queue later))
 
 quiet-sound : (queued : ℕ) (cs : List Connection) → list_all (is_sound_connection queued) cs ≡ true → list_all (is_sound_connection queued) (map hushed cs) ≡ true
@@ -91,6 +92,7 @@ pub quiet-valid : (s : State) → Valid s → Valid (quiet s)
 quiet-valid s v = Valid-connections s (map hushed s.connections) v
     (subst (IsDistinct nat_eq) (sym (quiet-seats s.connections)) v.seats_differ, quiet-sound s.limits.queued s.connections v.connections_sound)
     (mapped-handles hushed quiet-alike s.limits.handles s.connections s.handles (valid-handles s v))
+    (names-mapped s.made s.documents hushed (λ c. refl) s.connections v.namings_sound)
 
 -- ---- the step
 

@@ -171,13 +171,13 @@ looks_alike (path ∷ paths) v u h = (refl, λ look. looks_alike paths (λ looks
 
 add_alike : (s : State) (c : Connection) (a : AddRequest) (ns ms : List DocId) → WalkAlike DrawAlike (add s c a ns) (add s c a ms)
 add_alike s c a ns ms =
-    let v : List DocId → List Look → Verdict = λ numbers looks. unless (not (are_of_kind a looks)) Code.InvalidArgument (added s (added_files s c a numbers)) in
+    let v : List DocId → List Look → Verdict = λ numbers looks. unless (not (are_of_kind a (paths_shown c.queue a) looks)) Code.InvalidArgument (added s (added_files s c a numbers)) in
     let base = taken_from_queue c a s in
     let same = files_counts c.who a (document_paths c.queue a) (record { state = base; numbers = ns; ids = [] }) (record { state = base; numbers = ms; ids = [] }) (counts_itself base) in
     walk_alike (not (are_presented c.queue a)) Code.InvalidArgs (add_presented s c a ns) (add_presented s c a ms)
     (walk_alike (not (are_add_arguments c.queue a)) Code.InvalidArgument (add_allowed s c a ns) (add_allowed s c a ms)
     (walk_alike (not (may_list_all s c.who a (document_paths c.queue a))) Code.NotAllowed (add_looking s c a ns) (add_looking s c a ms)
-    (looks_alike (paths_shown c.queue a) (v ns) (v ms) (λ looks. unless_alike (not (are_of_kind a looks)) Code.InvalidArgument _ _ (added_alike s (added_files s c a ns) (added_files s c a ms) same)))))
+    (looks_alike (paths_shown c.queue a) (v ns) (v ms) (λ looks. unless_alike (not (are_of_kind a (paths_shown c.queue a) looks)) Code.InvalidArgument _ _ (added_alike s (added_files s c a ns) (added_files s c a ms) same)))))
 
 pub bus_alike : (s : State) (c : Connection) (request : Request) (ns ms : List DocId) → WalkAlike DrawAlike (bus_walk s c request ns) (bus_walk s c request ms)
 bus_alike s c (Request.Add a) ns ms = add_alike s c a ns ms

@@ -10,8 +10,9 @@ use Rattle.std.proofs.lemmas.List.Elements.{All-nil, All-cons, All-head, All-tai
 use Rattle.std.proofs.lemmas.List.Folds.{list_any-append}
 use Rattle.std.proofs.lemmas.List.Sums.{sum_by-append}
 use Rattle.portal_base.specs.Names.{is_same, is_app_name, is_host_path, root}
+use Rattle.portal_base.specs.declared.files.File.{File as HostFile}
 use Rattle.portal_model.specs.Content.{is_above, is_folder}
-use Rattle.portal_model.specs.Opening.{has_grants, is_first_item, is_grant, names_kept, file_of, GrantsDiffer}
+use Rattle.portal_model.specs.Opening.{has_grants, is_first_item, is_folder_kept, is_grant, names_kept, file_of, GrantsDiffer}
 use Rattle.portal_model.specs.Valid.{applications_limit}
 use Rattle.portal_model.specs.declared.opening.FileItem.{FileItem}
 use Rattle.portal_model.specs.declared.opening.OpeningDocument.{OpeningDocument}
@@ -220,10 +221,10 @@ files_first [] time = refl
 files_first (File p content ∷ ls) time = files_first ls time
 files_first (line ∷ ls) time = files_first ls (time_behind time line)
 
-pub none_folders : (lines : List ScriptLine) → list_all (λ (d : OpeningDocument). not d.folder) (documents_of lines) ≡ true
-none_folders [] = refl
-none_folders (Doc id reusable strict path grants ∷ ls) = none_folders ls
-none_folders (line ∷ ls) = none_folders ls
+pub none_folders : (files : List HostFile) (lines : List ScriptLine) → list_all (is_folder_kept files) (documents_of lines) ≡ true
+none_folders files [] = refl
+none_folders files (Doc id reusable strict path grants ∷ ls) = none_folders files ls
+none_folders files (line ∷ ls) = none_folders files ls
 
 same_clear : (p : List ℕ) (qs : List (List ℕ)) → Clear p qs → AllByRecursion (λ q. is_same p q ≡ false) qs
 same_clear p [] clear = tt

@@ -41,6 +41,7 @@ fn trace_of(alloc: Global, words: &str) -> Result<Trace, VectorError> {
             documents: List::new(alloc),
             connections: List::new(alloc),
             contents: List::new(alloc),
+            below: List::new(alloc),
         },
         items: List::new(alloc),
     };

@@ -128,8 +128,8 @@ module _ (a : AddRequest) where
       let rights : Bool = are_right_names a.names in
       second_of_both rights (is_named_well queue a)
       (second_of_both names (rights && is_named_well queue a)
-      (second_of_both (are_flags a.flags) (names && (rights && is_named_well queue a))
-      (second_of_both (nat_le (length a.handles) files_limit) (are_flags a.flags && (names && (rights && is_named_well queue a))) h)))
+      (second_of_both (are_flags a) (names && (rights && is_named_well queue a))
+      (second_of_both (nat_le (length a.handles) files_limit) (are_flags a && (names && (rights && is_named_well queue a))) h)))
 
   shown-host : (queue : List (List ℕ)) → list_all is_host_path queue ≡ true → are_presented queue a ≡ true → are_add_arguments queue a ≡ true → list_all is_host_path (paths_shown queue a) ≡ true
   shown-host queue h k l =
@@ -184,7 +184,7 @@ module _ (app : List ℕ) (s : State) (c : Connection) (a : AddRequest) (here : 
 
     looking-along : are_presented c.queue a ≡ true → are_add_arguments c.queue a ≡ true → AllByRecursion May (places_along (add_looking told c a given.numbers) given.looks)
     looking-along k l =
-        paths-along (paths_shown c.queue a) May (λ looks. unless (not (are_of_kind a looks)) code.InvalidArgument (added told (added_files told c a given.numbers))) given.looks
+        paths-along (paths_shown c.queue a) May (λ looks. unless (not (are_of_kind a (paths_shown c.queue a) looks)) code.InvalidArgument (added told (added_files told c a given.numbers))) given.looks
         (each-presented (paths_shown c.queue a) (among-itself (paths_shown c.queue a)) (shown-own a app c.queue own k) (shown-host a c.queue host k l))
 
     pub add-places : AllByRecursion May (places_along (add told c a given.numbers) given.looks)

@@ -6,7 +6,7 @@ use Rattle.std.specs.Option.{option_map}
 use Rattle.portal_base.specs.Names.{doc_text, is_in_own_folder, is_same}
 use Rattle.portal_base.specs.declared.files.Look.{Look}
 use Rattle.portal_base.specs.declared.names.doc_id.DocId.{DocId}
-use Rattle.rights_rule.specs.Rights.{contains, rights_named}
+use Rattle.rights_rule.specs.Rights.{RightSet, contains, rights_named}
 use Rattle.portal_model.specs.declared.entry.Fault.{Fault}
 use Rattle.portal_model.specs.declared.reply.Answer.{Answer}
 use Rattle.portal_model.specs.declared.reply.Code.{Code}
@@ -14,10 +14,11 @@ use Rattle.portal_model.specs.declared.reply.Code.TheVariants as code
 use Rattle.portal_model.specs.declared.request.AddRequest.{AddRequest}
 use Rattle.portal_model.specs.declared.request.Request.{Request}
 use Rattle.portal_model.specs.declared.request.RightsCall.{RightsCall}
+use Rattle.portal_model.specs.declared.state.Document.{Document}
 use Rattle.portal_model.specs.Add.{adding_rights, are_of_kind, first_number, new_document, used_again}
 use Rattle.portal_model.specs.AddArguments.{are_add_arguments, are_presented, is_left_out, names_nobody, paths_shown}
 use Rattle.portal_model.specs.Arguments.{ahead_of_end, is_ended_path}
-use Rattle.portal_model.specs.Content.{Content}
+use Rattle.portal_model.specs.Content.{NotThere}
 use Rattle.portal_model.specs.Grant.{are_rights_arguments, may_grant}
 use Rattle.portal_model.specs.Revoke.{may_revoke}
 use Rattle.portal_model.specs.Walk.{Walk, looks_at_all, walked}
@@ -30,7 +31,7 @@ use Rattle.app_world.specs.Own.{Own}
 use Rattle.app_world.specs.OwnVerdict.{OwnVerdict, OwnDoes, OwnRefuses, own_reached, own_unless}
 use Rattle.app_world.specs.Present.{own_present, own_present_path, own_queue_path, own_with_queue}
 use Rattle.app_world.specs.Revoke.{own_revoke_reached, own_revoked}
-use Rattle.app_world.specs.View.{AppView, HeldDocument, OwnConnection}
+use Rattle.app_world.specs.View.{Alone, AppView, Below, HeldDocument, Holding, OwnConnection}
 use Rattle.served_world.specs.ServedItem.{bare}
 
 abbrev pub bare_answer : AppView × Answer → AppView × Answer
@@ -63,14 +64,28 @@ all-looks-same (p ∷ ps) next other now (l ∷ ls) failed h = all-looks-same ps
 abbrev bare_added : OwnAdded → OwnAdded
 bare_added done = record done { view = bare done.view }
 
-module _ (a : AddRequest) (content other : List ℕ → Content) where
+-- whatever there is for the document
+gained-same : (x y : AppView) (d : Document) (rights : RightSet) (holding other : Holding) → bare x ≡ bare y → bare (apply x (Gained d rights holding)) ≡ bare (apply y (Gained d rights other))
+gained-same x y d rights (Alone content) (Alone more) h = λ i. bare (apply (h i) (Gained d rights (Alone content)))
+gained-same x y d rights (Alone content) (Below more) h = λ i. bare (apply (h i) (Gained d rights (Alone content)))
+gained-same x y d rights (Below files) (Alone more) h = λ i. bare (apply (h i) (Gained d rights (Alone (NotThere false))))
+gained-same x y d rights (Below files) (Below more) h = λ i. bare (apply (h i) (Gained d rights (Alone (NotThere false))))
+
+module _ (a : AddRequest) (content other : List ℕ → Holding) where
   use-same : (path : List ℕ) (x y : OwnAdded) (o : Option DocId) → bare_added x ≡ bare_added y → bare_added (own_use_document a content path x o) ≡ bare_added (own_use_document a other path y o)
-  use-same path x y (Some id) h = λ i. record (h i) {
-    view = bare (apply (h i).view (Gained (new_document a id path) (adding_rights a) (content path)));
+  use-same path x y (Some id) h =
+      let view = gained-same x.view y.view (new_document a id path) (adding_rights a) (content path) (other path) (λ i. (h i).view) in
+      λ i. record (h i) {
+    view = view i;
     ids = (h i).ids ++ doc_text id.number ∷ [];
   }
-  use-same path x y None h = λ i. record {
-    view = bare (apply (h i).view (Gained (new_document a (first_number (h i).numbers) path) (adding_rights a) (content path)));
+  use-same path x y None h =
+      let numbers : first_number x.numbers ≡ first_number y.numbers = λ i. first_number (h i).numbers in
+      let view =
+      gained-same x.view y.view (new_document a (first_number x.numbers) path) (adding_rights a) (content path) (other path) (λ i. (h i).view)
+      ∙ ap (λ (id : DocId). bare (apply y.view (Gained (new_document a id path) (adding_rights a) (other path)))) numbers in
+      λ i. record {
+    view = view i;
     numbers = drop 1 (h i).numbers;
     ids = (h i).ids ++ doc_text (first_number (h i).numbers).number ∷ [];
     made = (h i).made ++ new_document a (first_number (h i).numbers) path ∷ [];
@@ -99,7 +114,7 @@ IsPlain (Request.Add a) = ⊥
 IsPlain (Request.Node r) = ⊥
 IsPlain request = Unit {0}
 
-module _ (v : AppView) (c : OwnConnection) (own : Own) (more : List Content) where
+module _ (v : AppView) (c : OwnConnection) (own : Own) (more : List Holding) where
   abbrev b : AppView
   b = bare v
 
@@ -161,7 +176,7 @@ module _ (v : AppView) (c : OwnConnection) (own : Own) (more : List Content) whe
       (started a b) (started a v) (λ i. record (started a v) { view = taken-same a i })
 
   shown-same : (a : AddRequest) (now : ℕ) (failed : Bool) (ls looks : List Look) → image (walked (own_add_shown b c a told ls) now looks failed) ≡ image (walked (own_add_shown v c a own ls) now looks failed)
-  shown-same a now failed ls looks = ap Some (unless-same (not (are_of_kind a ls)) code.InvalidArgument (own_added (own_added_files b c a told)) (own_added (own_added_files v c a own)) (ap (λ (d : OwnAdded). own_added d) (added-same a)))
+  shown-same a now failed ls looks = ap Some (unless-same (not (are_of_kind a (paths_shown c.queue a) ls)) code.InvalidArgument (own_added (own_added_files b c a told)) (own_added (own_added_files v c a own)) (ap (λ (d : OwnAdded). own_added d) (added-same a)))
 
   walk-same : (a : AddRequest) (now : ℕ) (looks : List Look) (failed : Bool) → image (walked (own_add b c a told) now looks failed) ≡ image (walked (own_add v c a own) now looks failed)
   walk-same a now looks failed =

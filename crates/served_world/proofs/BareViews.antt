@@ -3,7 +3,7 @@ use Rattle.std.proofs.Common.{◌≡◌, ℕ, List, [], ◌∷◌, ◌++◌, Boo
 use Rattle.std.specs.List.{filter, flat_map}
 use Rattle.portal_model.specs.Content.{Content}
 use Rattle.app_world.specs.Effect.{Effect, Gained, Lost, Gone, Bytes, apply, apply_all, changed}
-use Rattle.app_world.specs.View.{AppView, HeldDocument, is_held}
+use Rattle.app_world.specs.View.{Alone, AppView, Below, HeldDocument, is_held}
 use Rattle.served_world.specs.ServedItem.{ServedItem, bare, items_of_effect}
 use Rattle.served_world.specs.ServedWorld.{view_after, views_after}
 
@@ -31,7 +31,8 @@ views-joined v [] more = refl
 views-joined v (i ∷ is) more = views-joined (view_after v i) is more
 
 one-effect : (v : AppView) (f : Effect) → AllHeld v → views_after (bare v) (items_of_effect f) ≡ bare (apply v f)
-one-effect v (Gained d rights content) h = refl
+one-effect v (Gained d rights (Alone content)) h = refl
+one-effect v (Gained d rights (Below files)) h = refl
 one-effect v (Lost id rights) h = refl
 one-effect v (Gone id) h = refl
 one-effect v (Bytes path generation content) h = sym (bytes-bare v path generation content h)

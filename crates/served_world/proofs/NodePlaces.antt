@@ -1,7 +1,9 @@
--- Where the tree is asked for a request of an application on a node: the file of a document in which it has `read`, or one
--- that it has open.
+-- Where the tree is asked for a request of an application on a node: the file of a document in which it has `read`, what lies
+-- at and below one that is a folder, or a file that it has open.
 use Rattle.std.proofs.Common.{◌≡◌, ◌⊎◌, inl, inr, ℕ, zero, suc, ◌==◌, List, [], ◌∷◌, Bool, true, false, not, ◌&&◌, ◌||◌, cond, Option, Some, None, is_some, refl, sym, ap, subst, ◌∙◌}
 use Rattle.std.specs.List.{AllByRecursion}
+use Rattle.portal_base.specs.Content.{is_above}
+use Rattle.portal_base.specs.Names.{is_same, named_child, root}
 use Rattle.portal_base.specs.declared.files.FileName.{FileName}
 use Rattle.portal_base.specs.declared.files.Look.{Look}
 use Rattle.portal_base.specs.declared.who.Who.{Who}
@@ -14,34 +16,40 @@ use Rattle.portal_model.specs.declared.rights.Right.TheVariants.{Read, Write}
 use Rattle.portal_model.specs.declared.state.Connection.{Connection}
 use Rattle.portal_model.specs.declared.state.Document.{Document}
 use Rattle.portal_model.specs.Node.{facts_of, node_walk, walk_on_node}
-use Rattle.portal_model.specs.Place.{FolderOf, Sight, SightOfFolder, place_named, place_of, reach_at, reach_of_subject, seen_by, sight_at, sight_of_document, sight_of_folder, sight_of_place, sight_of_root, subject_of, view_of_node, SightBelow, naming_on, sight_at_path, sight_below, sight_of_naming, sight_on}
+use Rattle.portal_model.specs.Place.{Exported, FolderOf, RootOf, Sight, SightOfFile, SightOfFolder, Views, place_named, place_of, reach_at, reach_of_subject, seen_by, sight_at, sight_of_document, sight_of_folder, sight_of_place, sight_of_root, subject_of, view_of_node, SightBelow, naming_on, sight_at_path, sight_below, sight_of_naming, sight_on}
 use Rattle.portal_model.specs.Reach.{OpenFile, reach_of, reaches}
 use Rattle.portal_model.specs.State.{State, app_has, document_of, handle_of, has, who_has}
 use Rattle.portal_model.specs.Step.{all_told}
 use Rattle.portal_model.specs.Walk.{Target, AtPath, Named}
 use Rattle.portal_model.proofs.DocumentChanges.{first_of_both, second_of_both}
-use Rattle.portal_model.proofs.ListLookups.{found_passes, nat_is}
-use Rattle.app_world.proofs.NamedPaths.{SightOn, Plain}
+use Rattle.portal_model.proofs.ListLookups.{found_passes, is_same-refl, nat_is}
+use Rattle.portal_model.proofs.NodeValid.{Asking, IsSoundSight, child_above, child_is}
+use Rattle.app_world.specs.View.{is_at_or_below}
+use Rattle.app_world.proofs.NamedPaths.{SightHeld, SightOn}
 use Rattle.served_world.specs.OwnPlaces.{IsOpen, IsReadable, MayAsk, MayAskFor, places_along}
 use Rattle.served_world.proofs.PlacesAlong.{Along, May, access-along, along-places, create-along, flush-along, fsync-along, get_attr-along, lookup-along, open-along, open_dir-along, read-along, read_dir-along, release-along, release_dir-along, set_attr-along, write-along}
 
 -- ---- what the application sees at a node is of a document that it may read
 
 module _ (app : List ℕ) (t : State) where
-  abbrev Seen : Option Sight → Type 0
-  Seen = SightOn (IsReadable app t)
+  -- a live document that it may read
+  abbrev Reads : Document → Type 0
+  Reads d = (document_of t.documents d.id.number ≡ Some d) × (has t (Who.App app) d.id.number Read ≡ true)
 
-  readable : (d : Document) (number : ℕ) → document_of t.documents number ≡ Some d → app_has t.rights app d.id.number Read ≡ true → IsReadable app t d.path
+  abbrev Seen : Option Sight → Type 0
+  Seen = SightHeld Reads
+
+  readable : (d : Document) (number : ℕ) → document_of t.documents number ≡ Some d → app_has t.rights app d.id.number Read ≡ true → Reads d
   readable d number e h =
       let n : d.id.number ≡ number = nat_is d.id.number number (found_passes (λ (x : Document). x.id.number == number) t.documents d e) in
       let live : document_of t.documents d.id.number ≡ Some d = ap (document_of t.documents) n ∙ e in
-      record { document = d; live = live; path_is = refl; read = λ i. is_some (live i) && h i }
+      (live, λ i. is_some (live i) && h i)
 
   by_right : (d : Document) (sight : Sight) (b : Bool) → app_has t.rights app d.id.number Read ≡ b → (app_has t.rights app d.id.number Read ≡ true → Seen (Some sight)) → Seen (cond b (Some sight) None)
   by_right d sight true e h = h e
   by_right d sight false e h = tt
 
-  at-path-seen : (view : ℕ) (d : Document) (b w : Bool) → IsReadable app t d.path → Seen (Some (sight_at_path view d b w))
+  at-path-seen : (view : ℕ) (d : Document) (b w : Bool) → Reads d → Seen (Some (sight_at_path view d b w))
   at-path-seen view d true w h = h
   at-path-seen view d false w h = h
 
@@ -89,6 +97,52 @@ module _ (app : List ℕ) (t : State) where
   node-seen : (naming : Option Naming) (node : ℕ) → Seen (place_of t (Who.App app) naming node)
   node-seen naming node = at-seen naming (place_named node)
 
+  -- ---- where the tree is asked for it
+
+  first : (a b : Bool) → a ≡ true → (a || b) ≡ true
+  first true b e = refl
+  first false b e = cc
+
+  later : (a : Bool) {b : Bool} → b ≡ true → (a || b) ≡ true
+  later true e = refl
+  later false e = e
+
+  -- at or below a folder that is such a document, and isn't the root
+  record IsInFolder (path : List ℕ) : Type 0 where
+    document : Document
+    reads : Reads document
+    folder : document.folder ≡ true
+    named : is_same document.path root ≡ false
+    below : is_at_or_below document.path path ≡ true
+
+  itself-readable : (d : Document) → Reads d → IsReadable app t d.path
+  itself-readable d h = record { document = d; live = h.0; path_is = by_kind d.folder; read = h.1 }
+    where
+      by_kind : (b : Bool) → cond b (is_at_or_below d.path d.path) (is_same d.path d.path) ≡ true
+      by_kind true = first (is_same d.path d.path) _ (is_same-refl d.path)
+      by_kind false = is_same-refl d.path
+
+  below-readable : (d : Document) (path : List ℕ) → Reads d → d.folder ≡ true → is_at_or_below d.path path ≡ true → IsReadable app t path
+  below-readable d path h f k = record { document = d; live = h.0; path_is = ap (λ (b : Bool). cond b (is_at_or_below d.path path) (is_same d.path path)) f ∙ k; read = h.1 }
+
+  in-folder : (path : List ℕ) → IsInFolder path → IsReadable app t path
+  in-folder path x = below-readable x.document path x.reads x.folder x.below
+
+  -- and so is a name in it
+  in-child : (path name p : List ℕ) → IsInFolder path → named_child path name ≡ Some p → IsReadable app t p
+  in-child path name p x e =
+      below-readable x.document p x.reads x.folder
+      (later (is_same p x.document.path) (ap (is_above x.document.path) (sym (child_is path name p e).1) ∙ child_above x.document.path path name x.named x.below))
+
+  seen-on : (a : Asking) (node : ℕ) (o : Option Sight) → Seen o → IsSoundSight a node o → SightOn (IsReadable app t) IsInFolder o
+  seen-on a node None h k = tt
+  seen-on a node (Some (SightOfFile d may_write)) h k = itself-readable d h
+  seen-on a node (Some (SightBelow view d path may_write)) h k = record { document = d; reads = h; folder = k.0.folder; named = k.0.named; below = k.0.below }
+  seen-on a node (Some (SightOfFolder (RootOf view numbers has_views))) h k = tt
+  seen-on a node (Some (SightOfFolder (Views applications))) h k = tt
+  seen-on a node (Some (SightOfFolder (FolderOf view d may_write))) h k = itself-readable d h
+  seen-on a node (Some (SightOfFolder (Exported view d path may_write))) h k = record { document = d; reads = h; folder = k.folder; named = k.named; below = k.below }
+
   -- ---- what an open file of a strict document needs
 
   subject-reads : (number k : ℕ) → (reach_of_subject t number (subject_of t.applications (Who.App app) k)).read ≡ true → has t (Who.App app) number Read ≡ true
@@ -111,9 +165,9 @@ ByDocument app t (NodeOp.Write fh offset content) path = ⊥
 ByDocument app t (NodeOp.Fsync fh) path = ⊥
 ByDocument app t op path = IsReadable app t path
 
-module _ (app : List ℕ) (t : State) (c : Connection) (named : c.who ≡ Who.App app) (plain : (node : ℕ) → Plain (sight_on t c node)) where
-  sight-of : (node : ℕ) → SightOn (IsReadable app t) (sight_on t c node)
-  sight-of node = subst (λ (who : Who). SightOn (IsReadable app t) (place_of t who (naming_on c node) node)) (sym named) (node-seen app t (naming_on c node) node)
+module _ (app : List ℕ) (t : State) (c : Connection) (named : c.who ≡ Who.App app) (a : Asking) (sound : (node : ℕ) → IsSoundSight a node (sight_on t c node)) where
+  sight-of : (node : ℕ) → SightOn (IsReadable app t) (IsInFolder app t) (sight_on t c node)
+  sight-of node = seen-on app t a node (sight_on t c node) (subst (λ (who : Who). SightHeld (Reads app t) (place_of t who (naming_on c node) node)) (sym named) (node-seen app t (naming_on c node) node)) (sound node)
 
   reads-of : (file : OpenFile) → reaches (reach_at t c.who) file ≡ true → file.strict ≡ true → has t (Who.App app) file.document.number Read ≡ true
   reads-of file h e = reads-now app t file (subst (λ (who : Who). reaches (reach_at t who) file ≡ true) named h) e
@@ -121,24 +175,24 @@ module _ (app : List ℕ) (t : State) (c : Connection) (named : c.who ≡ Who.Ap
   abbrev Walks : NodeRequest → NodeOp → Type 0
   Walks r op = Along (ByDocument app t op) (IsOpen app t c.seat op) (node_walk (facts_of t c r.node) r op)
 
-  abbrev Reads : List ℕ → Type 0
-  Reads = IsReadable app t
+  abbrev Readable : List ℕ → Type 0
+  Readable = IsReadable app t
 
   abbrev OpenFor : NodeOp → FileName → Type 0
   OpenFor op = IsOpen app t c.seat op
 
   walk-places : (r : NodeRequest) (op : NodeOp) → Walks r op
-  walk-places r (NodeOp.Lookup name) = lookup-along Reads (OpenFor (NodeOp.Lookup name)) r c.namings name (sight_on t c r.node) (sight-of r.node) (plain r.node)
+  walk-places r (NodeOp.Lookup name) = lookup-along Readable (OpenFor (NodeOp.Lookup name)) (IsInFolder app t) (in-folder app t) (in-child app t) r c.namings name (sight_on t c r.node) (sight-of r.node)
   walk-places r (NodeOp.Forget count) = tt
   walk-places r (NodeOp.BatchForget nodes) = tt
   walk-places r (NodeOp.GetAttr flags fh) =
-      get_attr-along Reads (OpenFor (NodeOp.GetAttr flags fh)) (reach_at t c.who) r flags (sight_on t c r.node) (handle_of t.handles c.seat fh) (sight-of r.node) (plain r.node)
+      get_attr-along Readable (OpenFor (NodeOp.GetAttr flags fh)) (IsInFolder app t) (in-folder app t) (in-child app t) (reach_at t c.who) r flags (sight_on t c r.node) (handle_of t.handles c.seat fh) (sight-of r.node)
       (λ file is ok. record { fh = fh; file = file; handle = is; name_is = refl; opened_for = refl; strict = λ e f. reads-of file ok e })
   walk-places r (NodeOp.SetAttr valid fh size) =
-      set_attr-along Reads (OpenFor (NodeOp.SetAttr valid fh size)) (reach_at t c.who) r (record { valid = valid; size = size; limit = t.limits.file_bytes }) (sight_on t c r.node) (handle_of t.handles c.seat fh) (sight-of r.node) (plain r.node)
+      set_attr-along Readable (OpenFor (NodeOp.SetAttr valid fh size)) (IsInFolder app t) (in-folder app t) (in-child app t) (reach_at t c.who) r (record { valid = valid; size = size; limit = t.limits.file_bytes }) (sight_on t c r.node) (handle_of t.handles c.seat fh) (sight-of r.node)
       (λ file is ok. record { fh = fh; file = file; handle = is; name_is = refl; opened_for = refl; strict = λ e f. reads-of file ok e })
-  walk-places r (NodeOp.Open flags) = open-along Reads (OpenFor (NodeOp.Open flags)) r flags (sight_on t c r.node) _ (sight-of r.node) (plain r.node)
-  walk-places r (NodeOp.Create name flags) = create-along Reads (OpenFor (NodeOp.Create name flags)) r name flags (sight_on t c r.node) _ c.namings (sight-of r.node) (plain r.node)
+  walk-places r (NodeOp.Open flags) = open-along Readable (OpenFor (NodeOp.Open flags)) (IsInFolder app t) (in-folder app t) (in-child app t) r flags (sight_on t c r.node) _ (sight-of r.node)
+  walk-places r (NodeOp.Create name flags) = create-along Readable (OpenFor (NodeOp.Create name flags)) (IsInFolder app t) (in-folder app t) (in-child app t) r name flags (sight_on t c r.node) _ c.namings (sight-of r.node)
   walk-places r (NodeOp.Read fh offset size) =
       read-along (λ path. ⊥) (OpenFor (NodeOp.Read fh offset size)) (reach_at t c.who) _ offset size (handle_of t.handles c.seat fh)
       (λ file is ok. record {
@@ -161,15 +215,15 @@ module _ (app : List ℕ) (t : State) (c : Connection) (named : c.who ≡ Who.Ap
         opened_for = first_of_both file.write (reaches (reach_at t c.who) file && writes) ok;
         strict = λ e f. reads-of file (first_of_both (reaches (reach_at t c.who) file) writes (second_of_both file.write (reaches (reach_at t c.who) file && writes) ok)) e;
       })
-  walk-places r (NodeOp.Flush fh) = flush-along Reads (OpenFor (NodeOp.Flush fh)) (handle_of t.handles c.seat fh)
+  walk-places r (NodeOp.Flush fh) = flush-along Readable (OpenFor (NodeOp.Flush fh)) (handle_of t.handles c.seat fh)
   walk-places r (NodeOp.Fsync fh) =
       fsync-along (λ path. ⊥) (OpenFor (NodeOp.Fsync fh)) (handle_of t.handles c.seat fh)
       (λ file is ok. record { fh = fh; file = file; handle = is; name_is = refl; opened_for = refl; strict = λ e f. let no : false ≡ true = f in cc })
-  walk-places r (NodeOp.Release fh) = release-along Reads (OpenFor (NodeOp.Release fh)) fh (handle_of t.handles c.seat fh)
-  walk-places r NodeOp.OpenDir = open_dir-along Reads (OpenFor NodeOp.OpenDir) r (sight_on t c r.node) _ (sight-of r.node) (plain r.node)
-  walk-places r (NodeOp.ReadDir fh offset size) = read_dir-along Reads (OpenFor (NodeOp.ReadDir fh offset size)) offset size (handle_of t.handles c.seat fh)
-  walk-places r (NodeOp.ReleaseDir fh) = release_dir-along Reads (OpenFor (NodeOp.ReleaseDir fh)) fh (handle_of t.handles c.seat fh)
-  walk-places r (NodeOp.Access mask) = access-along Reads (OpenFor (NodeOp.Access mask)) mask (sight_on t c r.node) (sight-of r.node) (plain r.node)
+  walk-places r (NodeOp.Release fh) = release-along Readable (OpenFor (NodeOp.Release fh)) fh (handle_of t.handles c.seat fh)
+  walk-places r NodeOp.OpenDir = open_dir-along Readable (OpenFor NodeOp.OpenDir) (IsInFolder app t) (in-folder app t) (in-child app t) r (sight_on t c r.node) _ (sight-of r.node)
+  walk-places r (NodeOp.ReadDir fh offset size) = read_dir-along Readable (OpenFor (NodeOp.ReadDir fh offset size)) offset size (handle_of t.handles c.seat fh)
+  walk-places r (NodeOp.ReleaseDir fh) = release_dir-along Readable (OpenFor (NodeOp.ReleaseDir fh)) fh (handle_of t.handles c.seat fh)
+  walk-places r (NodeOp.Access mask) = access-along Readable (OpenFor (NodeOp.Access mask)) (IsInFolder app t) (in-folder app t) (in-child app t) mask (sight_on t c r.node) (sight-of r.node)
 
 -- ---- in the state in which it is asked
 
@@ -207,7 +261,7 @@ module _ (app : List ℕ) (s : State) (c : Connection) (r : NodeRequest) where
   may-ask (AtPath path) h = path-asked r.op path h
   may-ask (Named name) h = name-asked r.op name h
 
-  pub node-places : c.who ≡ Who.App app → ((node : ℕ) → Plain (sight_on told c node)) → (looks : List Look) → AllByRecursion (MayAsk app s c.seat (Request.Node r)) (places_along (walk_on_node told c r) looks)
-  node-places named plain looks =
+  pub node-places : c.who ≡ Who.App app → (a : Asking) → ((node : ℕ) → IsSoundSight a node (sight_on told c node)) → (looks : List Look) → AllByRecursion (MayAsk app s c.seat (Request.Node r)) (places_along (walk_on_node told c r) looks)
+  node-places named a sound looks =
       all-weaker (May (ByDocument app told r.op) (IsOpen app told c.seat r.op)) (MayAsk app s c.seat (Request.Node r)) may-ask (places_along (walk_on_node told c r) looks)
-      (along-places (ByDocument app told r.op) (IsOpen app told c.seat r.op) (walk_on_node told c r) (walk-places app told c named plain r r.op) looks)
+      (along-places (ByDocument app told r.op) (IsOpen app told c.seat r.op) (walk_on_node told c r) (walk-places app told c named a sound r r.op) looks)

@@ -144,6 +144,7 @@ bare-alike app s t a = λ i. record {
   documents = documents-same (held_of s.rights app) (held_of t.rights app) s.documents t.documents a.documents i;
   connections = a.connections i;
   contents = [];
+  below = [];
 }
 
 none-again : (s : State) (a : AddRequest) (o : Option Connection) → reuses a ≡ false → reused_on s a o ≡ []

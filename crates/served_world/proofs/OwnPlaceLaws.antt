@@ -26,7 +26,6 @@ use Rattle.app_world.specs.View.{OwnConnection, own_connection, view}
 use Rattle.app_world.proofs.ViewLaws.{is_app-named, own-some}
 use Rattle.served_world.specs.OwnPlaces.{MayAsk, OwnLooksAreOfItsFiles, PresentsItsOwn, add_places, node_places, places_asked, places_of, waits_at_home}
 use Rattle.served_world.proofs.AddPlaces.{add-places}
-use Rattle.app_world.proofs.NamedPaths.{sound-plain}
 use Rattle.served_world.proofs.NodePlaces.{node-places}
 use Rattle.served_world.proofs.PlacesAlong.{looks-placed}
 use Rattle.served_world.proofs.PresentedPaths.{after-home}
@@ -128,7 +127,7 @@ module _ (app : List ℕ) (s : State) (v : Valid s) (p : PresentsItsOwn app s) (
     seat-is = nat_is c.seat seat (found_passes (λ (x : Connection). x.seat == seat) s.connections c e)
 
     node-here : (r : NodeRequest) (b : Bool) → MayAll (Request.Node r) (node_places s r given (cond b (Some c) None))
-    node-here r true = subst (λ (n : ℕ). AllByRecursion (MayAsk app s n (Request.Node r)) (node_places s r given (Some c))) seat-is (node-places app s c r (is_app-named app c.who h) (λ node. sound-plain _ node _ (told-sight s seat c e v node)) given.looks)
+    node-here r true = subst (λ (n : ℕ). AllByRecursion (MayAsk app s n (Request.Node r)) (node_places s r given (Some c))) seat-is (node-places app s c r (is_app-named app c.who h) (record { who = c.who; made = s.made; documents = s.documents }) (told-sight s seat c e v) given.looks)
     node-here r false = tt
 
     add-here : (a : AddRequest) (b : Bool) → MayAll (Request.Add a) (add_places s a given (cond b None (Some c)))

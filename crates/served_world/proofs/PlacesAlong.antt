@@ -1,7 +1,8 @@
--- Where a walk of a request on a node asks the tree: at paths of documents that are seen, and by names of open files.
+-- Where a walk of a request on a node asks the tree: at paths of documents that are seen and of what lies below those that are
+-- folders, and by names of open files.
 use Rattle.std.proofs.Common.{◌≡◌, ◌≤◌, ◌⊎◌, inl, inr, ℕ, ◌+◌, nat_lt, List, [], ◌∷◌, length, Bool, true, false, not, ◌&&◌, ◌||◌, cond, Option, Some, None, refl, sym, subst, arith}
 use Rattle.std.specs.List.{AllByRecursion}
-use Rattle.portal_base.specs.Names.{is_same, name_of}
+use Rattle.portal_base.specs.Names.{is_same, name_of, named_child}
 use Rattle.portal_base.specs.declared.files.File.{File}
 use Rattle.portal_base.specs.declared.files.FileName.{FileName}
 use Rattle.portal_base.specs.declared.files.Look.{Look}
@@ -12,13 +13,13 @@ use Rattle.portal_model.specs.declared.request.NodeRequest.{NodeRequest}
 use Rattle.portal_model.specs.declared.state.Document.{Document}
 use Rattle.portal_model.specs.Access.{access, access_file, access_folder, executes, writes_to}
 use Rattle.portal_model.specs.Attributes.{on_node, attr_of_folder, is_writable}
-use Rattle.portal_model.specs.Create.{create, create_in, create_there, Made, own_made}
+use Rattle.portal_model.specs.Create.{Made, child_made, create, create_child, create_in, create_there, own_made}
 use Rattle.portal_model.specs.Errno.{eacces, ebadf, efbig, eisdir, einval, emfile, enametoolong, enoent, enotdir, eperm}
 use Rattle.portal_model.specs.Flush.{flush}
 use Rattle.portal_model.specs.Fsync.{fsync, fsync_open}
 use Rattle.portal_model.specs.GetAttr.{get_attr, get_attr_by_handle, get_attr_by_place, get_attr_open, names_handle, tells_file, tells_folder}
-use Rattle.portal_model.specs.Lookup.{found_folder, lookup, lookup_in, named_in_root, named_in_views, found_document}
-use Rattle.portal_model.specs.NodeVerdict.{NodeVerdict, Errs, OnFile, OnHandle, Room, Writes, at_file, at_name, by_file_handle, by_place, changes, errs, errs_if, if_file, is_too_long, no_file, told, Spot, name_at, spot}
+use Rattle.portal_model.specs.Lookup.{found_child, found_document, found_folder, lookup, lookup_child, lookup_in, named_in_root, named_in_views, naming_in}
+use Rattle.portal_model.specs.NodeVerdict.{NodeVerdict, Errs, OnFile, OnHandle, Room, Writes, at_file, at_name, by_file_handle, by_look, by_place, changes, errs, errs_if, if_file, is_too_long, no_file, told, Spot, name_at, spot}
 use Rattle.portal_model.specs.Open.{has_no_mode, open_file, open_folder, open_name, open_node, opens_to_write, truncates}
 use Rattle.portal_model.specs.OpenDir.{open_dir, open_dir_in, open_found}
 use Rattle.portal_model.specs.Place.{Folder, FolderOf, RootOf, Views, Sight, SightOfFile, SightOfFolder, file_node, Exported, SightBelow}
@@ -27,10 +28,11 @@ use Rattle.portal_model.specs.Read.{read, read_limit, read_open}
 use Rattle.portal_model.specs.ReadDir.{read_dir, read_names}
 use Rattle.portal_model.specs.Release.{release}
 use Rattle.portal_model.specs.ReleaseDir.{release_dir}
+use Rattle.portal_model.specs.SeatNames.{lacks_number}
 use Rattle.portal_model.specs.SetAttr.{SetsAttr, resize, set_attr, set_attr_at, set_attr_of, set_attr_of_folder, set_attr_of_open, set_attr_open, sets_by_handle, sets_owner_or_mode, sets_size}
 use Rattle.portal_model.specs.Walk.{Walk, Answers, Looks, Ends, Target, AtPath, Named, Changes, Gives, Lists}
 use Rattle.portal_model.specs.Write.{write, write_content, write_limit, write_open}
-use Rattle.app_world.proofs.NamedPaths.{FolderOn, SightOn, Plain, PlainFolder}
+use Rattle.app_world.proofs.NamedPaths.{FolderOn, SightOn}
 use Rattle.served_world.specs.OwnPlaces.{place_of_call, places_along}
 
 -- ---- a place for each look
@@ -56,14 +58,14 @@ module _ (At : List ℕ → Type 0) (Open : FileName → Type 0) where
   Along (Answers v) = Unit {0}
   Along (Looks place next) = May place × ((look : Look) → Along (next look))
   Along (Ends call done missing) = May (place_of_call call)
-  Along (Lists path done missing) = ⊥
+  Along (Lists path done missing) = At path
 
   pub along-places : (w : Walk NodeVerdict) → Along w → (looks : List Look) → AllByRecursion May (places_along w looks)
   along-places (Answers v) h looks = tt
   along-places (Looks place next) h [] = (h.0, tt)
   along-places (Looks place next) h (look ∷ looks) = (h.0, along-places (next look) (h.1 look) looks)
   along-places (Ends call done missing) h looks = (h, tt)
-  along-places (Lists path done missing) h looks = absurd h
+  along-places (Lists path done missing) h looks = (h, tt)
 
   -- an open file that passes the test of a request may be asked for
   abbrev pub Opening : Option Handle → (OpenFile → Bool) → Type 0
@@ -98,21 +100,11 @@ module _ (At : List ℕ → Type 0) (Open : FileName → Type 0) where
   file-of : (name : FileName) (next : OnFile) → Open name → ((generation size moment : ℕ) → Along (next generation size moment)) → Along (at_name name next)
   file-of name next n h = (inr n, on-file next h)
 
-  on-place : (sight : Option Sight) (file : Spot → OnFile) (folder : Folder → Walk NodeVerdict) → SightOn At sight → Plain sight →
-      ((at : Spot) → At at.path → (generation size moment : ℕ) → Along (file at generation size moment)) →
-      ((f : Folder) → FolderOn At f → PlainFolder f → Along (folder f)) → Along (by_place sight file folder)
-  on-place None file folder n p h k = tt
-  on-place (Some (SightOfFile d may_write)) file folder n p h k = file-at d.path (file (spot d d.path may_write)) n (h (spot d d.path may_write) n)
-  on-place (Some (SightBelow view d path may_write)) file folder n p h k = absurd p
-  on-place (Some (SightOfFolder f)) file folder n p h k = k f n p
-
   on-handle : (handle : Option Handle) (next : OnHandle) →
       ((file : OpenFile) → handle ≡ Some (Handle.File file.name file.node file.document file.strict file.read file.write) → Along (next file)) → Along (by_file_handle handle next)
   on-handle None next h = tt
   on-handle (Some (Handle.File name node document strict reads writes)) next h = h (open_file_of name node document strict reads writes) refl
   on-handle (Some (Handle.Folder node names)) next h = tt
-
-  -- ---- each request
 
   folder-found : (r : NodeRequest) (o : Option ℕ) → Along (found_folder r o)
   folder-found r None = tt
@@ -123,34 +115,9 @@ module _ (At : List ℕ → Type 0) (Open : FileName → Type 0) where
   own-found r node d may_write Look.Folder = either d.folder (told (NodeAnswers.Entry (attr_of_folder (on_node r node) may_write))) (errs enoent) tt tt
   own-found r node d may_write Look.Missing = tt
 
-  lookup-folder : (r : NodeRequest) (namings : List Naming) (name : List ℕ) (f : Folder) → FolderOn At f → PlainFolder f → Along (lookup_in r namings name f)
-  lookup-folder r namings name (RootOf view numbers has_views) n p = folder-found r (named_in_root view numbers has_views name)
-  lookup-folder r namings name (Views applications) n p = folder-found r (named_in_views applications name)
-  lookup-folder r namings name (FolderOf view d may_write) n p =
-      either (is_same name (name_of d.path)) (Looks (AtPath d.path) (found_document r (file_node view d.id.number) d may_write)) (errs enoent)
-      (n, own-found r (file_node view d.id.number) d may_write) tt
-  lookup-folder r namings name (Exported view d path may_write) n p = absurd p
-
-  pub lookup-along : (r : NodeRequest) (namings : List Naming) (name : List ℕ) (sight : Option Sight) → SightOn At sight → Plain sight → Along (lookup r namings name sight)
-  lookup-along r namings name sight n p =
-      if-wrong (is_too_long name) enametoolong _ (λ e. on-place sight (no_file enotdir) (lookup_in r namings name) n p (λ at m generation size moment. tt) (lookup-folder r namings name))
-
-  get_attr-place : (r : NodeRequest) (sight : Option Sight) → SightOn At sight → Plain sight → Along (get_attr_by_place r sight)
-  get_attr-place r sight n p = on-place sight (λ at. tells_file r at.may_write) (tells_folder r) n p (λ at m generation size moment. tt) (λ f m q. tt)
-
   get_attr-file : (reach : Reaching) (r : NodeRequest) (file : OpenFile) → (reaches reach file ≡ true → Open file.name) → Along (get_attr_open reach r file)
   get_attr-file reach r file n =
       unless-wrong (reaches reach file) eacces _ (λ e. file-of file.name (tells_file (on_node r file.node) (may_write_now reach file)) (n e) (λ generation size moment. tt))
-
-  get_attr-handle : (reach : Reaching) (r : NodeRequest) (sight : Option Sight) (handle : Option Handle) → SightOn At sight → Plain sight → Opening handle (reaches reach) → Along (get_attr_by_handle reach r sight handle)
-  get_attr-handle reach r sight None n p h = tt
-  get_attr-handle reach r sight (Some (Handle.File name node document strict reads writes)) n p h =
-      let file : OpenFile = open_file_of name node document strict reads writes in
-      get_attr-file reach r file (h file refl)
-  get_attr-handle reach r sight (Some (Handle.Folder node names)) n p h = get_attr-place r sight n p
-
-  pub get_attr-along : (reach : Reaching) (r : NodeRequest) (flags : ℕ) (sight : Option Sight) (handle : Option Handle) → SightOn At sight → Plain sight → Opening handle (reaches reach) → Along (get_attr reach r flags sight handle)
-  get_attr-along reach r flags sight handle n p h = either (names_handle flags) (get_attr_by_handle reach r sight handle) (get_attr_by_place r sight) (get_attr-handle reach r sight handle n p h) (get_attr-place r sight n p)
 
   set_attr-file : (r : NodeRequest) (a : SetsAttr) (name : FileName) (may_write : Bool) (size moment : ℕ) → May (Named name) → Along (set_attr_of r a name may_write size moment)
   set_attr-file r a name may_write size moment n =
@@ -161,42 +128,13 @@ module _ (At : List ℕ → Type 0) (Open : FileName → Type 0) where
       unless-wrong (reaches reach file) eacces _ (λ e. file-of file.name (set_attr_of_open reach r a file) (n e) (λ generation size moment.
       if-wrong (sets_size a.valid && not file.write) ebadf _ (λ f. set_attr-file (on_node r file.node) a file.name (may_write_now reach file) size moment (inr (n e)))))
 
-  pub set_attr-along : (reach : Reaching) (r : NodeRequest) (a : SetsAttr) (sight : Option Sight) (handle : Option Handle) → SightOn At sight → Plain sight → Opening handle (reaches reach) → Along (set_attr reach r a sight handle)
-  set_attr-along reach r a sight handle n p h =
-      if-wrong (sets_owner_or_mode a.valid) eperm _ (λ e.
-      either (sets_by_handle a.valid) (by_file_handle handle (set_attr_open reach r a)) (by_place sight (set_attr_at r a) (set_attr_of_folder r a))
-      (on-handle handle (set_attr_open reach r a) (λ file is. set_attr-opened reach r a file (h file is)))
-      (on-place sight (set_attr_at r a) (set_attr_of_folder r a) n p
-      (λ at m generation size moment. set_attr-file r a (name_at at generation) at.may_write size moment (inl m))
-      (λ f m q. if-wrong (sets_size a.valid) eisdir _ (λ e. tt))))
-
   open-name : (r : NodeRequest) (flags : ℕ) (room : Room) (d : Document) (name : FileName) → May (Named name) → Along (open_name r flags room d name)
   open-name r flags room d name n = either (truncates flags) _ _ n tt
-
-  pub open-along : (r : NodeRequest) (flags : ℕ) (sight : Option Sight) (room : Room) → SightOn At sight → Plain sight → Along (open_node r flags sight room)
-  open-along r flags sight room n p =
-      if-wrong (has_no_mode flags) einval _ (λ e. on-place sight (open_file r flags room) open_folder n p
-      (λ at m generation size moment.
-      if-wrong (opens_to_write flags && not at.may_write) eacces _ (λ e. if-wrong room.full emfile _ (λ f. open-name r flags room at.document (name_at at generation) (inl m))))
-      (λ f m q. tt))
 
   create-there : (r : NodeRequest) (flags : ℕ) (room : Room) (made : Made) → At made.path → (look : Look) → Along (create_there r flags room made look)
   create-there r flags room made n (Look.File generation size moment) = tt
   create-there r flags room made n Look.Folder = tt
   create-there r flags room made n Look.Missing = n
-
-  create-folder : (r : NodeRequest) (name : List ℕ) (flags : ℕ) (room : Room) (namings : List Naming) (f : Folder) → FolderOn At f → PlainFolder f → Along (create_in r name flags room namings f)
-  create-folder r name flags room namings (RootOf view numbers has_views) n p = tt
-  create-folder r name flags room namings (Views applications) n p = tt
-  create-folder r name flags room namings (FolderOf view d may_write) n p =
-      if-wrong (not (is_same name (name_of d.path))) eacces _ (λ e. if-wrong (not may_write) eacces _ (λ f. if-wrong room.full emfile _ (λ g.
-      (n, create-there r flags room (own_made view d) n))))
-  create-folder r name flags room namings (Exported view d path may_write) n p = absurd p
-
-  pub create-along : (r : NodeRequest) (name : List ℕ) (flags : ℕ) (sight : Option Sight) (room : Room) (namings : List Naming) → SightOn At sight → Plain sight → Along (create r name flags sight room namings)
-  create-along r name flags sight room namings n p =
-      if-wrong (has_no_mode flags) einval _ (λ e. if-wrong (is_too_long name) enametoolong _ (λ f.
-      on-place sight (no_file enotdir) (create_in r name flags room namings) n p (λ at m generation size moment. tt) (create-folder r name flags room namings)))
 
   pub read-along : (reach : Reaching) (bytes : FileName → List ℕ) (offset size : ℕ) (handle : Option Handle) → Opening handle (may_read_now reach) → Along (read reach bytes offset size handle)
   read-along reach bytes offset size handle h =
@@ -223,16 +161,6 @@ module _ (At : List ℕ → Type 0) (Open : FileName → Type 0) where
   pub release-along : (fh : ℕ) (handle : Option Handle) → Along (release fh handle)
   release-along fh handle = on-handle handle _ (λ file is. tt)
 
-  open_dir-folder : (r : NodeRequest) (room : Room) (f : Folder) → FolderOn At f → PlainFolder f → Along (open_found r room f)
-  open_dir-folder r room (RootOf view numbers has_views) n p = tt
-  open_dir-folder r room (Views applications) n p = tt
-  open_dir-folder r room (FolderOf view d may_write) n p = (n, λ look. tt)
-  open_dir-folder r room (Exported view d path may_write) n p = absurd p
-
-  pub open_dir-along : (r : NodeRequest) (sight : Option Sight) (room : Room) → SightOn At sight → Plain sight → Along (open_dir r sight room)
-  open_dir-along r sight room n p =
-      on-place sight (no_file enotdir) (open_dir_in r room) n p (λ at m generation size moment. tt) (λ f m q. if-wrong room.full emfile _ (λ e. open_dir-folder r room f m q))
-
   read_dir-names : (offset size : ℕ) (handle : Option Handle) → Along (read_names offset size handle)
   read_dir-names offset size None = tt
   read_dir-names offset size (Some (Handle.File name node document strict reads writes)) = tt
@@ -246,8 +174,107 @@ module _ (At : List ℕ → Type 0) (Open : FileName → Type 0) where
   release_dir-along fh (Some (Handle.File name node document strict reads writes)) = tt
   release_dir-along fh (Some (Handle.Folder node names)) = tt
 
-  pub access-along : (mask : ℕ) (sight : Option Sight) → SightOn At sight → Plain sight → Along (access mask sight)
-  access-along mask sight n p =
-      if-wrong (nat_lt 7 mask) einval _ (λ e. on-place sight (access_file mask) (access_folder mask) n p
-      (λ at m generation size moment. if-wrong (executes mask || writes_to mask && not at.may_write) eacces (told NodeAnswers.Empty) (λ f. tt))
-      (λ f m q. if-wrong (writes_to mask && not (is_writable f)) eacces (told NodeAnswers.Empty) (λ g. tt)))
+  -- ---- what is seen at a node
+
+  -- of the folders whose names are looked at, too
+  module _ (Beneath : List ℕ → Type 0) (itself : (path : List ℕ) → Beneath path → At path) (child : (path name p : List ℕ) → Beneath path → named_child path name ≡ Some p → At p) where
+    below-look : (view : ℕ) (at : Spot) (file : Spot → OnFile) (folder : Folder → Walk NodeVerdict) → ((generation size moment : ℕ) → Along (file at generation size moment)) →
+        Along (folder (Exported view at.document at.path at.may_write)) → (look : Look) → Along (by_look view at file folder look)
+    below-look view at file folder h k (Look.File generation size moment) = h generation size moment
+    below-look view at file folder h k Look.Folder = k
+    below-look view at file folder h k Look.Missing = tt
+
+    on-place : (sight : Option Sight) (file : Spot → OnFile) (folder : Folder → Walk NodeVerdict) → SightOn At Beneath sight →
+        ((at : Spot) → At at.path → (generation size moment : ℕ) → Along (file at generation size moment)) →
+        ((f : Folder) → FolderOn At Beneath f → Along (folder f)) → Along (by_place sight file folder)
+    on-place None file folder n h k = tt
+    on-place (Some (SightOfFile d may_write)) file folder n h k = file-at d.path (file (spot d d.path may_write)) n (h (spot d d.path may_write) n)
+    on-place (Some (SightBelow view d path may_write)) file folder n h k =
+        (itself path n, below-look view (spot d path may_write) file folder (h (spot d path may_write) (itself path n)) (k (Exported view d path may_write) n))
+    on-place (Some (SightOfFolder f)) file folder n h k = k f n
+
+    found-below : (r : NodeRequest) (namings : List Naming) (naming : Naming) (may_write : Bool) (look : Look) → Along (found_child r namings naming may_write look)
+    found-below r namings naming may_write (Look.File generation size moment) = if-wrong (lacks_number namings naming) emfile _ (λ e. tt)
+    found-below r namings naming may_write Look.Folder = if-wrong (lacks_number namings naming) emfile _ (λ e. tt)
+    found-below r namings naming may_write Look.Missing = tt
+
+    lookup-below : (r : NodeRequest) (namings : List Naming) (view : ℕ) (d : Document) (may_write : Bool) (o : Option (List ℕ)) → ((p : List ℕ) → o ≡ Some p → At p) → Along (lookup_child r namings view d may_write o)
+    lookup-below r namings view d may_write None h = tt
+    lookup-below r namings view d may_write (Some p) h = (h p refl, found-below r namings (naming_in view d p) may_write)
+
+    lookup-folder : (r : NodeRequest) (namings : List Naming) (name : List ℕ) (f : Folder) → FolderOn At Beneath f → Along (lookup_in r namings name f)
+    lookup-folder r namings name (RootOf view numbers has_views) n = folder-found r (named_in_root view numbers has_views name)
+    lookup-folder r namings name (Views applications) n = folder-found r (named_in_views applications name)
+    lookup-folder r namings name (FolderOf view d may_write) n =
+        either (is_same name (name_of d.path)) (Looks (AtPath d.path) (found_document r (file_node view d.id.number) d may_write)) (errs enoent)
+        (n, own-found r (file_node view d.id.number) d may_write) tt
+    lookup-folder r namings name (Exported view d path may_write) n = lookup-below r namings view d may_write (named_child path name) (λ p e. child path name p n e)
+
+    pub lookup-along : (r : NodeRequest) (namings : List Naming) (name : List ℕ) (sight : Option Sight) → SightOn At Beneath sight → Along (lookup r namings name sight)
+    lookup-along r namings name sight n =
+        if-wrong (is_too_long name) enametoolong _ (λ e. on-place sight (no_file enotdir) (lookup_in r namings name) n (λ at m generation size moment. tt) (lookup-folder r namings name))
+
+    get_attr-place : (r : NodeRequest) (sight : Option Sight) → SightOn At Beneath sight → Along (get_attr_by_place r sight)
+    get_attr-place r sight n = on-place sight (λ at. tells_file r at.may_write) (tells_folder r) n (λ at m generation size moment. tt) (λ f m. tt)
+
+    get_attr-handle : (reach : Reaching) (r : NodeRequest) (sight : Option Sight) (handle : Option Handle) → SightOn At Beneath sight → Opening handle (reaches reach) → Along (get_attr_by_handle reach r sight handle)
+    get_attr-handle reach r sight None n h = tt
+    get_attr-handle reach r sight (Some (Handle.File name node document strict reads writes)) n h =
+        let file : OpenFile = open_file_of name node document strict reads writes in
+        get_attr-file reach r file (h file refl)
+    get_attr-handle reach r sight (Some (Handle.Folder node names)) n h = get_attr-place r sight n
+
+    pub get_attr-along : (reach : Reaching) (r : NodeRequest) (flags : ℕ) (sight : Option Sight) (handle : Option Handle) → SightOn At Beneath sight → Opening handle (reaches reach) → Along (get_attr reach r flags sight handle)
+    get_attr-along reach r flags sight handle n h = either (names_handle flags) (get_attr_by_handle reach r sight handle) (get_attr_by_place r sight) (get_attr-handle reach r sight handle n h) (get_attr-place r sight n)
+
+    pub set_attr-along : (reach : Reaching) (r : NodeRequest) (a : SetsAttr) (sight : Option Sight) (handle : Option Handle) → SightOn At Beneath sight → Opening handle (reaches reach) → Along (set_attr reach r a sight handle)
+    set_attr-along reach r a sight handle n h =
+        if-wrong (sets_owner_or_mode a.valid) eperm _ (λ e.
+        either (sets_by_handle a.valid) (by_file_handle handle (set_attr_open reach r a)) (by_place sight (set_attr_at r a) (set_attr_of_folder r a))
+        (on-handle handle (set_attr_open reach r a) (λ file is. set_attr-opened reach r a file (h file is)))
+        (on-place sight (set_attr_at r a) (set_attr_of_folder r a) n
+        (λ at m generation size moment. set_attr-file r a (name_at at generation) at.may_write size moment (inl m))
+        (λ f m. if-wrong (sets_size a.valid) eisdir _ (λ e. tt))))
+
+    pub open-along : (r : NodeRequest) (flags : ℕ) (sight : Option Sight) (room : Room) → SightOn At Beneath sight → Along (open_node r flags sight room)
+    open-along r flags sight room n =
+        if-wrong (has_no_mode flags) einval _ (λ e. on-place sight (open_file r flags room) open_folder n
+        (λ at m generation size moment.
+        if-wrong (opens_to_write flags && not at.may_write) eacces _ (λ e. if-wrong room.full emfile _ (λ f. open-name r flags room at.document (name_at at generation) (inl m))))
+        (λ f m. tt))
+
+    create-below : (r : NodeRequest) (flags : ℕ) (room : Room) (namings : List Naming) (view : ℕ) (d : Document) (may_write : Bool) (o : Option (List ℕ)) → ((p : List ℕ) → o ≡ Some p → At p) → Along (create_child r flags room namings view d may_write o)
+    create-below r flags room namings view d may_write None h = tt
+    create-below r flags room namings view d may_write (Some p) h =
+        let made : Made = child_made namings d (naming_in view d p) in
+        if-wrong (not may_write) eacces _ (λ e. if-wrong (room.full || lacks_number namings (naming_in view d p)) emfile _ (λ f.
+        (h p refl, create-there r flags room made (h p refl))))
+
+    create-folder : (r : NodeRequest) (name : List ℕ) (flags : ℕ) (room : Room) (namings : List Naming) (f : Folder) → FolderOn At Beneath f → Along (create_in r name flags room namings f)
+    create-folder r name flags room namings (RootOf view numbers has_views) n = tt
+    create-folder r name flags room namings (Views applications) n = tt
+    create-folder r name flags room namings (FolderOf view d may_write) n =
+        if-wrong (not (is_same name (name_of d.path))) eacces _ (λ e. if-wrong (not may_write) eacces _ (λ f. if-wrong room.full emfile _ (λ g.
+        (n, create-there r flags room (own_made view d) n))))
+    create-folder r name flags room namings (Exported view d path may_write) n = create-below r flags room namings view d may_write (named_child path name) (λ p e. child path name p n e)
+
+    pub create-along : (r : NodeRequest) (name : List ℕ) (flags : ℕ) (sight : Option Sight) (room : Room) (namings : List Naming) → SightOn At Beneath sight → Along (create r name flags sight room namings)
+    create-along r name flags sight room namings n =
+        if-wrong (has_no_mode flags) einval _ (λ e. if-wrong (is_too_long name) enametoolong _ (λ f.
+        on-place sight (no_file enotdir) (create_in r name flags room namings) n (λ at m generation size moment. tt) (create-folder r name flags room namings)))
+
+    open_dir-folder : (r : NodeRequest) (room : Room) (f : Folder) → FolderOn At Beneath f → Along (open_found r room f)
+    open_dir-folder r room (RootOf view numbers has_views) n = tt
+    open_dir-folder r room (Views applications) n = tt
+    open_dir-folder r room (FolderOf view d may_write) n = (n, λ look. tt)
+    open_dir-folder r room (Exported view d path may_write) n = itself path n
+
+    pub open_dir-along : (r : NodeRequest) (sight : Option Sight) (room : Room) → SightOn At Beneath sight → Along (open_dir r sight room)
+    open_dir-along r sight room n =
+        on-place sight (no_file enotdir) (open_dir_in r room) n (λ at m generation size moment. tt) (λ f m. if-wrong room.full emfile _ (λ e. open_dir-folder r room f m))
+
+    pub access-along : (mask : ℕ) (sight : Option Sight) → SightOn At Beneath sight → Along (access mask sight)
+    access-along mask sight n =
+        if-wrong (nat_lt 7 mask) einval _ (λ e. on-place sight (access_file mask) (access_folder mask) n
+        (λ at m generation size moment. if-wrong (executes mask || writes_to mask && not at.may_write) eacces (told NodeAnswers.Empty) (λ f. tt))
+        (λ f m. if-wrong (writes_to mask && not (is_writable f)) eacces (told NodeAnswers.Empty) (λ g. tt)))

@@ -21,7 +21,6 @@ use Rattle.portal_model.specs.Add.{adding_rights, are_of_kind, first_number, new
 use Rattle.portal_model.specs.AddArguments.{are_add_arguments, are_presented, is_left_out, paths_shown}
 use Rattle.portal_model.specs.Arguments.{ahead_of_end, is_ended_path}
 use Rattle.portal_model.specs.Bus.{is_tree, moment_given}
-use Rattle.portal_model.specs.Content.{Content}
 use Rattle.portal_model.specs.Grant.{are_rights_arguments, may_grant}
 use Rattle.portal_model.specs.History.{makes}
 use Rattle.portal_model.specs.Lawful.{Lawful}
@@ -41,13 +40,13 @@ use Rattle.app_world.specs.Effect.{Effect, Bytes, Gained, Gone, Lost, apply, app
 use Rattle.app_world.specs.Enter.{own_entered}
 use Rattle.app_world.specs.Grant.{own_grant_reached}
 use Rattle.app_world.specs.Leave.{own_left}
-use Rattle.app_world.specs.Node.{bytes_effects, next_own_handle, own_closed, own_connections_after, own_connections_named, own_connections_then, own_named, own_node_done, own_opened, own_settled_on_node}
+use Rattle.app_world.specs.Node.{bytes_effects, next_own_handle, own_closed, own_connections_after, own_connections_named, own_connections_then, own_named, own_node_done, own_opened, own_settled_on_node, with_handles}
 use Rattle.app_world.specs.Own.{Own}
 use Rattle.app_world.specs.OwnVerdict.{OwnVerdict, OwnDoes, OwnRefuses, own_reached, own_unless}
 use Rattle.app_world.specs.Present.{own_present, own_present_path, own_queue_path, own_requeued, own_with_queue}
 use Rattle.app_world.specs.Revoke.{own_revoke_reached, own_revoked}
 use Rattle.app_world.specs.Shown.{own_bytes}
-use Rattle.app_world.specs.View.{AppView, HeldDocument, OwnConnection, found_connection, own_connection, prune, view}
+use Rattle.app_world.specs.View.{Alone, AppView, Below, HeldDocument, Holding, OwnConnection, found_connection, own_connection, prune, view}
 use Rattle.app_world.specs.World.{own_bus, own_bus_of, own_collect_step, own_mount_of, touch}
 use Rattle.app_world.proofs.WorldLaws.{steps}
 use Rattle.served_world.specs.OwnPlaces.{PresentsItsOwn, waits_at_home}
@@ -63,7 +62,8 @@ holds false e = cc
 -- ---- what an effect leaves
 
 applied : (v : AppView) (f : Effect) → (apply v f).connections ≡ v.connections
-applied v (Gained d rights content) = refl
+applied v (Gained d rights (Alone content)) = refl
+applied v (Gained d rights (Below files)) = refl
 applied v (Lost id rights) = refl
 applied v (Gone id) = refl
 applied v (Bytes path generation content) = refl
@@ -138,7 +138,7 @@ module _ (app : List ℕ) where
 
   done-home : (v : AppView) (c : OwnConnection) (d : NodeDoing) → Home v → Home (own_node_done v c d)
   done-home v c d h =
-      ap all_home (all-applied (bytes_effects v (own_bytes v) d.file) (prune (record v { connections = own_connections_then c d v.connections })))
+      ap all_home (all-applied (bytes_effects v (own_bytes v) d.file) (prune (record (with_handles d.handle v) { connections = own_connections_then c d v.connections })))
       ∙ (names-home c d.names (own_connections_after c d.handle v.connections) ∙ (handles-home c d.handle v.connections ∙ h))
 
   verdict-home : (v : AppView) (c : OwnConnection) → Home v → (o : Option NodeVerdict) → Home (own_settled_on_node v c o).0
@@ -190,18 +190,18 @@ module _ (app : List ℕ) where
         by_call true = requeued-home c.seat (drop a.fds) (fewer-own a.fds) v.connections h
         by_call false = h
 
-    use-home : (a : AddRequest) (content : List ℕ → Content) (path : List ℕ) (done : OwnAdded) → Home done.view → (again : Option DocId) → Home (own_use_document a content path done again).view
+    use-home : (a : AddRequest) (content : List ℕ → Holding) (path : List ℕ) (done : OwnAdded) → Home done.view → (again : Option DocId) → Home (own_use_document a content path done again).view
     use-home a content path done k (Some id) = apply-home done.view (Gained (new_document a id path) (adding_rights a) (content path)) k
     use-home a content path done k None = apply-home done.view (Gained (new_document a (first_number done.numbers) path) (adding_rights a) (content path)) k
 
-    file-home : (a : AddRequest) (content : List ℕ → Content) (done : OwnAdded) (f : OwnFile) → Home done.view → Home (own_add_file a content done f).view
+    file-home : (a : AddRequest) (content : List ℕ → Holding) (done : OwnAdded) (f : OwnFile) → Home done.view → Home (own_add_file a content done f).view
     file-home a content done f k = by_file (is_left_out a f.path)
       where
         by_file : (b : Bool) → Home (cond b (record done { ids = done.ids ++ [] ∷ [] }) (own_use_document a content f.path done (own_again f.again (used_again done.made a f.path)))).view
         by_file true = k
         by_file false = use-home a content f.path done k (own_again f.again (used_again done.made a f.path))
 
-    files-home : (a : AddRequest) (content : List ℕ → Content) (files : List OwnFile) (done : OwnAdded) → Home done.view → Home (fold (own_add_file a content) done files).view
+    files-home : (a : AddRequest) (content : List ℕ → Holding) (files : List OwnFile) (done : OwnAdded) → Home done.view → Home (fold (own_add_file a content) done files).view
     files-home a content [] done k = k
     files-home a content (f ∷ files) done k = files-home a content files (own_add_file a content done f) (file-home a content done f k)
 
@@ -221,8 +221,8 @@ module _ (app : List ℕ) where
         walk-unless-home (not (are_presented c.queue a)) code.InvalidArgs _ now looks failed
         (walk-unless-home (not (are_add_arguments c.queue a)) code.InvalidArgument _ now looks failed
         (walk-unless-home (not (own_may_list_all v a (own_call_files c a mine))) code.NotAllowed _ now looks failed
-        (looks-home (paths_shown c.queue a) (λ l. own_unless (not (are_of_kind a l)) code.InvalidArgument (OwnDoes (own_added_files v c a mine).view (Answer.Ids (own_added_files v c a mine).ids)))
-        (λ l. unless-home (not (are_of_kind a l)) code.InvalidArgument _ (λ e. all)) now looks failed)))
+        (looks-home (paths_shown c.queue a) (λ l. own_unless (not (are_of_kind a (paths_shown c.queue a) l)) code.InvalidArgument (OwnDoes (own_added_files v c a mine).view (Answer.Ids (own_added_files v c a mine).ids)))
+        (λ l. unless-home (not (are_of_kind a (paths_shown c.queue a) l)) code.InvalidArgument _ (λ e. all)) now looks failed)))
 
     -- ---- rights, and a document that goes
 

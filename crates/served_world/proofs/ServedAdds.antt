@@ -17,14 +17,15 @@ use Rattle.portal_model.specs.State.{State}
 use Rattle.portal_model.specs.Valid.{Valid}
 use Rattle.portal_model.specs.Verdict.{Verdict}
 use Rattle.portal_model.specs.Walk.{walked}
-use Rattle.app_world.specs.Add.{asked, own_add, own_files, own_taken_from_queue, reused_of}
+use Rattle.app_world.specs.Add.{asked, look_of_holding, own_add, own_files, own_taken_from_queue, reused_of}
 use Rattle.app_world.specs.Bus.{own_settled}
 use Rattle.app_world.specs.Own.{Own}
-use Rattle.app_world.specs.View.{AppView, OwnConnection, own_connection, view}
+use Rattle.app_world.specs.View.{Alone, AppView, OwnConnection, own_connection, view}
 use Rattle.app_world.proofs.AddCallLaws.{taken-own}
 use Rattle.app_world.proofs.AddGiven.{lawful-free, told_of_add}
 use Rattle.app_world.proofs.AddLaws.{valid-facts}
 use Rattle.app_world.proofs.AddMadeLaws.{IsTold, add-own}
+use Rattle.app_world.proofs.AddOwnLaws.{holds_for}
 use Rattle.app_world.proofs.AddTold.{contents-told, reused-told}
 use Rattle.app_world.proofs.BusLaws.{seen_answer, settled-own, settled-same}
 use Rattle.app_world.proofs.ReachedLaws.{seen_verdict}
@@ -36,7 +37,7 @@ look-shown (Look.File generation size moment) = ap (λ (n : ℕ). Look.File gene
 look-shown Look.Folder = refl
 look-shown Look.Missing = refl
 
-pub looks-shown : (looks : List Look) → map look_of (take (length looks) (map shown_by_look looks)) ≡ looks
+pub looks-shown : (looks : List Look) → map look_of_holding (take (length looks) (map (λ look. Alone (shown_by_look look)) looks)) ≡ looks
 looks-shown [] = refl
 looks-shown (look ∷ looks) = λ i. look-shown look i ∷ looks-shown looks i
 
@@ -45,21 +46,25 @@ looks-shown (look ∷ looks) = λ i. look-shown look i ∷ looks-shown looks i
 both-in-order : (r p q : Bool) → p ≡ true → q ≡ true → (r && (p && q)) ≡ r
 both-in-order r p q e f = grind arith
 
-is-told : (seat : ℕ) (s : State) (c : Connection) (a : AddRequest) (given : Given) → IsTold s c a (told_of_add seat s c a given) given.looks
+-- what there is in the state for each path; over a tree that tells nothing the looks show other things
+abbrev pub told_shown : ℕ → State → Connection → AddRequest → Given → Own
+told_shown seat s c a given = record (told_of_add seat s c a given) { shown = map (holds_for a s.files) (take (asked given) (paths_shown c.queue a)) }
+
+is-told : (seat : ℕ) (s : State) (c : Connection) (a : AddRequest) (given : Given) → IsTold s c a (told_shown seat s c a given) given.looks
 is-told seat s c a given =
     let paths : List (List ℕ) = document_paths c.queue a in
     record {
       files = λ p q. ap (λ (b : Bool). own_files a paths (cond b (reused_of s.documents a paths) [])) (both-in-order (reuses a) (are_presented c.queue a) (are_add_arguments c.queue a) p q) ∙ reused-told s.documents a paths (reuses a) refl;
-      contents = λ e path h. contents-told s.files (paths_shown c.queue a) (asked given) (grind arith) path h;
+      contents = λ e g k path h. contents-told (holds_for a s.files) (paths_shown c.queue a) (asked given) (grind arith) path h;
     }
 
 -- in the view it comes to the same by the looks that were given, whatever the tree tells
 pub add-given : (app : List ℕ) (s : State) (seat : ℕ) (c : Connection) (a : AddRequest) (given : Given) → Valid s → LawfulBus s c (Request.Add a) given → c.who ≡ Who.App app →
-    own_settled (view s app) (own_taken_from_queue (own_connection app s.handles c) a (view s app)) (told_of_add seat s c a given)
-    (walked (own_add (view s app) (own_connection app s.handles c) a (told_of_add seat s c a given)) (moment_given given.now) given.looks (is_tree given.fault))
+    own_settled (view s app) (own_taken_from_queue (own_connection app s.handles c) a (view s app)) (told_shown seat s c a given)
+    (walked (own_add (view s app) (own_connection app s.handles c) a (told_shown seat s c a given)) (moment_given given.now) given.looks (is_tree given.fault))
     ≡ seen_answer app (bus_answer s c (Request.Add a) given)
 add-given app s seat c a given v l named =
-    let own : Own = told_of_add seat s c a given in
+    let own : Own = told_shown seat s c a given in
     let o : OwnConnection = own_connection app s.handles c in
     let now : ℕ = moment_given given.now in
     let failed : Bool = is_tree given.fault in

@@ -10,7 +10,6 @@ use Rattle.portal_model.specs.declared.request.AddRequest.{AddRequest}
 use Rattle.portal_model.specs.declared.request.Request.{Request}
 use Rattle.portal_model.specs.declared.state.Connection.{Connection}
 use Rattle.portal_model.specs.Bus.{bus_answer, is_tree, moment_given}
-use Rattle.portal_model.specs.Content.{Content}
 use Rattle.portal_model.specs.History.{made_by}
 use Rattle.portal_model.specs.Lawful.{LawfulOnBus}
 use Rattle.portal_model.specs.State.{State, connection_of, is_app}
@@ -22,20 +21,19 @@ use Rattle.app_world.specs.Add.{own_add, own_taken_from_queue}
 use Rattle.app_world.specs.Bus.{own_bus_answer, own_bus_step, own_settled}
 use Rattle.app_world.specs.Laws.{asks}
 use Rattle.app_world.specs.Own.{Own}
-use Rattle.app_world.specs.View.{AppView, OwnConnection, found_connection, own_connection, own_connections, view}
+use Rattle.app_world.specs.View.{Alone, AppView, Holding, OwnConnection, found_connection, own_connection, own_connections, view}
 use Rattle.app_world.specs.World.{own_bus, own_bus_of, own_collect_step, own_request_step, reused_on}
-use Rattle.app_world.proofs.AddGiven.{told_of_add}
 use Rattle.app_world.proofs.BusLaws.{seen_answer}
 use Rattle.app_world.proofs.ViewLaws.{is_app-named, own-some, own_unsent, view-told}
 use Rattle.served_world.specs.ServedItem.{bare}
 use Rattle.served_world.specs.ServedOwn.{served_own, shown_by_look, told_own}
 use Rattle.served_world.specs.ServedWorld.{bare_done}
 use Rattle.served_world.proofs.BareBuses.{IsPlain, add-bare, answer-bare, bare_answer}
-use Rattle.served_world.proofs.ServedAdds.{add-given, looks-shown}
+use Rattle.served_world.proofs.ServedAdds.{add-given, looks-shown, told_shown}
 
 -- ---- without what the tree has, and with other contents
 
-module _ (v : AppView) (own : Own) (more : List Content) where
+module _ (v : AppView) (own : Own) (more : List Holding) where
   collect-bare : (o : Option OwnConnection) → bare_done (own_collect_step (bare v) o) ≡ bare_done (own_collect_step v o)
   collect-bare None = refl
   collect-bare (Some c) = refl
@@ -77,9 +75,9 @@ module _ (app : List ℕ) (s : State) (seat : ℕ) (a : AddRequest) (given : Giv
     o = own_connection app s.handles c
 
     abbrev told : Own
-    told = told_of_add seat t c a given
+    told = told_shown seat t c a given
 
-    mine-is : is_mount c.kind ≡ false → mine ≡ record told { shown = map shown_by_look given.looks }
+    mine-is : is_mount c.kind ≡ false → mine ≡ record told { shown = map (λ look. Alone (shown_by_look look)) given.looks }
     mine-is k =
         let is : bus_of (connection_of s.connections seat) ≡ Some c = ap bus_of e ∙ ap (λ (b : Bool). cond b None (Some c)) k in
         λ i. record mine { reused = reused_on s a (is i) }
@@ -88,8 +86,8 @@ module _ (app : List ℕ) (s : State) (seat : ℕ) (a : AddRequest) (given : Giv
         bare_answer (own_bus_answer (bare (view s app)) o mine (Request.Add a)) ≡ bare_answer (seen_answer app (bus_answer t c (Request.Add a) given))
     answered k named l =
         (λ i. bare_answer (own_bus_answer (bare (sym (view-told app s c.seat) i)) o (mine-is k i) (Request.Add a)))
-        ∙ (ap (λ (looks : List Look). bare_answer (own_settled (bare (view t app)) (own_taken_from_queue o a (bare (view t app))) (record told { shown = map shown_by_look given.looks }) (walked (own_add (bare (view t app)) o a (record told { shown = map shown_by_look given.looks })) (moment_given given.now) looks (is_tree given.fault)))) (looks-shown given.looks)
-        ∙ (add-bare (view t app) o told (map shown_by_look given.looks) a (moment_given given.now) given.looks (is_tree given.fault)
+        ∙ (ap (λ (looks : List Look). bare_answer (own_settled (bare (view t app)) (own_taken_from_queue o a (bare (view t app))) (record told { shown = map (λ look. Alone (shown_by_look look)) given.looks }) (walked (own_add (bare (view t app)) o a (record told { shown = map (λ look. Alone (shown_by_look look)) given.looks })) (moment_given given.now) looks (is_tree given.fault)))) (looks-shown given.looks)
+        ∙ (add-bare (view t app) o told (map (λ look. Alone (shown_by_look look)) given.looks) a (moment_given given.now) given.looks (is_tree given.fault)
         ∙ ap bare_answer (add-given app t seat c a given (all_told-Valid s c.seat v) l named)))
 
     add_kind : (m : Bool) → is_mount c.kind ≡ m → is_app app c.who ≡ true → LawfulOnBus s (Request.Add a) given (cond m None (Some c)) →

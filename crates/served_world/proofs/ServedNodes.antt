@@ -1,7 +1,7 @@
 -- A request of the application itself on a node, over any tree: its own machine gives the view after, and a reply to
 -- which the portal's is alike. What the tree has is of no account but for the bytes that a READ shows.
 use Rattle.std.proofs.Common.{◌≡◌, ◌≤◌, ℕ, nat_lt, List, [], ◌∷◌, drop, length, Bool, true, false, not, cond, Option, Some, None, refl, sym, ap, subst, ◌∙◌, arith}
-use Rattle.std.specs.List.{flat_map}
+use Rattle.std.specs.List.{filter, flat_map}
 use Rattle.std.proofs.lemmas.List.{length-map, length-take}
 use Rattle.portal_base.specs.FileChanges.{bytes_from, cut_to, overlaid}
 use Rattle.portal_base.specs.declared.files.FileName.{FileName}
@@ -24,7 +24,7 @@ use Rattle.portal_model.specs.Content.{OfFile}
 use Rattle.portal_model.specs.Errno.{eacces, ebadf, einval, enoent}
 use Rattle.portal_model.specs.History.{made_by}
 use Rattle.portal_model.specs.Node.{NodeFacts, bytes_named, facts_of, node_answer, node_done, node_walk, settled_on_node, walk_on_node}
-use Rattle.portal_model.specs.NodeVerdict.{FileChange, FilesStay, Writes, Resizes, Creates, HandlesStay, NodeDoing, NodeVerdict, Errs, Yields, errs, errs_if, tells, NamesStay}
+use Rattle.portal_model.specs.NodeVerdict.{FileChange, FilesStay, Writes, Resizes, Creates, HandleChange, HandlesStay, Opens, Closes, NodeDoing, NodeVerdict, Errs, Yields, errs, errs_if, tells, NamesStay}
 use Rattle.portal_model.specs.Place.{place_of, reach_at, naming_on}
 use Rattle.portal_model.specs.Reach.{Reaching, may_read_now, open_file_of}
 use Rattle.portal_model.specs.Read.{read, read_limit}
@@ -34,9 +34,9 @@ use Rattle.portal_model.specs.Valid.{Valid}
 use Rattle.portal_model.specs.Walk.{Walk, Ends, Uses, walked_with}
 use Rattle.app_world.specs.Effect.{Bytes}
 use Rattle.app_world.specs.Laws.{asks}
-use Rattle.app_world.specs.Node.{bytes_at, bytes_effects, own_facts, own_node_done, own_settled_on_node, own_walk, own_connections_then}
+use Rattle.app_world.specs.Node.{bytes_at, bytes_effects, own_facts, own_node_done, own_settled_on_node, own_walk, own_connections_then, with_handles}
 use Rattle.app_world.specs.Shown.{own_bytes}
-use Rattle.app_world.specs.View.{AppView, HeldDocument, OwnConnection, found_connection, held_documents, names, own_connection, own_connections, own_handle, prune, view}
+use Rattle.app_world.specs.View.{AppView, HeldDocument, OwnConnection, found_connection, held_documents, is_held, knows, own_connection, own_connections, own_handle, prune, view}
 use Rattle.app_world.specs.World.{own_mount_of}
 use Rattle.app_world.proofs.HandleChangeLaws.{connections-then, handle-found}
 use Rattle.app_world.proofs.PlaceLaws.{own_place-is, own_reach-is}
@@ -50,7 +50,7 @@ use Rattle.served_world.proofs.BareViews.{all-bare, held-twice}
 -- ---- a change of a file is told by nothing
 
 at-told : (v : AppView) (name : FileName) (bytes : List ℕ) (now : ℕ) → flat_map items_of_effect (bytes_at v name bytes now) ≡ []
-at-told v name bytes now = elim (names v name.path) as (λ b. flat_map items_of_effect (cond b (Bytes name.path name.generation (OfFile name.generation bytes now) ∷ []) []) ≡ []) [ true ↦ refl | false ↦ refl ]
+at-told v name bytes now = elim (knows v name.path) as (λ b. flat_map items_of_effect (cond b (Bytes name.path name.generation (OfFile name.generation bytes now) ∷ []) []) ≡ []) [ true ↦ refl | false ↦ refl ]
 
 pub bytes-told : (v : AppView) (bytes : FileName → List ℕ) (change : FileChange) → flat_map items_of_effect (bytes_effects v bytes change) ≡ []
 bytes-told v bytes FilesStay = refl
@@ -80,11 +80,21 @@ module _ (app : List ℕ) (t : State) (c : Connection) where
 
   -- ---- the view after
 
+  -- the path of a file that is opened is bare of what is there
+  handles-bare : (change : HandleChange) → bare (with_handles change (bare v)) ≡ bare v
+  handles-bare HandlesStay = refl
+  handles-bare (Opens (Handle.File name node document strict read write)) = refl
+  handles-bare (Opens (Handle.Folder node names)) = refl
+  handles-bare (Closes fh) = refl
+
+  same-documents : (change : HandleChange) → (with_handles change (bare v)).documents ≡ v.documents
+  same-documents change = ap (λ (x : AppView). x.documents) (handles-bare change)
+
   done-bare : (d : NodeDoing) → bare (own_node_done (bare v) mine d) ≡ bare (view (node_done t c d) app)
   done-bare d =
-      all-bare (bytes_effects (bare v) (own_bytes (bare v)) d.file) (prune (record (bare v) { connections = own_connections_then mine d v.connections })) (held-twice docs) (bytes-told (bare v) (own_bytes (bare v)) d.file)
-      ∙ (λ i. record (bare v) {
-        documents = still_held (held_of t.rights app) t.documents i;
+      all-bare (bytes_effects (bare v) (own_bytes (bare v)) d.file) (prune (record (with_handles d.handle (bare v)) { connections = own_connections_then mine d v.connections })) (held-twice (with_handles d.handle (bare v)).documents) (bytes-told (bare v) (own_bytes (bare v)) d.file)
+      ∙ (λ i. record (handles-bare d.handle i) {
+        documents = (ap (filter is_held) (same-documents d.handle) ∙ still_held (held_of t.rights app) t.documents) i;
         connections = sym (connections-then app c t.handles d t.connections) i;
       })
 

@@ -12,14 +12,14 @@ use Rattle.portal_model.specs.State.{State, connection_of, held_of}
 use Rattle.portal_model.specs.Step.{after, reply_at, step}
 use Rattle.portal_model.specs.Valid.{Valid}
 use Rattle.app_world.specs.Laws.{asks}
-use Rattle.app_world.specs.View.{AppView, view}
+use Rattle.app_world.specs.View.{Alone, AppView, view}
 use Rattle.app_world.specs.World.{app_step, own_of, touch}
 use Rattle.app_world.proofs.KindLaws.{collects, deletions, enters, grants, informations, leaves, listings, lookups, presentations, revocations, store_calls}
 use Rattle.app_world.proofs.ViewLaws.{still_held}
 use Rattle.app_world.proofs.WorldLaws.{steps}
 use Rattle.served_world.specs.Laws.{ServedStepsSeen}
 use Rattle.served_world.specs.ServedItem as item
-use Rattle.served_world.specs.ServedItem.{ServedItem, bare, items_of_effect}
+use Rattle.served_world.specs.ServedItem.{bare, items_of_effect}
 use Rattle.served_world.specs.ServedOwn.{served_own, shown_by_look}
 use Rattle.served_world.specs.ServedWorld.{bare_done, served_items_of, served_step, views_after}
 use Rattle.served_world.proofs.BareBuses.{IsPlain}
@@ -51,7 +51,7 @@ module _ (app : List ℕ) (s : State) (seat : ℕ) (given : Given) (v : Valid s)
   plain : (request : Request) → IsPlain request → app_step (view s app) (own_of s (Asked request)) ≡ (view (after s (Asked request)) app, reply_at s (Asked request)) → IsExact request
   plain (Request.Node r) h e = absurd h
   plain (Request.Add a) h e = absurd h
-  plain request h e = step-bare (view s app) (own_of s (Asked request)) (map shown_by_look given.looks) request h ∙ ap bare_done e
+  plain request h e = step-bare (view s app) (own_of s (Asked request)) (map (λ look. Alone (shown_by_look look)) given.looks) request h ∙ ap bare_done e
 
   -- of each request but one on a node
   exact : (request : Request) → IsElsewhere request → Lawful s (Asked request) → makes app s (Asked request) ≡ true → IsExact request

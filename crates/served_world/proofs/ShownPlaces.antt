@@ -254,4 +254,4 @@ module _ (files : List File) where
       unless-made (not (are_presented c.queue a)) code.InvalidArgs (add_presented s c a numbers)
       (unless-made (not (are_add_arguments c.queue a)) code.InvalidArgument (add_allowed s c a numbers)
       (unless-made (not (may_list_all s c.who a (document_paths c.queue a))) code.NotAllowed (add_looking s c a numbers)
-      (looks-made (paths_shown c.queue a) (λ looks. unless (not (are_of_kind a looks)) code.InvalidArgument (added s (added_files s c a numbers))))))
+      (looks-made (paths_shown c.queue a) (λ looks. unless (not (are_of_kind a (paths_shown c.queue a) looks)) code.InvalidArgument (added s (added_files s c a numbers))))))

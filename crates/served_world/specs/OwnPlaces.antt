@@ -28,7 +28,7 @@ use Rattle.portal_model.specs.Reach.{OpenFile}
 use Rattle.portal_model.specs.State.{State, connection_of, document_of, handle_of, has}
 use Rattle.portal_model.specs.Step.{all_told, bus_of, mount_of}
 use Rattle.portal_model.specs.Walk.{Walk, Answers, Looks, Ends, Lists, Target, AtPath, Named, LastCall, Uses, Changes, Makes, shown_at}
-use Rattle.app_world.specs.View.{OwnConnection, is_among, view}
+use Rattle.app_world.specs.View.{OwnConnection, is_among, is_of_document, view}
 use Rattle.served_world.specs.ServedOwn.{served_own}
 
 -- ---- where the tree is asked
@@ -73,11 +73,12 @@ places_asked s e = places_of s e.seat e.given e.request
 
 -- ---- where it may be, for a request on a node
 
--- the path is that of a live document in which the application has `read`
+-- the path is that of a live document in which the application has `read`, or lies below one that
+-- is a folder
 pub record IsReadable (app : List ℕ) (s : State) (path : List ℕ) : Type 0 where
   pub document : Document
   pub live : document_of s.documents document.id.number ≡ Some document
-  pub path_is : document.path ≡ path
+  pub path_is : is_of_document document path ≡ true
   pub read : has s (Who.App app) document.id.number Read ≡ true
 
 -- a READ needs a file that was opened to read, and a WRITE one that was opened to write
@@ -106,7 +107,7 @@ pub record IsOpen (app : List ℕ) (s : State) (seat : ℕ) (op : NodeOp) (name 
       has s (Who.App app) file.document.number Read ≡ true
 
 -- A READ, a WRITE and an FSYNC go by a handle alone. Any other request may ask for the file of a
--- document by its path, or by the handle.
+-- document, or for one below a document that is a folder, by its path, or by the handle.
 abbrev pub MayAskFor : List ℕ → State → ℕ → NodeOp → FileName → Type 0
 MayAskFor app s seat (NodeOp.Read fh offset size) name =
     IsOpen app s seat (NodeOp.Read fh offset size) name
@@ -146,7 +147,7 @@ PresentsItsOwn app s = list_all (waits_at_home app) (view s app).connections ≡
 
 -- Each look that stands in the item of a request that the application makes is of a place where
 -- the application may look: by a request on a node, of the file of a document in which it has
--- `read`, or of one that it has open; by an Add, of a file in its own folder. No other request of
+-- `read`, of what lies at or below such a one that is a folder, or of a file that it has open; by an Add, of a file in its own folder. No other request of
 -- it looks at the tree.
 pub record OwnLooksAreOfItsFiles : Type 0 where
   -- there is a place for each look of the item

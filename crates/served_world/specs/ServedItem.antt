@@ -21,11 +21,11 @@ pub data ServedItem : Type 0 where
 
 -- what tells an effect: that a file has another content is told by nothing
 abbrev pub items_of_effect : Effect → List ServedItem
-items_of_effect (effect.Gained d rights content) = Gained d rights ∷ []
+items_of_effect (effect.Gained d rights holding) = Gained d rights ∷ []
 items_of_effect (effect.Lost id rights) = Lost id rights ∷ []
 items_of_effect (effect.Gone id) = Gone id ∷ []
 items_of_effect (effect.Bytes path generation content) = []
 
 -- a view without what the tree has
 abbrev pub bare : AppView → AppView
-bare v = record v { contents = [] }
+bare v = record v { contents = []; below = [] }

@@ -11,6 +11,7 @@ use Rattle.portal_model.specs.Content.{Content, OfFile, OfFolder, NotThere}
 use Rattle.portal_model.specs.State.{State, connection_of}
 use Rattle.portal_model.specs.Step.{bus_of}
 use Rattle.app_world.specs.Own.{Own}
+use Rattle.app_world.specs.View.{Alone}
 use Rattle.app_world.specs.World.{documents_reused}
 
 pub record ServedOwn : Type 0 where
@@ -61,7 +62,7 @@ told_own own = record {
   request = own.request;
   now = own.now;
   numbers = own.numbers;
-  shown = map shown_by_look own.looks;
+  shown = map (λ look. Alone (shown_by_look look)) own.looks;
   reused = own.reused;
   looks = length own.looks;
   full = own.full;

@@ -18,7 +18,7 @@ use Rattle.portal_model.specs.Walk.{Walk, walked_with}
 use Rattle.app_world.specs.Effect as effect
 use Rattle.app_world.specs.Effect.{apply}
 use Rattle.app_world.specs.Node.{own_settled_on_node, own_walk}
-use Rattle.app_world.specs.View.{AppView, OwnConnection, found_connection, view}
+use Rattle.app_world.specs.View.{Alone, AppView, OwnConnection, found_connection, view}
 use Rattle.app_world.specs.World.{own_mount_of, own_request_step, touch}
 use Rattle.served_world.specs.ServedItem as item
 use Rattle.served_world.specs.ServedItem.{ServedItem, bare, items_of_effect}
@@ -59,7 +59,8 @@ served_step v own = bare_done (served_request_step v own own.request)
 -- the view after an item of the trace
 abbrev pub view_after : AppView → ServedItem → AppView
 view_after v (item.Own own) = (served_step v own).0
-view_after v (item.Gained d rights) = bare (apply v (effect.Gained d rights (NotThere false)))
+view_after v (item.Gained d rights) =
+    bare (apply v (effect.Gained d rights (Alone (NotThere false))))
 view_after v (item.Lost id rights) = bare (apply v (effect.Lost id rights))
 view_after v (item.Gone id) = bare (apply v (effect.Gone id))
 

@@ -162,7 +162,7 @@ add_heard s c a numbers =
     (walk_unless_heard (not (are_add_arguments c.queue a)) code.InvalidArgument (add_allowed s c a numbers) argument_said
     (walk_unless_heard (not (may_list_all s c.who a (document_paths c.queue a))) code.NotAllowed (add_looking s c a numbers) denial_said
     (looks_heard (paths_shown c.queue a) (add_shown s c a numbers)
-    (λ looks. unless_heard (not (are_of_kind a looks)) code.InvalidArgument (added s (added_files s c a numbers)) argument_said (ids_heard (added_files s c a numbers).ids)))))
+    (λ looks. unless_heard (not (are_of_kind a (paths_shown c.queue a) looks)) code.InvalidArgument (added s (added_files s c a numbers)) argument_said (ids_heard (added_files s c a numbers).ids)))))
 
 -- ---- the permission store
 

@@ -14,7 +14,7 @@ use Rattle.portal_model.specs.declared.state.Connection.{Connection}
 use Rattle.portal_model.specs.declared.state.Document.{Document}
 use Rattle.portal_model.specs.declared.state.Triple.{Triple}
 use Rattle.portal_model.specs.Add.{add, add_allowed, add_looking, add_shown, added, added_files, are_of_kind, may_list, may_list_all}
-use Rattle.portal_model.specs.AddArguments.{are_add_arguments, are_presented, document_paths, names_nobody, paths_shown}
+use Rattle.portal_model.specs.AddArguments.{are_add_arguments, are_presented, document_paths, exports, names_nobody, paths_shown}
 use Rattle.portal_model.specs.Bus.{bus_answer, is_tree, settled, moment_given}
 use Rattle.portal_model.specs.Outside.{LawfulBus, files_told}
 use Rattle.portal_model.specs.State.{State}
@@ -43,20 +43,23 @@ is_refused (Ends call done missing) = false
 is_refused (Lists path done missing) = false
 
 module _ (s : State) (c : Connection) (a : AddRequest) (numbers : List DocId) where
-  none-of-kind : are_of_kind a [] ≡ true
-  none-of-kind = by_form a.named
+  none-of-kind : are_of_kind a [] [] ≡ true
+  none-of-kind = by_form a.named (exports a)
     where
-      by_form : (b : Bool) → cond b true true ≡ true
-      by_form true = refl
-      by_form false = refl
+      by_form : (named folder : Bool) → cond named true (cond folder true true) ≡ true
+      by_form true folder = refl
+      by_form false true = refl
+      by_form false false = refl
 
-  looking-by : (paths : List (List ℕ)) → is_refused (looks_at_all paths (add_shown s c a numbers)) ≡ false
-  looking-by [] = ap (λ (b : Bool). is_refused (Answers (unless (not b) Code.InvalidArgument (added s (added_files s c a numbers))))) none-of-kind
-  looking-by (path ∷ paths) = refl
+  looking-by : (paths : List (List ℕ)) → paths_shown c.queue a ≡ paths → is_refused (looks_at_all paths (add_shown s c a numbers)) ≡ false
+  looking-by [] e =
+      ap (λ (b : Bool). is_refused (Answers (unless (not b) Code.InvalidArgument (added s (added_files s c a numbers)))))
+      (ap (λ (ps : List (List ℕ)). are_of_kind a ps []) e ∙ none-of-kind)
+  looking-by (path ∷ paths) e = refl
 
   -- the tree is asked, or it is done
   looking-on : is_refused (add_looking s c a numbers) ≡ false
-  looking-on = looking-by (paths_shown c.queue a)
+  looking-on = looking-by (paths_shown c.queue a) refl
 
   host-lists : (paths : List (List ℕ)) → c.who ≡ Who.Host → may_list_all s c.who a paths ≡ true
   host-lists paths e = ap (λ (who : Who). may_list_all s who a paths) e ∙ (ap (λ (b : Bool). names_nobody a || b) (all paths) ∙ or-true (names_nobody a))

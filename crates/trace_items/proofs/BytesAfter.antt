@@ -15,7 +15,7 @@ use Rattle.portal_model.proofs.ListLookups.{found_passes}
 use Rattle.portal_model.proofs.TripleOrder.{is_same-refl, nat_is}
 use Rattle.app_world.specs.Effect.{Bytes}
 use Rattle.app_world.specs.Node.{bytes_effects}
-use Rattle.app_world.specs.View.{AppView, names}
+use Rattle.app_world.specs.View.{AppView, knows}
 use Rattle.app_world.proofs.WalksAlong.{CanChange}
 use Rattle.trace_items.specs.FilesChanged.{changed_name, content_named, told_of_file}
 
@@ -49,20 +49,20 @@ named-put path now (f ∷ fs) e = by_order (is_lt (path_order path f.path)) (is_
     by_order false false q h m = ap (λ (s : Bool). cond (s && (f.generation == 0)) (Some f) (file_named (put_file (new_file path now) fs) (record { path = path; generation = 0 }))) q ∙ m h
 
 told-changed : (v : AppView) (files : List File) (name : FileName) (bytes : List ℕ → List ℕ) (now : ℕ) (o : Option File) → file_named files name ≡ o → is_some o ≡ true →
-    cond (names v name.path) (Bytes name.path name.generation (OfFile name.generation (bytes (bytes_of o)) now) ∷ []) []
-    ≡ cond (names v name.path) (Bytes name.path name.generation (content_named (option_map (λ (f : File). with_bytes (bytes f.bytes) now f) o)) ∷ []) []
+    cond (knows v name.path) (Bytes name.path name.generation (OfFile name.generation (bytes (bytes_of o)) now) ∷ []) []
+    ≡ cond (knows v name.path) (Bytes name.path name.generation (content_named (option_map (λ (f : File). with_bytes (bytes f.bytes) now f) o)) ∷ []) []
 told-changed v files name bytes now None e h = cc
 told-changed v files name bytes now (Some f) e h =
-    ap (λ (g : ℕ). cond (names v name.path) (Bytes name.path name.generation (OfFile g (bytes f.bytes) now) ∷ []) []) (sym (generation-is files name f e))
+    ap (λ (g : ℕ). cond (knows v name.path) (Bytes name.path name.generation (OfFile g (bytes f.bytes) now) ∷ []) []) (sym (generation-is files name f e))
 
 pub bytes-after : (v : AppView) (files : List File) (change : FileChange) → CanChange files change → bytes_effects v (bytes_named files) change ≡ told_of_file v (changed_name change) (files_after true change files)
 bytes-after v files FilesStay h = refl
 bytes-after v files (Writes name offset [] now) h = refl
 bytes-after v files (Writes name offset (b ∷ bs) now) h =
     told-changed v files name (λ bytes. overlaid bytes offset (b ∷ bs)) now (file_named files name) refl h
-    ∙ ap (λ (o : Option File). cond (names v name.path) (Bytes name.path name.generation (content_named o) ∷ []) []) (sym (named-changed name (written offset (b ∷ bs) now) (λ f. refl) files))
+    ∙ ap (λ (o : Option File). cond (knows v name.path) (Bytes name.path name.generation (content_named o) ∷ []) []) (sym (named-changed name (written offset (b ∷ bs) now) (λ f. refl) files))
 bytes-after v files (Resizes name size now) h =
     told-changed v files name (cut_to size) now (file_named files name) refl h
-    ∙ ap (λ (o : Option File). cond (names v name.path) (Bytes name.path name.generation (content_named o) ∷ []) []) (sym (named-changed name (resized size now) (λ f. refl) files))
+    ∙ ap (λ (o : Option File). cond (knows v name.path) (Bytes name.path name.generation (content_named o) ∷ []) []) (sym (named-changed name (resized size now) (λ f. refl) files))
 bytes-after v files (Creates path now) h =
-    ap (λ (o : Option File). cond (names v path) (Bytes path 0 (content_named o) ∷ []) []) (sym (named-put path now files (missing-is files path h.0).0))
+    ap (λ (o : Option File). cond (knows v path) (Bytes path 0 (content_named o) ∷ []) []) (sym (named-put path now files (missing-is files path h.0).0))

@@ -1,6 +1,5 @@
 -- What comes of an entry, over the lists that are lent ahead of it.
 use Rattle.std.proofs.Common.{◌≡◌, ◌==◌, ◌||◌, ℕ, List, [], ◌∷◌, map, Bool, true, false, cond, Option, Some, None, option_map, refl, sym, ap, ◌∙◌}
-use Rattle.std.specs.List.{flat_map}
 use Rattle.portal_base.specs.declared.files.File.{File}
 use Rattle.portal_base.specs.declared.files.FileName.{FileName}
 use Rattle.portal_base.specs.declared.names.doc_id.DocId.{DocId}
@@ -23,7 +22,7 @@ use Rattle.app_world.specs.Revoke.{revoke_touch}
 use Rattle.app_world.specs.Touched.{is_done}
 use Rattle.app_world.specs.TraceItem as item
 use Rattle.app_world.specs.TraceItem.{item_of}
-use Rattle.app_world.specs.View.{AppView, HeldDocument, held_documents, is_among, names, own_connections, paths_of_connection, view}
+use Rattle.app_world.specs.View.{AppView, held_documents, knows, own_connections, view}
 use Rattle.app_world.specs.World.{items_of, own_of, request_touch, touch}
 use Rattle.trace_items.specs.declared.changes.FileUpdate.{FileUpdate}
 use Rattle.trace_items.specs.declared.coming.News.{News}
@@ -32,11 +31,11 @@ use Rattle.trace_items.specs.declared.lent.Lent.{Lent}
 use Rattle.app_trace.specs.declared.trace.TraceItem.{TraceItem}
 use Rattle.trace_items.specs.Awaited.{Awaits, Comes, IsTold, Shows, change_of, file_told, is_node, silent, told_items}
 use Rattle.trace_items.specs.FilesChanged.{changed_name, named_by, told_alone, told_of_file}
-use Rattle.named_paths.specs.Named.{any_has_open}
+use Rattle.named_paths.specs.Named.{any_has_open, are_of}
 use Rattle.trace_items.specs.OwnAdds.{shared_files}
 use Rattle.app_trace.specs.Told.{item_told}
 use Rattle.trace_items.specs.Touches.{shown_in}
-use Rattle.named_paths.proofs.OpenPaths.{among-joined, open-named}
+use Rattle.named_paths.proofs.OpenPaths.{known-of, open-named}
 use Rattle.trace_items.proofs.SharedFiles.{touch-shared}
 
 -- ---- connections that wait for nothing
@@ -93,17 +92,17 @@ bus-heard s seat o d e m = heard (bus_of (connection_of s.connections seat)) d (
 pub not-made : (app : List ℕ) (s : State) (e : Entry) (o : Option Connection) {b : Bool} → o ≡ option_map silent (connection_of s.connections e.seat) → b ≡ made_by app o e.request → b ≡ false → made_by app (connection_of s.connections e.seat) e.request ≡ false
 not-made app s e o lend m f = sym (made-silent app (connection_of s.connections e.seat) e.request) ∙ (ap (λ (x : Option Connection). made_by app x e.request) (sym lend) ∙ (sym m ∙ f))
 
--- ---- the paths that a view names
+-- ---- the paths of which a view tells
 
-pub names-lent : (lent : Lent) (s : State) (app path : List ℕ) → Shows lent s → Valid s →
-    (is_among (map (λ (d : HeldDocument). d.document.path) (held_documents (held_of lent.book.grants.now app) lent.book.documents.now.live)) path || any_has_open lent.numbers.now lent.handles.now.seats app path lent.connections.now)
-    ≡ names (view s app) path
-names-lent lent s app path shows v =
-    (λ i. is_among (map (λ (d : HeldDocument). d.document.path) (held_documents (held_of (sym shows.rights i) app) (sym shows.documents i))) path || any_has_open lent.numbers.now lent.handles.now.seats app path (sym shows.connections i))
-    ∙ (ap (λ (b : Bool). is_among (map (λ (d : HeldDocument). d.document.path) (held_documents (held_of s.rights app) s.documents)) path || b) (open-named s v lent.numbers.now shows.covered lent.handles.now.seats shows.handles app path)
-    ∙ sym (among-joined path (map (λ (d : HeldDocument). d.document.path) (held_documents (held_of s.rights app) s.documents)) (flat_map paths_of_connection (own_connections app s.handles s.connections))))
+pub knows-lent : (lent : Lent) (s : State) (app path : List ℕ) → Shows lent s → Valid s →
+    (are_of (held_documents (held_of lent.book.grants.now app) lent.book.documents.now.live) path || any_has_open lent.numbers.now lent.handles.now.seats app path lent.connections.now)
+    ≡ knows (view s app) path
+knows-lent lent s app path shows v =
+    (λ i. are_of (held_documents (held_of (sym shows.rights i) app) (sym shows.documents i)) path || any_has_open lent.numbers.now lent.handles.now.seats app path (sym shows.connections i))
+    ∙ (ap (λ (b : Bool). are_of (held_documents (held_of s.rights app) s.documents) path || b) (open-named s v lent.numbers.now shows.covered lent.handles.now.seats shows.handles app path)
+    ∙ sym (known-of path (held_documents (held_of s.rights app) s.documents) (own_connections app s.handles s.connections)))
 
-pub named-some : (v : AppView) (o : Option FileName) (name : FileName) → o ≡ Some name → names v name.path ≡ named_by v o
+pub named-some : (v : AppView) (o : Option FileName) (name : FileName) → o ≡ Some name → knows v name.path ≡ named_by v o
 named-some v o name e = ap (named_by v) (sym e)
 
 -- ---- what is told

@@ -12,7 +12,7 @@ use Rattle.portal_model.specs.declared.request.NodeRequest.{NodeRequest}
 use Rattle.portal_model.specs.declared.state.Document.{Document}
 use Rattle.portal_model.specs.Access.{access, access_file, access_folder, executes, writes_to as asks_to_write}
 use Rattle.portal_model.specs.Attributes.{attr_of_file, attr_of_folder, is_writable, on_node}
-use Rattle.portal_model.specs.Create.{Made, create, create_at, create_in, created, own_made}
+use Rattle.portal_model.specs.Create.{Made, child_made, create, create_at, create_child, create_in, created, own_made}
 use Rattle.portal_model.specs.Errno.{eacces, ebadf, efbig, einval, eisdir, emfile, enametoolong, enoent, enotdir, eperm}
 use Rattle.portal_model.specs.Flush.{flush}
 use Rattle.portal_model.specs.Fsync.{fsync, fsync_open}
@@ -33,7 +33,6 @@ use Rattle.portal_model.specs.SetAttr.{SetsAttr, resize, set_attr, set_attr_at, 
 use Rattle.portal_model.specs.Walk as walk
 use Rattle.portal_model.specs.Walk.{Answers, AtPath, Ends, LastCall, Lists, Looks, Makes, Walk, listed_by, walked_with}
 use Rattle.portal_model.specs.Write.{write, write_content, write_limit, write_open}
-use Rattle.app_world.proofs.NamedPaths.{Plain, PlainFolder}
 use Rattle.trace_items.specs.FilesChanged.{attributes_set, creates, file_change, file_open, file_shown_at, opened, path_in_folder, path_of_file, path_of_folder, resizes, writes_to, written}
 
 -- where something is done, it changes the files so
@@ -109,23 +108,31 @@ open-name r flags room d name now listed looks failed = by_truncation (truncates
     by_truncation true = ends (Resizes name 0 now) (walk.Changes name) (λ moment. opened_file room (file_handle d name r.node flags) (Resizes name 0 moment)) now listed looks failed refl
     by_truncation false = refl
 
-open-place : (r : NodeRequest) (flags : ℕ) (room : Room) (sight : Option Sight) → Plain sight → (now : ℕ) (listed : Option (List ChildName)) (looks : List Look) (failed : Bool) → Changes (opened flags sight looks now) (walked_with (by_place sight (open_file r flags room) open_folder) now listed looks failed)
-open-place r flags room None p now listed looks failed = tt
-open-place r flags room (Some (SightOfFolder f)) p now listed looks failed = tt
-open-place r flags room (Some (SightBelow view d path may)) p now listed looks failed = absurd p
-open-place r flags room (Some (SightOfFile d may)) p now listed [] failed = tt
-open-place r flags room (Some (SightOfFile d may)) p now listed (Look.Folder ∷ looks) failed = tt
-open-place r flags room (Some (SightOfFile d may)) p now listed (Look.Missing ∷ looks) failed = tt
-open-place r flags room (Some (SightOfFile d may)) p now listed (Look.File g size moment ∷ looks) failed =
-    let name : FileName = record { path = d.path; generation = g } in
+open-file : (r : NodeRequest) (flags : ℕ) (room : Room) (d : Document) (path : List ℕ) (may : Bool) (g now : ℕ) (listed : Option (List ChildName)) (looks : List Look) (failed : Bool) →
+    Changes (cond (truncates flags) (Resizes (record { path = path; generation = g }) 0 now) FilesStay)
+    (walked_with (errs_if (opens_to_write flags && not may) eacces (errs_if room.full emfile (open_name r flags room d (record { path = path; generation = g })))) now listed looks failed)
+open-file r flags room d path may g now listed looks failed =
+    let name : FileName = record { path = path; generation = g } in
     let o : FileChange = cond (truncates flags) (Resizes name 0 now) FilesStay in
     checked o (opens_to_write flags && not may) eacces (errs_if room.full emfile (open_name r flags room d name)) now listed looks failed
     (checked o room.full emfile (open_name r flags room d name) now listed looks failed (open-name r flags room d name now listed looks failed))
 
-open-changes : (r : NodeRequest) (flags : ℕ) (sight : Option Sight) (room : Room) → Plain sight → (now : ℕ) (listed : Option (List ChildName)) (looks : List Look) (failed : Bool) → Changes (opened flags sight looks now) (walked_with (open_node r flags sight room) now listed looks failed)
-open-changes r flags sight room p now listed looks failed =
+open-place : (r : NodeRequest) (flags : ℕ) (room : Room) (sight : Option Sight) → (now : ℕ) (listed : Option (List ChildName)) (looks : List Look) (failed : Bool) → Changes (opened flags sight looks now) (walked_with (by_place sight (open_file r flags room) open_folder) now listed looks failed)
+open-place r flags room None now listed looks failed = tt
+open-place r flags room (Some (SightOfFolder f)) now listed looks failed = tt
+open-place r flags room (Some (SightBelow view d path may)) now listed [] failed = tt
+open-place r flags room (Some (SightBelow view d path may)) now listed (Look.Folder ∷ looks) failed = tt
+open-place r flags room (Some (SightBelow view d path may)) now listed (Look.Missing ∷ looks) failed = tt
+open-place r flags room (Some (SightBelow view d path may)) now listed (Look.File g size moment ∷ looks) failed = open-file r flags room d path may g now listed looks failed
+open-place r flags room (Some (SightOfFile d may)) now listed [] failed = tt
+open-place r flags room (Some (SightOfFile d may)) now listed (Look.Folder ∷ looks) failed = tt
+open-place r flags room (Some (SightOfFile d may)) now listed (Look.Missing ∷ looks) failed = tt
+open-place r flags room (Some (SightOfFile d may)) now listed (Look.File g size moment ∷ looks) failed = open-file r flags room d d.path may g now listed looks failed
+
+open-changes : (r : NodeRequest) (flags : ℕ) (sight : Option Sight) (room : Room) → (now : ℕ) (listed : Option (List ChildName)) (looks : List Look) (failed : Bool) → Changes (opened flags sight looks now) (walked_with (open_node r flags sight room) now listed looks failed)
+open-changes r flags sight room now listed looks failed =
     checked (opened flags sight looks now) (has_no_mode flags) einval (by_place sight (open_file r flags room) open_folder) now listed looks failed
-    (open-place r flags room sight p now listed looks failed)
+    (open-place r flags room sight now listed looks failed)
 
 -- ---- SETATTR
 
@@ -164,20 +171,24 @@ attr-folder r a f now listed looks failed = by_size (sets_size a.valid)
     by_size true = tt
     by_size false = refl
 
-attr-place : (r : NodeRequest) (a : SetsAttr) (sight : Option Sight) → Plain sight → (now : ℕ) (listed : Option (List ChildName)) (looks : List Look) (failed : Bool) →
+attr-place : (r : NodeRequest) (a : SetsAttr) (sight : Option Sight) → (now : ℕ) (listed : Option (List ChildName)) (looks : List Look) (failed : Bool) →
     Changes (cond (sets_size a.valid) (resizes (file_shown_at (path_of_file sight) looks) a.size now) FilesStay) (walked_with (by_place sight (set_attr_at r a) (set_attr_of_folder r a)) now listed looks failed)
-attr-place r a None p now listed looks failed = tt
-attr-place r a (Some (SightOfFolder f)) p now listed looks failed = attr-folder r a f now listed looks failed
-attr-place r a (Some (SightBelow view d path may)) p now listed looks failed = absurd p
-attr-place r a (Some (SightOfFile d may)) p now listed [] failed = tt
-attr-place r a (Some (SightOfFile d may)) p now listed (Look.Folder ∷ looks) failed = tt
-attr-place r a (Some (SightOfFile d may)) p now listed (Look.Missing ∷ looks) failed = tt
-attr-place r a (Some (SightOfFile d may)) p now listed (Look.File g size moment ∷ looks) failed =
+attr-place r a None now listed looks failed = tt
+attr-place r a (Some (SightOfFolder f)) now listed looks failed = attr-folder r a f now listed looks failed
+attr-place r a (Some (SightBelow view d path may)) now listed [] failed = tt
+attr-place r a (Some (SightBelow view d path may)) now listed (Look.Folder ∷ looks) failed = attr-folder r a (Exported view d path may) now listed looks failed
+attr-place r a (Some (SightBelow view d path may)) now listed (Look.Missing ∷ looks) failed = tt
+attr-place r a (Some (SightBelow view d path may)) now listed (Look.File g size moment ∷ looks) failed =
+    attr-of r a (record { path = path; generation = g }) may size moment now listed looks failed
+attr-place r a (Some (SightOfFile d may)) now listed [] failed = tt
+attr-place r a (Some (SightOfFile d may)) now listed (Look.Folder ∷ looks) failed = tt
+attr-place r a (Some (SightOfFile d may)) now listed (Look.Missing ∷ looks) failed = tt
+attr-place r a (Some (SightOfFile d may)) now listed (Look.File g size moment ∷ looks) failed =
     attr-of r a (record { path = d.path; generation = g }) may size moment now listed looks failed
 
-set_attr-changes : (reach : Reaching) (r : NodeRequest) (a : SetsAttr) (sight : Option Sight) (handle : Option Handle) → Plain sight → (now : ℕ) (listed : Option (List ChildName)) (looks : List Look) (failed : Bool) →
+set_attr-changes : (reach : Reaching) (r : NodeRequest) (a : SetsAttr) (sight : Option Sight) (handle : Option Handle) → (now : ℕ) (listed : Option (List ChildName)) (looks : List Look) (failed : Bool) →
     Changes (attributes_set a.valid a.size sight handle looks now) (walked_with (set_attr reach r a sight handle) now listed looks failed)
-set_attr-changes reach r a sight handle p now listed looks failed =
+set_attr-changes reach r a sight handle now listed looks failed =
     checked (attributes_set a.valid a.size sight handle looks now) (sets_owner_or_mode a.valid) eperm
     (cond (sets_by_handle a.valid) (by_file_handle handle (set_attr_open reach r a)) (by_place sight (set_attr_at r a) (set_attr_of_folder r a))) now listed looks failed
     (by_way (sets_by_handle a.valid))
@@ -185,7 +196,7 @@ set_attr-changes reach r a sight handle p now listed looks failed =
     by_way : (b : Bool) → Changes (cond (sets_size a.valid) (resizes (cond b (file_open handle) (file_shown_at (path_of_file sight) looks)) a.size now) FilesStay)
         (walked_with (cond b (by_file_handle handle (set_attr_open reach r a)) (by_place sight (set_attr_at r a) (set_attr_of_folder r a))) now listed looks failed)
     by_way true = attr-open reach r a handle now listed looks failed
-    by_way false = attr-place r a sight p now listed looks failed
+    by_way false = attr-place r a sight now listed looks failed
 
 -- ---- CREATE
 
@@ -196,36 +207,50 @@ create-there r flags room made now listed (Look.File g size moment ∷ looks) fa
 create-there r flags room made now listed (Look.Folder ∷ looks) failed = tt
 create-there r flags room made now listed (Look.Missing ∷ looks) failed = ends (creates (Some made.path) now) (Makes made.path) (created r flags room made) now listed looks failed refl
 
-create-in : (r : NodeRequest) (name : List ℕ) (flags : ℕ) (room : Room) (namings : List Naming) (f : Folder) → PlainFolder f → (now : ℕ) (listed : Option (List ChildName)) (looks : List Look) (failed : Bool) →
-    Changes (creates (path_in_folder f) now) (walked_with (create_in r name flags room namings f) now listed looks failed)
-create-in r name flags room namings (RootOf view numbers has_views) p now listed looks failed = tt
-create-in r name flags room namings (Views applications) p now listed looks failed = tt
-create-in r name flags room namings (FolderOf view d may) p now listed looks failed =
+-- at an exported folder and below it
+create-below : (r : NodeRequest) (flags : ℕ) (room : Room) (namings : List Naming) (view : ℕ) (d : Document) (may : Bool) (path : Option (List ℕ)) (now : ℕ) (listed : Option (List ChildName)) (looks : List Look) (failed : Bool) →
+    Changes (creates path now) (walked_with (create_child r flags room namings view d may path) now listed looks failed)
+create-below r flags room namings view d may None now listed looks failed = tt
+create-below r flags room namings view d may (Some path) now listed looks failed =
+    let change : FileChange = creates (Some path) now in
+    let naming : Naming = naming_in view d path in
+    let w : Walk NodeVerdict = create_at r flags room (child_made namings d naming) in
+    checked change (not may) eacces (errs_if (room.full || lacks_number namings naming) emfile w) now listed looks failed
+    (checked change (room.full || lacks_number namings naming) emfile w now listed looks failed (create-there r flags room (child_made namings d naming) now listed looks failed))
+
+create-in : (r : NodeRequest) (name : List ℕ) (flags : ℕ) (room : Room) (namings : List Naming) (f : Folder) → (now : ℕ) (listed : Option (List ChildName)) (looks : List Look) (failed : Bool) →
+    Changes (creates (path_in_folder name f) now) (walked_with (create_in r name flags room namings f) now listed looks failed)
+create-in r name flags room namings (RootOf view numbers has_views) now listed looks failed = tt
+create-in r name flags room namings (Views applications) now listed looks failed = tt
+create-in r name flags room namings (FolderOf view d may) now listed looks failed =
     let change : FileChange = creates (Some d.path) now in
     let w : Walk NodeVerdict = create_at r flags room (own_made view d) in
     checked change (not (is_same name (name_of d.path))) eacces (errs_if (not may) eacces (errs_if room.full emfile w)) now listed looks failed
     (checked change (not may) eacces (errs_if room.full emfile w) now listed looks failed
     (checked change room.full emfile w now listed looks failed (create-there r flags room (own_made view d) now listed looks failed)))
-create-in r name flags room namings (Exported view d path may) p now listed looks failed = absurd p
+create-in r name flags room namings (Exported view d path may) now listed looks failed = create-below r flags room namings view d may (named_child path name) now listed looks failed
 
-create-place : (r : NodeRequest) (name : List ℕ) (flags : ℕ) (sight : Option Sight) (room : Room) (namings : List Naming) → Plain sight → (now : ℕ) (listed : Option (List ChildName)) (looks : List Look) (failed : Bool) →
-    Changes (creates (path_of_folder sight) now) (walked_with (by_place sight (no_file enotdir) (create_in r name flags room namings)) now listed looks failed)
-create-place r name flags None room namings p now listed looks failed = tt
-create-place r name flags (Some (SightOfFolder f)) room namings p now listed looks failed = create-in r name flags room namings f p now listed looks failed
-create-place r name flags (Some (SightBelow view d path may)) room namings p now listed looks failed = absurd p
-create-place r name flags (Some (SightOfFile d may)) room namings p now listed [] failed = tt
-create-place r name flags (Some (SightOfFile d may)) room namings p now listed (Look.File g size moment ∷ looks) failed = tt
-create-place r name flags (Some (SightOfFile d may)) room namings p now listed (Look.Folder ∷ looks) failed = tt
-create-place r name flags (Some (SightOfFile d may)) room namings p now listed (Look.Missing ∷ looks) failed = tt
+create-place : (r : NodeRequest) (name : List ℕ) (flags : ℕ) (sight : Option Sight) (room : Room) (namings : List Naming) → (now : ℕ) (listed : Option (List ChildName)) (looks : List Look) (failed : Bool) →
+    Changes (creates (path_of_folder name sight) now) (walked_with (by_place sight (no_file enotdir) (create_in r name flags room namings)) now listed looks failed)
+create-place r name flags None room namings now listed looks failed = tt
+create-place r name flags (Some (SightOfFolder f)) room namings now listed looks failed = create-in r name flags room namings f now listed looks failed
+create-place r name flags (Some (SightBelow view d path may)) room namings now listed [] failed = tt
+create-place r name flags (Some (SightBelow view d path may)) room namings now listed (Look.File g size moment ∷ looks) failed = tt
+create-place r name flags (Some (SightBelow view d path may)) room namings now listed (Look.Folder ∷ looks) failed = create-in r name flags room namings (Exported view d path may) now listed looks failed
+create-place r name flags (Some (SightBelow view d path may)) room namings now listed (Look.Missing ∷ looks) failed = tt
+create-place r name flags (Some (SightOfFile d may)) room namings now listed [] failed = tt
+create-place r name flags (Some (SightOfFile d may)) room namings now listed (Look.File g size moment ∷ looks) failed = tt
+create-place r name flags (Some (SightOfFile d may)) room namings now listed (Look.Folder ∷ looks) failed = tt
+create-place r name flags (Some (SightOfFile d may)) room namings now listed (Look.Missing ∷ looks) failed = tt
 
-create-changes : (r : NodeRequest) (name : List ℕ) (flags : ℕ) (sight : Option Sight) (room : Room) (namings : List Naming) → Plain sight → (now : ℕ) (listed : Option (List ChildName)) (looks : List Look) (failed : Bool) →
-    Changes (creates (path_of_folder sight) now) (walked_with (create r name flags sight room namings) now listed looks failed)
-create-changes r name flags sight room namings p now listed looks failed =
-    let change : FileChange = creates (path_of_folder sight) now in
+create-changes : (r : NodeRequest) (name : List ℕ) (flags : ℕ) (sight : Option Sight) (room : Room) (namings : List Naming) → (now : ℕ) (listed : Option (List ChildName)) (looks : List Look) (failed : Bool) →
+    Changes (creates (path_of_folder name sight) now) (walked_with (create r name flags sight room namings) now listed looks failed)
+create-changes r name flags sight room namings now listed looks failed =
+    let change : FileChange = creates (path_of_folder name sight) now in
     let w : Walk NodeVerdict = by_place sight (no_file enotdir) (create_in r name flags room namings) in
     checked change (has_no_mode flags) einval (errs_if (is_too_long name) enametoolong w) now listed looks failed
     (checked change (is_too_long name) enametoolong w now listed looks failed
-    (create-place r name flags sight room namings p now listed looks failed))
+    (create-place r name flags sight room namings now listed looks failed))
 
 -- ---- the other requests
 
@@ -376,22 +401,22 @@ access-stays mask sight =
 
 -- ---- each request
 
-pub node-changes : (f : NodeFacts) (r : NodeRequest) (op : NodeOp) → Plain f.sight → (now : ℕ) (listed : Option (List ChildName)) (looks : List Look) (failed : Bool) → Changes (file_change f.sight f.handle looks now op) (walked_with (node_walk f r op) now listed looks failed)
-node-changes f r (NodeOp.Write fh offset content) p now listed looks failed = write-changes f.reach f.file_limit offset content (f.handle fh) now listed looks failed
-node-changes f r (NodeOp.SetAttr valid fh size) p now listed looks failed =
-    set_attr-changes f.reach r (record { valid = valid; size = size; limit = f.file_limit }) f.sight (f.handle fh) p now listed looks failed
-node-changes f r (NodeOp.Open flags) p now listed looks failed = open-changes r flags f.sight f.room p now listed looks failed
-node-changes f r (NodeOp.Create name flags) p now listed looks failed = create-changes r name flags f.sight f.room f.namings p now listed looks failed
-node-changes f r (NodeOp.Lookup name) p now listed looks failed = stays-walked (lookup r f.namings name f.sight) now listed looks failed (lookup-stays r f.namings name f.sight)
-node-changes f r (NodeOp.Forget count) p now listed looks failed = refl
-node-changes f r (NodeOp.BatchForget nodes) p now listed looks failed = refl
-node-changes f r (NodeOp.GetAttr flags fh) p now listed looks failed = stays-walked (get_attr f.reach r flags f.sight (f.handle fh)) now listed looks failed (get_attr-stays f.reach r flags f.sight (f.handle fh))
-node-changes f r (NodeOp.Read fh offset size) p now listed looks failed = stays-walked (read f.reach f.bytes offset size (f.handle fh)) now listed looks failed (read-stays f.reach f.bytes offset size (f.handle fh))
-node-changes f r (NodeOp.Flush fh) p now listed looks failed = stays-walked (flush (f.handle fh)) now listed looks failed (handle-stays (f.handle fh) _ (λ file. refl))
-node-changes f r (NodeOp.Fsync fh) p now listed looks failed = stays-walked (fsync (f.handle fh)) now listed looks failed (handle-stays (f.handle fh) fsync_open (λ file. ((λ moment. refl), tt)))
-node-changes f r (NodeOp.Release fh) p now listed looks failed = stays-walked (release fh (f.handle fh)) now listed looks failed (handle-stays (f.handle fh) _ (λ file. refl))
-node-changes f r NodeOp.OpenDir p now listed looks failed = stays-walked (open_dir r f.sight f.room) now listed looks failed (open_dir-stays r f.sight f.room)
-node-changes f r (NodeOp.ReadDir fh offset size) p now listed looks failed =
+pub node-changes : (f : NodeFacts) (r : NodeRequest) (op : NodeOp) → (now : ℕ) (listed : Option (List ChildName)) (looks : List Look) (failed : Bool) → Changes (file_change f.sight f.handle looks now op) (walked_with (node_walk f r op) now listed looks failed)
+node-changes f r (NodeOp.Write fh offset content) now listed looks failed = write-changes f.reach f.file_limit offset content (f.handle fh) now listed looks failed
+node-changes f r (NodeOp.SetAttr valid fh size) now listed looks failed =
+    set_attr-changes f.reach r (record { valid = valid; size = size; limit = f.file_limit }) f.sight (f.handle fh) now listed looks failed
+node-changes f r (NodeOp.Open flags) now listed looks failed = open-changes r flags f.sight f.room now listed looks failed
+node-changes f r (NodeOp.Create name flags) now listed looks failed = create-changes r name flags f.sight f.room f.namings now listed looks failed
+node-changes f r (NodeOp.Lookup name) now listed looks failed = stays-walked (lookup r f.namings name f.sight) now listed looks failed (lookup-stays r f.namings name f.sight)
+node-changes f r (NodeOp.Forget count) now listed looks failed = refl
+node-changes f r (NodeOp.BatchForget nodes) now listed looks failed = refl
+node-changes f r (NodeOp.GetAttr flags fh) now listed looks failed = stays-walked (get_attr f.reach r flags f.sight (f.handle fh)) now listed looks failed (get_attr-stays f.reach r flags f.sight (f.handle fh))
+node-changes f r (NodeOp.Read fh offset size) now listed looks failed = stays-walked (read f.reach f.bytes offset size (f.handle fh)) now listed looks failed (read-stays f.reach f.bytes offset size (f.handle fh))
+node-changes f r (NodeOp.Flush fh) now listed looks failed = stays-walked (flush (f.handle fh)) now listed looks failed (handle-stays (f.handle fh) _ (λ file. refl))
+node-changes f r (NodeOp.Fsync fh) now listed looks failed = stays-walked (fsync (f.handle fh)) now listed looks failed (handle-stays (f.handle fh) fsync_open (λ file. ((λ moment. refl), tt)))
+node-changes f r (NodeOp.Release fh) now listed looks failed = stays-walked (release fh (f.handle fh)) now listed looks failed (handle-stays (f.handle fh) _ (λ file. refl))
+node-changes f r NodeOp.OpenDir now listed looks failed = stays-walked (open_dir r f.sight f.room) now listed looks failed (open_dir-stays r f.sight f.room)
+node-changes f r (NodeOp.ReadDir fh offset size) now listed looks failed =
     stays-walked (read_dir offset size (f.handle fh)) now listed looks failed (if-stays (nat_lt read_limit size) einval (read_names offset size (f.handle fh)) (names-stay offset size (f.handle fh)))
-node-changes f r (NodeOp.ReleaseDir fh) p now listed looks failed = stays-walked (release_dir fh (f.handle fh)) now listed looks failed (release_dir-stays fh (f.handle fh))
-node-changes f r (NodeOp.Access mask) p now listed looks failed = stays-walked (access mask f.sight) now listed looks failed (access-stays mask f.sight)
+node-changes f r (NodeOp.ReleaseDir fh) now listed looks failed = stays-walked (release_dir fh (f.handle fh)) now listed looks failed (release_dir-stays fh (f.handle fh))
+node-changes f r (NodeOp.Access mask) now listed looks failed = stays-walked (access mask f.sight) now listed looks failed (access-stays mask f.sight)

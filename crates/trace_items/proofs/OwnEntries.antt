@@ -8,12 +8,11 @@ use Rattle.portal_model.specs.declared.request.AddRequest.{AddRequest}
 use Rattle.portal_model.specs.declared.request.Request.{Request}
 use Rattle.portal_model.specs.declared.state.Connection.{Connection}
 use Rattle.portal_model.specs.declared.state.Document.{Document}
-use Rattle.portal_model.specs.AddArguments.{document_paths, paths_shown, reuses}
-use Rattle.portal_model.specs.Content.{content_at}
+use Rattle.portal_model.specs.AddArguments.{document_paths, exports, paths_shown, reuses}
 use Rattle.portal_model.specs.Lawful.{LawfulGiven, LawfulOnBus}
 use Rattle.portal_model.specs.State.{State, connection_of}
 use Rattle.portal_model.specs.Step.{all_told, bus_of}
-use Rattle.app_world.specs.Add.{asked, reused_by, reused_of, shown_to}
+use Rattle.app_world.specs.Add.{asked, reused_by, reused_of, shown_at_path, shown_to}
 use Rattle.app_world.specs.TraceItem as item
 use Rattle.app_world.specs.World.{contents_shown, documents_reused, own_of}
 use Rattle.trace_items.specs.OwnAdds.{is_in_order, own_told}
@@ -40,16 +39,16 @@ module _ (s : State) (c : Connection) (a : AddRequest) (e : Entry) where
   -- where something is not in order nothing was asked, and nothing is told
   pub own-none : is_in_order c.queue a ≡ false → asked e.given ≡ 0 → own_told e [] [] ≡ own_told e (shown_to s c a e.given) (reused_by s c a)
   own-none order none =
-      let shown : shown_to s c a e.given ≡ [] = ap (map (content_at s.files)) (take-none (asked e.given) (paths_shown c.queue a) none) in
+      let shown : shown_to s c a e.given ≡ [] = ap (map (shown_at_path s.files (exports a))) (take-none (asked e.given) (paths_shown c.queue a) none) in
       let reused : reused_by s c a ≡ [] = ap (λ (b : Bool). cond b (reused_of s.documents a (document_paths c.queue a)) []) (and-false (reuses a) (is_in_order c.queue a) order) in
       λ i. own_told e (sym shown i) (sym reused i)
 
   pub own-some : (documents : List Document) (files : List File) → s.documents ≡ documents → s.files ≡ files → is_in_order c.queue a ≡ true →
-      own_told e (map (content_at files) (take (asked e.given) (paths_shown c.queue a))) (cond (reuses a) (reused_of documents a (document_paths c.queue a)) []) ≡ own_told e (shown_to s c a e.given) (reused_by s c a)
+      own_told e (map (shown_at_path files (exports a)) (take (asked e.given) (paths_shown c.queue a))) (cond (reuses a) (reused_of documents a (document_paths c.queue a)) []) ≡ own_told e (shown_to s c a e.given) (reused_by s c a)
   own-some documents files d f order =
       let reused : reused_by s c a ≡ cond (reuses a) (reused_of s.documents a (document_paths c.queue a)) [] =
       ap (λ (b : Bool). cond b (reused_of s.documents a (document_paths c.queue a)) []) (and-true (reuses a) (is_in_order c.queue a) order) in
-      (λ i. own_told e (map (content_at (sym f i)) (take (asked e.given) (paths_shown c.queue a))) (cond (reuses a) (reused_of (sym d i) a (document_paths c.queue a)) []))
+      (λ i. own_told e (map (shown_at_path (sym f i) (exports a)) (take (asked e.given) (paths_shown c.queue a))) (cond (reuses a) (reused_of (sym d i) a (document_paths c.queue a)) []))
       ∙ ap (λ (ids : List (Option DocId)). own_told e (shown_to s c a e.given) ids) (sym reused)
 
 -- nothing was asked, where something is not in order

@@ -11,12 +11,12 @@ use Rattle.portal_model.specs.declared.state.Connection.{Connection}
 use Rattle.portal_model.specs.declared.state.Document.{Document}
 use Rattle.portal_model.specs.Add.{Added, add_file, first_number, new_document, taken_from_queue, use_document, used_again, with_new_document, with_rights_of}
 use Rattle.portal_model.specs.AddArguments.{are_presented, document_paths, exports, is_left_out, makes_strict, persists, reuses}
-use Rattle.portal_model.specs.Content.{content_at}
 use Rattle.portal_model.specs.Documents.{id_of_document, serves}
 use Rattle.portal_model.specs.Present.{with_queue}
 use Rattle.portal_model.specs.State.{State, held_of, is_app}
 use Rattle.app_world.specs.Add.{add_touch, document_used, file_touch, files_touch, names_app, own_again}
 use Rattle.app_world.specs.Effect.{Effect, Gained}
+use Rattle.app_world.specs.View.{holding_at}
 use Rattle.app_world.specs.Grant.{gained_if, gained_in}
 use Rattle.app_world.proofs.AddLaws.{rights-keep}
 use Rattle.app_world.proofs.UseLaws.{rights-other}
@@ -124,8 +124,8 @@ module _ (app : List ℕ) (s : State) (who : Who) (a : AddRequest) (numbers : Li
           cond b [] (gained_in app s listed d) ≡ gained_if done.state d (minus listed k)
       by_given true k e =
           sym (ap (λ (x : RightSet). gained_if done.state d (minus listed x)) e
-          ∙ ap (λ (b : Bool). cond b (Gained d (minus listed (union (held_of s.rights app d.id.number) listed)) (content_at done.state.files d.path) ∷ []) []) (none-left (held_of s.rights app d.id.number) listed))
-      by_given false k e = λ i. cond (holds_any (minus listed (sym e i))) (Gained d (minus listed (sym e i)) (content_at (sym f.files i) d.path) ∷ []) []
+          ∙ ap (λ (b : Bool). cond b (Gained d (minus listed (union (held_of s.rights app d.id.number) listed)) (holding_at done.state.files d) ∷ []) []) (none-left (held_of s.rights app d.id.number) listed))
+      by_given false k e = λ i. cond (holds_any (minus listed (sym e i))) (Gained d (minus listed (sym e i)) (holding_at (sym f.files i) d) ∷ []) []
 
   -- the rights behind a file
   held-then : (u : Shared) (id : DocId) (base : State) → ((n : ℕ) → held_of base.rights app n ≡ cond (is_given u.given n) (union (held_of s.rights app n) listed) (held_of s.rights app n)) → (n : ℕ) →

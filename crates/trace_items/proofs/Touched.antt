@@ -15,14 +15,12 @@ use Rattle.portal_model.specs.NodeVerdict.{FileChange, FilesStay, NodeVerdict, E
 use Rattle.portal_model.specs.Place.{Exported, Sight, SightBelow, SightOfFile, SightOfFolder, Folder, FolderOf, RootOf, Views, sight_on}
 use Rattle.portal_model.specs.State.{State, connection_of, handle_of, is_mount}
 use Rattle.portal_model.specs.Step.{after, all_told, bus_of, bus_step, collect_step, mount_of, node_step, reply_at, request_step}
-use Rattle.portal_model.specs.Valid.{Valid}
 use Rattle.portal_model.specs.Walk.{Gives}
 use Rattle.portal_model.proofs.BusLaws.{bus_step-holds}
-use Rattle.portal_model.proofs.ValidLaws.{told-sight}
 use Rattle.app_world.specs.Node.{bytes_effects, node_touch, verdict_touch}
 use Rattle.app_world.specs.Touched.{is_done}
 use Rattle.app_world.specs.View.{view}
-use Rattle.app_world.proofs.NamedPaths.{FolderOn, HandleOn, Plain, SightOn, sound-plain}
+use Rattle.app_world.proofs.NamedPaths.{FolderOn, HandleOn, SightOn}
 use Rattle.app_world.proofs.WalksAlong.{CanBe, given-can, walk-along}
 use Rattle.trace_items.specs.Awaited.{Comes, is_node}
 use Rattle.trace_items.specs.FilesChanged.{changed_name, file_change, told_of_file}
@@ -47,13 +45,13 @@ same-files false x y e = e
 abbrev Any : List ℕ → Type 0
 Any path = Unit {0}
 
-any-folder : (f : Folder) → FolderOn Any f
+any-folder : (f : Folder) → FolderOn Any Any f
 any-folder (RootOf view numbers has_views) = tt
 any-folder (Views applications) = tt
 any-folder (FolderOf view d may_write) = tt
 any-folder (Exported view d path may_write) = tt
 
-any-sight : (o : Option Sight) → SightOn Any o
+any-sight : (o : Option Sight) → SightOn Any Any o
 any-sight None = tt
 any-sight (Some (SightOfFile d may_write)) = tt
 any-sight (Some (SightBelow view d path may_write)) = tt
@@ -65,11 +63,11 @@ any-handle (Some (Handle.File name node document strict read write)) = tt
 any-handle (Some (Handle.Folder node names)) = tt
 
 -- what is done can be done with these files
-can-be : (s : State) (c : Connection) (r : NodeRequest) (given : Given) → Plain (sight_on s c r.node) → s.told ≡ true → LawfulNode (all_told c.seat s) c r given → CanBe s.files Any (node_given (walk_on_node s c r) given)
-can-be s c r given plain told l =
-    given-can s.files Any (λ target. Unit {0}) (λ call. Unit {0}) (walk_on_node s c r) (moment_given given.now) given.listed given.looks (is_tree given.fault)
+can-be : (s : State) (c : Connection) (r : NodeRequest) (given : Given) → s.told ≡ true → LawfulNode (all_told c.seat s) c r given → CanBe s.files Any (node_given (walk_on_node s c r) given)
+can-be s c r given told l =
+    given-can s.files Any (λ target. Unit {0}) (λ call. Unit {0}) Any (walk_on_node s c r) (moment_given given.now) given.listed given.looks (is_tree given.fault)
     (subst (λ (b : Bool). Gives (cond b (Some s.files) None) (walk_on_node s c r) given.looks (is_tree given.fault)) told l.looks)
-    (walk-along s.files Any (λ target. Unit {0}) (λ call. Unit {0}) (λ path h. tt) (λ name h. tt) (λ name h. tt) (λ name h. tt) (λ path h e. tt) (facts_of s c r.node) r r.op plain
+    (walk-along s.files Any (λ target. Unit {0}) (λ call. Unit {0}) Any Any (λ path h. tt) (λ path name p h e. tt) (λ path h. tt) (λ path h. tt) (λ name h. tt) (λ name h. tt) (λ name h. tt) (λ path h e. tt) (facts_of s c r.node) r r.op
     (any-sight (sight_on s c r.node)) (λ fh. any-handle (handle_of s.handles c.seat fh)))
 
 module _ (s : State) (told : s.told ≡ true) (change : FileChange) where
@@ -107,21 +105,20 @@ mount-there (Some d) c e = by_kind (is_mount d.kind) e
     by_kind true f = f
     by_kind false f = cc
 
-node-comes : (s : State) (valid : Valid s) (told : s.told ≡ true) (seat : ℕ) (r : NodeRequest) (given : Given) (o : Option Connection) → mount_of (connection_of s.connections seat) ≡ o → LawfulOnNode s r given o →
+node-comes : (s : State) (told : s.told ≡ true) (seat : ℕ) (r : NodeRequest) (given : Given) (o : Option Connection) → mount_of (connection_of s.connections seat) ≡ o → LawfulOnNode s r given o →
     ((node_step s r given o).0.files ≡ cond (is_done (node_step s r given o).1.answer) (files_after true (change_over s r given o) s.files) s.files)
     × ((app : List ℕ) → is_done (node_step s r given o).1.answer ≡ true → node_touch app s r given o ≡ told_of_file (view s app) (changed_name (change_over s r given o)) (node_step s r given o).0.files)
-node-comes s valid told seat r given None m l = (refl, λ app e. cc)
-node-comes s valid told seat r given (Some c) m l =
-    let plain : Plain (sight_on s c r.node) = sound-plain _ r.node _ (told-sight s seat c (mount-there (connection_of s.connections seat) c m) valid r.node) in
+node-comes s told seat r given None m l = (refl, λ app e. cc)
+node-comes s told seat r given (Some c) m l =
     let v : Option NodeVerdict = node_given (walk_on_node s c r) given in
-    let h : Changes (change_on s r given c) v = node-changes (facts_of s c r.node) r r.op plain (moment_given given.now) given.listed given.looks (is_tree given.fault) in
-    (settled-files s told (change_on s r given c) c v h, λ app e. settled-told s told (change_on s r given c) app c v h (can-be s c r given plain told l) e)
+    let h : Changes (change_on s r given c) v = node-changes (facts_of s c r.node) r r.op (moment_given given.now) given.listed given.looks (is_tree given.fault) in
+    (settled-files s told (change_on s r given c) c v h, λ app e. settled-told s told (change_on s r given c) app c v h (can-be s c r given told l) e)
 
 -- an entry on a node
-pub comes-node : (s : State) (seat : ℕ) (r : NodeRequest) (given : Given) → Valid s → s.told ≡ true → LawfulOnNode s r given (mount_of (connection_of s.connections seat)) →
+pub comes-node : (s : State) (seat : ℕ) (r : NodeRequest) (given : Given) → s.told ≡ true → LawfulOnNode s r given (mount_of (connection_of s.connections seat)) →
     Comes s (record { seat = seat; request = Request.Node r; given = given }) (change_at s seat r given)
-comes-node s seat r given valid told l =
-    let both = node-comes s valid told seat r given (mount_of (connection_of s.connections seat)) refl l in
+comes-node s seat r given told l =
+    let both = node-comes s told seat r given (mount_of (connection_of s.connections seat)) refl l in
     record { files = both.0; node = λ app n. both.1 app }
 
 -- any other entry leaves the files

@@ -1,14 +1,16 @@
 -- What comes of an entry to an application, over the lists that a portal lends ahead of it.
-use Rattle.std.specs.Prelude.{◌≡◌, ℕ, List, [], ◌∷◌, map, Bool, true, false, cond, Option, Some, None}
+use Rattle.std.specs.Prelude.{◌≡◌, ℕ, List, [], ◌∷◌, map, Bool, true, false, cond, Option, Some, None, option_map}
 use Rattle.portal_base.specs.declared.files.File.{File}
 use Rattle.portal_base.specs.declared.files.FileName.{FileName}
 use Rattle.portal_model.specs.declared.entry.Entry.{Entry}
+use Rattle.portal_model.specs.declared.naming.Naming.{Naming}
 use Rattle.portal_model.specs.declared.request.Request.{Request}
 use Rattle.portal_model.specs.declared.state.Connection.{Connection}
 use Rattle.portal_model.specs.Node.{files_after}
 use Rattle.portal_model.specs.NodeVerdict.{FileChange, FilesStay, Writes, Resizes, Creates}
 use Rattle.portal_model.specs.State.{State, connection_of}
 use Rattle.portal_model.specs.Step.{after, reply_at}
+use Rattle.folder_documents.specs.Named.{Named, named_on}
 use Rattle.open_handles.specs.Opened.{opened_on}
 use Rattle.named_paths.specs.OpenNumbers.{Cover}
 pub use Rattle.named_paths.specs.Seated.{HasOpen, numbered, silent}
@@ -29,6 +31,13 @@ use Rattle.app_trace.specs.Told.{item_told}
 
 -- ---- the lists
 
+-- what the table has of a seat, and what a state has
+abbrev pub namings_on : List (ℕ × Named) → ℕ → Option (List Naming)
+namings_on names seat = option_map (λ n. n.namings) (named_on names seat)
+
+abbrev pub namings_in : State → ℕ → Option (List Naming)
+namings_in s seat = option_map (λ c. c.namings) (connection_of s.connections seat)
+
 -- the lists are those of the state, whose tree tells its files
 pub record Shows (lent : Lent) (s : State) : Type 0 where
   pub documents : s.documents ≡ lent.book.documents.now.live
@@ -38,6 +47,9 @@ pub record Shows (lent : Lent) (s : State) : Type 0 where
   pub handles :
       (seat : ℕ) (c : Connection) → connection_of s.connections seat ≡ Some c →
       HasOpen s seat c (opened_on lent.handles.now.seats seat)
+  -- a seat stands in the table of names exactly where it has a connection, with what that has named
+  pub namings :
+      (seat : ℕ) → namings_on lent.namings.now seat ≡ namings_in s seat
   -- the number of each open handle is kept
   pub covered : Cover lent.numbers.now s.handles
   pub told : s.told ≡ true

@@ -2,6 +2,7 @@
 -- that it changes.
 use Rattle.std.specs.Prelude.{◌≡◌, ℕ, List, [], ◌∷◌, Bool, false, Option, Some, None, cond}
 use Rattle.portal_base.specs.Content.{file_at, file_named}
+use Rattle.portal_base.specs.Names.{named_child}
 use Rattle.portal_base.specs.declared.files.File.{File}
 use Rattle.portal_base.specs.declared.files.FileName.{FileName}
 use Rattle.portal_base.specs.declared.files.Look.{Look}
@@ -13,7 +14,7 @@ use Rattle.portal_model.specs.Open.{truncates}
 use Rattle.portal_model.specs.Place.{Exported, FolderOf, RootOf, Views, Folder, Sight, SightBelow, SightOfFile, SightOfFolder}
 use Rattle.portal_model.specs.SetAttr.{sets_by_handle, sets_size}
 use Rattle.app_world.specs.Effect.{Effect, Bytes}
-use Rattle.app_world.specs.View.{AppView, names}
+use Rattle.app_world.specs.View.{AppView, knows}
 
 -- ---- what a request names
 
@@ -22,25 +23,46 @@ file_open None = None
 file_open (Some (Handle.File name node document strict read write)) = Some name
 file_open (Some (Handle.Folder node names)) = None
 
--- the path of a document's file, where it is seen
+-- the path at which a file may be seen
 abbrev pub path_of_file : Option Sight → Option (List ℕ)
 path_of_file None = None
 path_of_file (Some (SightOfFile d may_write)) = Some d.path
-path_of_file (Some (SightBelow view d path may_write)) = None
+path_of_file (Some (SightBelow view d path may_write)) = Some path
 path_of_file (Some (SightOfFolder f)) = None
 
-abbrev pub path_in_folder : Folder → Option (List ℕ)
-path_in_folder (RootOf view numbers has_views) = None
-path_in_folder (Views applications) = None
-path_in_folder (FolderOf view d may_write) = Some d.path
-path_in_folder (Exported view d path may_write) = None
+-- that of an exported folder or of what lies below one, where it is seen
+abbrev pub path_of_below : Option Sight → Option (List ℕ)
+path_of_below None = None
+path_of_below (Some (SightOfFile d may_write)) = None
+path_of_below (Some (SightBelow view d path may_write)) = Some path
+path_of_below (Some (SightOfFolder (RootOf view numbers has_views))) = None
+path_of_below (Some (SightOfFolder (Views applications))) = None
+path_of_below (Some (SightOfFolder (FolderOf view d may_write))) = None
+path_of_below (Some (SightOfFolder (Exported view d path may_write))) = Some path
 
--- the path of the file in a document's folder, where that is seen
-abbrev pub path_of_folder : Option Sight → Option (List ℕ)
-path_of_folder None = None
-path_of_folder (Some (SightOfFile d may_write)) = None
-path_of_folder (Some (SightBelow view d path may_write)) = None
-path_of_folder (Some (SightOfFolder f)) = path_in_folder f
+abbrev pub path_in_folder : List ℕ → Folder → Option (List ℕ)
+path_in_folder name (RootOf view numbers has_views) = None
+path_in_folder name (Views applications) = None
+path_in_folder name (FolderOf view d may_write) = Some d.path
+path_in_folder name (Exported view d path may_write) = named_child path name
+
+-- the path of the document whose folder is seen
+abbrev pub path_of_own_folder : Option Sight → Option (List ℕ)
+path_of_own_folder None = None
+path_of_own_folder (Some (SightOfFile d may_write)) = None
+path_of_own_folder (Some (SightBelow view d path may_write)) = None
+path_of_own_folder (Some (SightOfFolder (RootOf view numbers has_views))) = None
+path_of_own_folder (Some (SightOfFolder (Views applications))) = None
+path_of_own_folder (Some (SightOfFolder (FolderOf view d may_write))) = Some d.path
+path_of_own_folder (Some (SightOfFolder (Exported view d path may_write))) = None
+
+-- the path of the file that may be made by this name: in a document's folder that of the document,
+-- at an exported folder and below it that of the name
+abbrev pub path_of_folder : List ℕ → Option Sight → Option (List ℕ)
+path_of_folder name None = None
+path_of_folder name (Some (SightOfFile d may_write)) = None
+path_of_folder name (Some (SightBelow view d path may_write)) = named_child path name
+path_of_folder name (Some (SightOfFolder f)) = path_in_folder name f
 
 -- the file at a path, as the first look showed it
 abbrev pub file_shown : List ℕ → List Look → Option FileName
@@ -92,7 +114,7 @@ file_change sight handle looks now (NodeOp.Write fh offset content) =
 file_change sight handle looks now (NodeOp.SetAttr valid fh size) =
     attributes_set valid size sight (handle fh) looks now
 file_change sight handle looks now (NodeOp.Open flags) = opened flags sight looks now
-file_change sight handle looks now (NodeOp.Create name flags) = creates (path_of_folder sight) now
+file_change sight handle looks now (NodeOp.Create name flags) = creates (path_of_folder name sight) now
 file_change sight handle looks now (NodeOp.Lookup name) = FilesStay
 file_change sight handle looks now (NodeOp.Forget count) = FilesStay
 file_change sight handle looks now (NodeOp.BatchForget nodes) = FilesStay
@@ -131,12 +153,12 @@ abbrev pub told_alone : FileName → List File → List Effect
 told_alone name after =
     Bytes name.path name.generation (content_named (file_named after name)) ∷ []
 
--- the file that was changed, as it is afterwards, where the view names its path
+-- the file that was changed, as it is afterwards, where the view tells what is at its path
 abbrev pub told_of_file : AppView → Option FileName → List File → List Effect
 told_of_file v None after = []
-told_of_file v (Some name) after = cond (names v name.path) (told_alone name after) []
+told_of_file v (Some name) after = cond (knows v name.path) (told_alone name after) []
 
--- the view names the path of the file, if any
+-- the view tells what is at the path of the file, if any
 abbrev pub named_by : AppView → Option FileName → Bool
 named_by v None = false
-named_by v (Some name) = names v name.path
+named_by v (Some name) = knows v name.path

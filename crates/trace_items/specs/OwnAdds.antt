@@ -10,12 +10,12 @@ use Rattle.portal_model.specs.declared.request.AddRequest.{AddRequest}
 use Rattle.portal_model.specs.declared.state.Document.{Document}
 use Rattle.portal_model.specs.Add.{first_number, new_document, used_again}
 use Rattle.portal_model.specs.AddArguments.{are_add_arguments, are_presented, document_paths, is_left_out, paths_looked_at}
-use Rattle.portal_model.specs.Content.{Content}
 use Rattle.portal_model.specs.State.{State}
 use Rattle.app_world.specs.Add.{own_again}
 use Rattle.app_world.specs.Effect.{Effect}
 use Rattle.app_world.specs.Grant.{gained_in}
 use Rattle.app_world.specs.TraceItem as item
+use Rattle.app_world.specs.View.{Holding}
 
 -- ---- the call
 
@@ -44,8 +44,9 @@ looked_at queue a handle = paths_looked_at a (presented_by queue a handle)
 abbrev pub reused_here : List Document → AddRequest → List ℕ → List (Option DocId)
 reused_here documents a path = cond (is_left_out a path) [] (used_again documents a path ∷ [])
 
--- the item of an entry that the application makes, with these contents and documents of an Add
-abbrev pub own_told : Entry → List Content → List (Option DocId) → item.TraceItem
+-- the item of an entry that the application makes, with what an Add was shown and the documents
+-- that were there for it
+abbrev pub own_told : Entry → List Holding → List (Option DocId) → item.TraceItem
 own_told e shown reused = item.Own (record {
   seat = e.seat;
   request = e.request;

@@ -29,7 +29,7 @@ use crate::nodes::{file_item, update_of};
 use crate::own::{made_by, own_item};
 use crate::touches::{delete_touch, grant_touch, revoke_touch};
 use app_trace::trace::TraceItem;
-use named_paths::names;
+use named_paths::knows;
 use portal_base::files::FileName;
 use portal_base::list::List;
 use portal_base::memory::WantOfMemory;
@@ -48,8 +48,8 @@ pub enum News {
     Own(TraceItem),
     /// Another makes it: these, where it is done.
     Touches(List<TraceItem>),
-    /// Another makes it, and the view names the file that it changes: that file
-    /// as it then is, where it is done.
+    /// Another makes it, and the view tells what is at the path of the file that it
+    /// changes: that file as it then is, where it is done.
     Changed,
 }
 
@@ -150,13 +150,13 @@ fn changed(
     }
 }
 
-/// Says whether the view of an application names the path of a file, if any.
+/// Says whether the view of an application tells what is at the path of a file, if any.
 fn is_named(lent: &Lent, app: &AppId, name: &Option<FileName>) -> bool
     ensures { (s : State) → Shows lent.now s → Valid s →
         result ≡ named_by (view s app.now) name.now }
 {
     match name {
-        Some(name) => names(
+        Some(name) => knows(
             lent.book.documents,
             lent.book.grants,
             lent.handles,

@@ -5,6 +5,7 @@ ghost use Rattle.portal_model.specs.State.{connection_of as open_connection};
 ghost use Rattle.portal_model.specs.Step.{bus_of as open_bus, mount_of as open_mount};
 
 use app_view::ViewBook;
+use folder_documents::Namings;
 use named_paths::OpenNumbers;
 use open_handles::Handles;
 use portal_base::who::Kind;
@@ -17,12 +18,14 @@ use tree_files::TreeFiles;
 pub struct Lent<'a> {
     /// The documents, the rights in them, and the applications.
     pub book: ViewBook<'a>,
-    /// The open connections, which wait for nothing.
+    /// The open connections, but for what they wait for and what they have named.
     pub connections: &'a [Connection],
     /// What they have open.
     pub handles: &'a Handles,
     /// The numbers of what they have open.
     pub numbers: &'a OpenNumbers,
+    /// What they have named below folders that are documents.
+    pub namings: &'a Namings,
     /// The files.
     pub files: &'a TreeFiles,
 }

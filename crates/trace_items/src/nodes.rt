@@ -9,11 +9,13 @@ ghost use Rattle.open_handles.specs.Opened.{handle_of as handle_in, opened_on};
 ghost use Rattle.portal_base.specs.Content.{file_named as named_in_tree};
 ghost use Rattle.portal_model.specs.Bus.{moment_given};
 ghost use Rattle.portal_model.specs.Open.{truncates as does_truncate};
-ghost use Rattle.portal_model.specs.Place.{Sight, place_of as place_of_node};
+ghost use Rattle.portal_model.specs.Place.{Sight, id_of_node, place_of as place_of_node};
+ghost use Rattle.portal_model.specs.SeatNames.{naming_of};
 ghost use Rattle.portal_model.specs.SetAttr.{sets_by_handle as is_by_handle, sets_size as is_of_size};
 ghost use Rattle.portal_model.specs.State.{State};
-ghost use Rattle.trace_items.specs.Awaited.{change_of};
-ghost use Rattle.trace_items.specs.FilesChanged.{attributes_set as file_set, content_named as content_of_name, creates, file_change, file_open as open_file, file_shown_at, opened as file_opened, path_of_file, path_of_folder, resizes, told_alone, written as file_written};
+ghost use Rattle.std.specs.Prelude.{List as Items};
+ghost use Rattle.trace_items.specs.Awaited.{change_of, namings_on};
+ghost use Rattle.trace_items.specs.FilesChanged.{attributes_set as file_set, content_named as content_of_name, creates, file_change, file_open as open_file, file_shown_at, opened as file_opened, path_of_below, path_of_file, path_of_folder, path_of_own_folder, resizes, told_alone, written as file_written};
 ghost use Rattle.app_trace.specs.Told.{content_told, item_told};
 
 use crate::changes::FileUpdate;
@@ -21,14 +23,16 @@ use crate::lent::Lent;
 use app_trace::contents::file_content;
 use app_trace::trace::TraceItem;
 use app_trace::view::Content;
-use app_view::{ViewBook, place_of, seen_document};
+use app_view::{ViewBook, id_of, place_of, seen_document, seen_naming};
 use document_records::Document;
+use folder_documents::child_path;
 use portal_base::files::{FileName, Look};
 use portal_base::memory::{Replica, WantOfMemory};
 use portal_base::names::HostPath;
 use portal_base::who::Who;
 use portal_model::entry::Given;
 use portal_model::handle::Handle;
+use portal_model::naming::Naming as NamedPath;
 use portal_model::place::Place;
 use portal_model::request::{NodeOp, NodeRequest};
 use portal_model::state::Connection;
@@ -51,14 +55,17 @@ pub fn update_of<'a>(
     request: &'a NodeRequest,
     given: &Given,
 ) -> Result<FileUpdate<'a>, WantOfMemory>
-    ensures { IfOk result (λ update. (s : State) (naming : Option Naming) →
-        Lends lent.now.book s → change_of update
-        ≡ file_change (place_of_node s connection.now.who naming request.now.node)
+    ensures { IfOk result (λ update. (s : State) (has : Items Naming) →
+        Lends lent.now.book s → namings_on lent.now.namings.now connection.now.seat ≡ Some has →
+        change_of update
+        ≡ file_change (place_of_node s connection.now.who
+        (naming_of has (id_of_node request.now.node)) request.now.node)
         (handle_in (opened_on lent.now.handles.now.seats connection.now.seat))
         given.entry.now.looks (moment_given given.entry.now.now) request.now.op) }
 {
     let now = given.now.unwrap_or(0);
     let looks = given.looks.as_slice();
+    let naming = lent.namings.get(connection.seat, id_of(request.node));
     match &request.op {
         NodeOp::Write {
             fh,
@@ -70,47 +77,96 @@ pub fn update_of<'a>(
         }
         NodeOp::SetAttr { valid, fh, size } => {
             let handle = lent.handles.get(connection.seat, *fh);
-            let seen = file_seen(&lent.book, &connection.who, request.node);
+            let seen = file_seen(&lent.book, &connection.who, request.node, naming);
             attributes_set(alloc, *valid, *size, seen, handle, looks, now)
         }
         NodeOp::Open { flags } => {
-            let seen = file_seen(&lent.book, &connection.who, request.node);
+            let seen = file_seen(&lent.book, &connection.who, request.node, naming);
             opened(alloc, *flags, seen, looks, now)
         }
-        NodeOp::Create { .. } => {
-            let seen = folder_seen(&lent.book, &connection.who, request.node);
-            created(alloc, seen, now)
+        NodeOp::Create { name, .. } => {
+            let (book, who) = (&lent.book, &connection.who);
+            let path = path_made(alloc, book, who, request.node, naming, name.as_slice())?;
+            Ok(created(path, now))
         }
         _ => Ok(FileUpdate::Stay),
     }
 }
 
-/// The path of the document's file that a caller sees at a node.
-fn file_seen<'a>(book: &ViewBook<'a>, who: &Who, node: u64) -> Option<&'a HostPath>
-    ensures { (s : State) (naming : Option Naming) → Lends book.now s →
-        option_copied result ≡ path_of_file (place_of_node s who.now naming node) }
+/// The path at which a caller may see a file at a node, of which the connection that
+/// asks has named this.
+fn file_seen<'a>(
+    book: &ViewBook<'a>,
+    who: &Who,
+    node: u64,
+    naming: Option<&'a NamedPath>,
+) -> Option<&'a HostPath>
+    ensures { (s : State) → Lends book.now s → option_copied result
+        ≡ path_of_file (place_of_node s who.now (option_copied naming.entry) node) }
 {
     match place_of(node)? {
-        Place::File { view, id } => file_path(seen_document(book, who, view, id)?.document),
-        Place::Root { .. } | Place::ByApp | Place::Folder { .. } | Place::Named { .. } => None,
+        Place::File { view, id } => Some(&seen_document(book, who, view, id)?.document.path),
+        Place::Named { view, .. } => Some(seen_naming(book, who, view, naming)?.path),
+        Place::Root { .. } | Place::ByApp | Place::Folder { .. } => None,
     }
 }
 
-/// The path of a document's file; a document that is a folder has none.
-fn file_path(document: &Document) -> Option<&HostPath>
-    ensures { option_copied result ≡ cond document.now.folder None (Some document.now.path) }
+/// The path of a folder that is a document, or of what lies below one, which a caller
+/// sees at a node.
+fn below_seen<'a>(
+    book: &ViewBook<'a>,
+    who: &Who,
+    node: u64,
+    naming: Option<&'a NamedPath>,
+) -> Option<&'a HostPath>
+    ensures { (s : State) → Lends book.now s → option_copied result
+        ≡ path_of_below (place_of_node s who.now (option_copied naming.entry) node) }
+{
+    match place_of(node)? {
+        Place::File { view, id } => folder_path(seen_document(book, who, view, id)?.document),
+        Place::Named { view, .. } => Some(seen_naming(book, who, view, naming)?.path),
+        Place::Root { .. } | Place::ByApp | Place::Folder { .. } => None,
+    }
+}
+
+/// The path of a document that is a folder.
+fn folder_path(document: &Document) -> Option<&HostPath>
+    ensures { option_copied result ≡ cond document.now.folder (Some document.now.path) None }
 {
     if document.folder {
-        None
-    } else {
         Some(&document.path)
+    } else {
+        None
     }
 }
 
-/// The path of the file in the document's folder that a caller sees at a node.
+/// The path of the file that may be made by a name in the folder that a caller sees at
+/// a node.
+fn path_made(
+    alloc: Global,
+    book: &ViewBook,
+    who: &Who,
+    node: u64,
+    naming: Option<&NamedPath>,
+    name: &[u8],
+) -> Result<Option<HostPath>, WantOfMemory>
+    ensures { IfOk result (λ path. (s : State) → Lends book.now s → path
+        ≡ path_of_folder name.now
+        (place_of_node s who.now (option_copied naming.entry) node)) }
+{
+    if let Some(path) = folder_seen(book, who, node) {
+        return Ok(Some(path.replica(alloc)?));
+    }
+    match below_seen(book, who, node, naming) {
+        Some(folder) => child_path(alloc, folder, name),
+        None => Ok(None),
+    }
+}
+
+/// The path of the document whose folder a caller sees at a node.
 fn folder_seen<'a>(book: &ViewBook<'a>, who: &Who, node: u64) -> Option<&'a HostPath>
     ensures { (s : State) (naming : Option Naming) → Lends book.now s →
-        option_copied result ≡ path_of_folder (place_of_node s who.now naming node) }
+        option_copied result ≡ path_of_own_folder (place_of_node s who.now naming node) }
 {
     match place_of(node)? {
         Place::Folder { view, id } => Some(&seen_document(book, who, view, id)?.document.path),
@@ -243,20 +299,13 @@ fn truncates(flags: u32) -> bool
     flags / O_TRUNC % 2 == 1
 }
 
-/// A CREATE in the folder that is seen.
-fn created(
-    alloc: Global,
-    seen: Option<&HostPath>,
-    now: u64,
-) -> Result<FileUpdate<'static>, WantOfMemory>
-    ensures { IfOk result (λ update. change_of update ≡ creates (option_copied seen.entry) now) }
+/// A CREATE of a file at a path, if any.
+fn created(path: Option<HostPath>, now: u64) -> FileUpdate<'static>
+    ensures { change_of result ≡ creates path now }
 {
-    match seen {
-        Some(path) => Ok(FileUpdate::Create {
-            path: path.replica(alloc)?,
-            now,
-        }),
-        None => Ok(FileUpdate::Stay),
+    match path {
+        Some(path) => FileUpdate::Create { path, now },
+        None => FileUpdate::Stay,
     }
 }
 

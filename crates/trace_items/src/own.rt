@@ -1,25 +1,24 @@
 //! The entries that an application makes, as its trace tells them.
 
 ghost use Rattle.std.specs.Prelude.{◌≡◌, [], cond, false, map, option_copied, option_map, take, IfOk};
-ghost use Rattle.app_world.specs.Add.{asked as looks_asked, reused_by, reused_of as reused_of_files, shown_to};
+ghost use Rattle.app_world.specs.Add.{asked as looks_asked, reused_by, reused_of as reused_of_files, shown_at_path, shown_by_content, shown_to};
 ghost use Rattle.app_world.specs.TraceItem as item;
 ghost use Rattle.app_world.specs.World.{own_of};
 ghost use Rattle.portal_model.specs.declared.state.Connection.{Connection as Open};
-ghost use Rattle.portal_model.specs.AddArguments.{document_paths, paths_shown as paths_of_call, reuses};
-ghost use Rattle.portal_model.specs.Content.{content_at as content_of_tree};
+ghost use Rattle.portal_model.specs.AddArguments.{document_paths, exports as does_export, paths_shown as paths_of_call, reuses};
 ghost use Rattle.portal_model.specs.History.{made_by};
 ghost use Rattle.portal_model.specs.Lawful.{Lawful};
 ghost use Rattle.portal_model.specs.State.{State, connection_of, is_app};
 ghost use Rattle.trace_items.specs.Awaited.{Shows, silent};
 ghost use Rattle.trace_items.specs.OwnAdds.{IsPlanned, is_in_order, own_told};
-ghost use Rattle.app_trace.specs.Told.{content_told, item_told};
+ghost use Rattle.app_trace.specs.Told.{content_told, holding_told, item_told};
 
 use crate::adds::{paths_shown, planned, reused_of};
 use crate::lent::{Lent, bus_of};
-use add_files::AddPlan;
-use app_trace::contents::content_at;
+use add_files::{AddPlan, exports};
+use app_trace::contents::{content_at, files_below};
 use app_trace::trace::TraceItem;
-use app_trace::view::Content;
+use app_trace::view::{Content, Holding};
 use named_paths::is_app;
 use portal_base::list::List;
 use portal_base::memory::{Replica, WantOfMemory};
@@ -100,7 +99,7 @@ fn own_planned(
 ) -> Result<TraceItem, WantOfMemory>
     requires { IsPlanned queue.now add.now plan.now }
     ensures { IfOk result (λ item. item_told item ≡ own_told entry.now
-        (map (content_of_tree lent.now.files.now)
+        (map (shown_at_path lent.now.files.now (does_export add.now))
         (take (looks_asked entry.now.given) (paths_of_call queue.now add.now)))
         (cond (reuses add.now)
         (reused_of_files lent.now.book.documents.now.live add.now
@@ -121,7 +120,7 @@ fn asked(given: &Given) -> usize
     looks.len() + usize::from(failed)
 }
 
-/// What is at the paths that the tree was asked for, so many.
+/// What there is at the paths that the tree was asked for, so many.
 fn shown(
     alloc: Global,
     files: &TreeFiles,
@@ -129,13 +128,14 @@ fn shown(
     add: &AddRequest,
     plan: &AddPlan,
     asked: usize,
-) -> Result<List<Content>, WantOfMemory>
+) -> Result<List<Holding>, WantOfMemory>
     requires { IsPlanned queue.now add.now plan.now }
-    ensures { IfOk result (λ shown. map content_told shown ≡ map (content_of_tree files.now)
+    ensures { IfOk result (λ shown. map holding_told shown
+        ≡ map (shown_at_path files.now (does_export add.now))
         (take asked (paths_of_call queue.now add.now))) }
 {
     let paths = paths_shown(alloc, queue, add, plan.items.as_slice())?;
-    let shown = contents(alloc, files, first(paths.as_slice(), asked));
+    let shown = holdings(alloc, files, first(paths.as_slice(), asked), exports(add));
     drop(paths);
     shown
 }
@@ -147,33 +147,67 @@ fn first(paths: &[HostPath], count: usize) -> &[HostPath]
     paths.split_at(count.min(paths.len())).0
 }
 
-/// What is at paths.
-fn contents(
+/// What there is at paths, where a call exports folders or doesn't.
+fn holdings(
     alloc: Global,
     files: &TreeFiles,
     paths: &[HostPath],
-) -> Result<List<Content>, WantOfMemory>
-    ensures { IfOk result (λ contents. map content_told contents
-        ≡ map (content_of_tree files.now) paths.now) }
+    exported: bool,
+) -> Result<List<Holding>, WantOfMemory>
+    ensures { IfOk result (λ shown. map holding_told shown
+        ≡ map (shown_at_path files.now exported) paths.now) }
 {
-    let mut contents = List::new(alloc);
+    let mut shown = List::new(alloc);
     for path in paths {
-        contents.push(content_at(alloc, files, path)?)?;
+        shown.push(holding(alloc, files, path, exported)?)?;
     }
-    Ok(contents)
+    Ok(shown)
 }
 
-/// The item of an entry. Of an Add, `shown` is what is at each path that the tree
+/// What is at a path, and of a folder that is exported all that is at or below it.
+fn holding(
+    alloc: Global,
+    files: &TreeFiles,
+    path: &HostPath,
+    exported: bool,
+) -> Result<Holding, WantOfMemory>
+    ensures { IfOk result
+        (λ shown. holding_told shown ≡ shown_at_path files.now exported path.now) }
+{
+    let content = content_at(alloc, files, path)?;
+    holding_with(alloc, files, path, exported, content)
+}
+
+/// The same where this is what is at the path.
+fn holding_with(
+    alloc: Global,
+    files: &TreeFiles,
+    path: &HostPath,
+    exported: bool,
+    content: Content,
+) -> Result<Holding, WantOfMemory>
+    ensures { IfOk result (λ shown. holding_told shown
+        ≡ shown_by_content files.now path.now exported (content_told content)) }
+{
+    match content {
+        Content::Folder if exported => Ok(Holding::Below {
+            files: files_below(alloc, files, path)?,
+        }),
+        content => Ok(Holding::Alone { content }),
+    }
+}
+
+/// The item of an entry. Of an Add, `shown` is what there is at each path that the tree
 /// was asked for, and `reused` the document that was there for each file; of any
 /// other request they are empty.
 fn item_with(
     alloc: Global,
     entry: &Entry,
-    shown: List<Content>,
+    shown: List<Holding>,
     reused: List<Option<DocId>>,
 ) -> Result<TraceItem, WantOfMemory>
     ensures { IfOk result
-        (λ item. item_told item ≡ own_told entry.now (map content_told shown) reused) }
+        (λ item. item_told item ≡ own_told entry.now (map holding_told shown) reused) }
 {
     let numbers = List::copied(alloc, entry.given.numbers.as_slice())?;
     let looks = entry.given.looks.len() as u64;

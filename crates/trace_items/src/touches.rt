@@ -9,7 +9,7 @@ ghost use Rattle.portal_model.specs.Arguments.{document_named};
 ghost use Rattle.rights_rule.specs.Rights.{is_listed, no_rights, rights_named};
 ghost use Rattle.trace_items.specs.Touches.{shown_in, told_if};
 
-use app_trace::contents::content_at;
+use app_trace::contents::holding_of;
 use app_trace::trace::TraceItem;
 use document_records::{Documents, Grants};
 use portal_base::list::List;
@@ -59,13 +59,13 @@ pub fn gained(
     if more.is_empty() {
         return Ok(None);
     }
-    // What is at the path is told with the rights, since the view may not have held the document.
-    let content = content_at(alloc, files, &document.path)?;
+    // What there is for it is told with the rights, since the view may not have held the document.
+    let holding = holding_of(alloc, files, document)?;
     let document = document.replica(alloc)?;
     Ok(Some(TraceItem::Gained {
         document,
         rights: more,
-        content,
+        holding,
     }))
 }
 

@@ -1,8 +1,9 @@
--- Whether a file lies below a path is seen at the first file behind it.
-use Rattle.std.proofs.Common.{◌≡◌, ℕ, List, [], ◌∷◌, Bool, true, false, ◌&&◌, ◌||◌, cond, refl, sym, ◌∙◌}
+-- Whether a file lies below a path is seen at the first file behind it; and the files at a path and below it.
+use Rattle.std.proofs.Common.{◌≡◌, ℕ, List, [], ◌∷◌, ◌++◌, append_assoc, Bool, true, false, ◌&&◌, ◌||◌, cond, refl, sym, ap, ◌∙◌}
+use Rattle.std.proofs.lemmas.List.{append-nil}
 use mathlib.Core.Bool.{true≢false}
 use Rattle.std.specs.BTreeMap.Range.{entries_between}
-use Rattle.std.specs.List.{list_any, AllByRecursion}
+use Rattle.std.specs.List.{filter, list_any, AllByRecursion}
 use Rattle.std.specs.List.Sorted.{IsStrictlySortedBy}
 use Rattle.std.specs.Map.{keys_of}
 use Rattle.std.specs.Ordering.{is_lt}
@@ -10,10 +11,10 @@ use Rattle.std.specs.declared.cmp.Ordering.{Ordering}
 use Rattle.std.specs.declared.cmp.Ordering.TheVariants.{Less, Equal, Greater}
 use Rattle.std.specs.declared.ops.Bound.TheVariants.{Excluded, Unbounded}
 use Rattle.portal_base.specs.PathOrder.{path_order}
-use Rattle.portal_base.specs.Content.{is_above}
+use Rattle.portal_base.specs.Content.{is_above, paths_of}
 use Rattle.portal_base.specs.declared.files.File.{File}
 use Rattle.host_tree.proofs.PathsBelow.{below-is-behind, between-is-below}
-use Rattle.tree_files.specs.Kept.{files_of}
+use Rattle.tree_files.specs.Kept.{file_of, files_of, stands_in}
 use Rattle.tree_files.specs.declared.kept.KeptFile.{KeptFile}
 
 abbrev pub below-first : List ℕ → List (List ℕ × KeptFile) → Bool
@@ -60,3 +61,39 @@ seen-at-first p (e ∷ es) s =
     step Greater d true h more =
         absurd (is-not-less Greater refl (sym d ∙ below-is-behind p e.0 h))
     step Greater d false h more = more
+
+-- ---- one file after another
+
+pub one-more-in : (folder : List ℕ) (e : List ℕ × KeptFile) (left rest : List (List ℕ × KeptFile)) (files more all : List File) → left ≡ e ∷ rest →
+    more ≡ files ++ cond (stands_in folder (file_of e)) (file_of e ∷ []) [] → files ++ filter (stands_in folder) (files_of left) ≡ all → more ++ filter (stands_in folder) (files_of rest) ≡ all
+one-more-in folder e left rest files more all steps m invariant =
+    ap (λ (fs : List File). fs ++ filter (stands_in folder) (files_of rest)) m
+    ∙ (by_place (stands_in folder (file_of e))
+    ∙ (ap (λ (es : List (List ℕ × KeptFile)). files ++ filter (stands_in folder) (files_of es)) (sym steps) ∙ invariant))
+  where
+    by_place : (b : Bool) → (files ++ cond b (file_of e ∷ []) []) ++ filter (stands_in folder) (files_of rest) ≡ files ++ cond b (file_of e ∷ filter (stands_in folder) (files_of rest)) (filter (stands_in folder) (files_of rest))
+    by_place true = append_assoc files (file_of e ∷ []) (filter (stands_in folder) (files_of rest))
+    by_place false = append_assoc files [] (filter (stands_in folder) (files_of rest))
+
+pub none-left : (folder : List ℕ) (left : List (List ℕ × KeptFile)) (files all : List File) → left ≡ [] → files ++ filter (stands_in folder) (files_of left) ≡ all → files ≡ all
+none-left folder left files all e invariant =
+    sym (append-nil files) ∙ (ap (λ (es : List (List ℕ × KeptFile)). files ++ filter (stands_in folder) (files_of es)) (sym e) ∙ invariant)
+
+-- ---- they stand in their order
+
+ahead-kept : (folder p : List ℕ) (es : List (List ℕ × KeptFile)) → AllByRecursion (λ q. path_order p q ≡ Less) (keys_of es) → AllByRecursion (λ q. path_order p q ≡ Less) (paths_of (filter (stands_in folder) (files_of es)))
+ahead-kept folder p [] h = tt
+ahead-kept folder p (e ∷ es) h = by_place (stands_in folder (file_of e)) (ahead-kept folder p es h.1)
+  where
+    by_place : (b : Bool) → AllByRecursion (λ q. path_order p q ≡ Less) (paths_of (filter (stands_in folder) (files_of es))) → AllByRecursion (λ q. path_order p q ≡ Less) (paths_of (cond b (file_of e ∷ filter (stands_in folder) (files_of es)) (filter (stands_in folder) (files_of es))))
+    by_place true k = (h.0, k)
+    by_place false k = k
+
+pub sorted-in : (folder : List ℕ) (es : List (List ℕ × KeptFile)) → IsStrictlySortedBy path_order (keys_of es) → IsStrictlySortedBy path_order (paths_of (filter (stands_in folder) (files_of es)))
+unfolding IsStrictlySortedBy
+sorted-in folder [] h = tt
+sorted-in folder (e ∷ es) h = by_place (stands_in folder (file_of e)) (sorted-in folder es h.1)
+  where
+    by_place : (b : Bool) → IsStrictlySortedBy path_order (paths_of (filter (stands_in folder) (files_of es))) → IsStrictlySortedBy path_order (paths_of (cond b (file_of e ∷ filter (stands_in folder) (files_of es)) (filter (stands_in folder) (files_of es))))
+    by_place true s = (ahead-kept folder e.0 es h.0, s)
+    by_place false s = s

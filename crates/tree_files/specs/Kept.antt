@@ -1,5 +1,7 @@
 -- The files of a map by path.
-use Rattle.std.specs.Prelude.{ℕ, List, [], ◌∷◌, map}
+use Rattle.std.specs.Prelude.{ℕ, List, [], ◌∷◌, map, Bool, ◌||◌}
+use Rattle.portal_base.specs.Content.{is_above}
+use Rattle.portal_base.specs.Names.{is_same}
 use Rattle.portal_base.specs.declared.files.File.{File}
 use Rattle.portal_base.specs.FileChanges.{cut_to, overlaid}
 use Rattle.tree_files.specs.declared.kept.KeptFile.{KeptFile}
@@ -13,6 +15,9 @@ file_of e = file_kept e.0 e.1
 
 abbrev pub files_of : List (List ℕ × KeptFile) → List File
 files_of entries = map file_of entries
+
+abbrev pub stands_in : List ℕ → File → Bool
+stands_in folder f = is_same f.path folder || is_above folder f.path
 
 -- a write of no bytes changes nothing, the moment neither
 abbrev pub kept_written : ℕ → List ℕ → ℕ → KeptFile → KeptFile

@@ -1,13 +1,15 @@
 //! The files of a tree, by path.
 
-ghost use Rattle.std.specs.Prelude.{◌≡◌, [], None, OnErr, OnOk, option_copied, option_map};
-ghost use Rattle.std.specs.List.{list_any};
-ghost use Rattle.portal_base.specs.Content.{file_at, file_named, is_above, is_folder};
+ghost use Rattle.std.specs.Prelude.{◌≡◌, ◌∷◌, ◌++◌, [], None, IfOk, OnErr, OnOk, cond, option_copied, option_map};
+ghost use Rattle.std.specs.List.{filter, list_any};
+ghost use Rattle.std.specs.List.Sorted.{IsStrictlySortedBy};
+ghost use Rattle.portal_base.specs.PathOrder.{path_order};
+ghost use Rattle.portal_base.specs.Content.{file_at, file_named, is_above, is_folder, paths_of};
 ghost use Rattle.portal_base.specs.FileChanges.{change_named, file_with, new_file, put_file, resized, written};
-ghost use Rattle.tree_files.specs.Kept.{file_kept};
+ghost use Rattle.tree_files.specs.Kept.{file_kept, stands_in};
 
 use crate::kept::KeptFile;
-use portal_base::files::FileName;
+use portal_base::files::{File, FileName};
 use portal_base::list::{ByteList, List};
 use portal_base::memory::{Replica, WantOfMemory};
 use portal_base::names::HostPath;
@@ -84,6 +86,15 @@ impl TreeFiles {
         }
     }
 
+    /// The files at a path and below it, in the order of paths. Of n files it takes
+    /// about n steps.
+    pub fn in_folder(&self, alloc: Global, path: &HostPath) -> Result<List<File>, WantOfMemory>
+        ensures files { IfOk result (λ files. files ≡ filter (stands_in path.now) self.now) }
+        ensures order { IfOk result (λ files. IsStrictlySortedBy path_order (paths_of files)) }
+    {
+        files_in(alloc, &self.map, path)
+    }
+
     /// Adds a file, where its path has none.
     pub fn add(&mut self, path: HostPath, bytes: ByteList, moment: u64) -> Result<(), WantOfMemory>
         requires { file_at self.old path ≡ None }
@@ -130,6 +141,53 @@ impl TreeFiles {
 }
 
 ghost use Rattle.tree_files.specs.Kept.{files_of};
+
+/// The files of a map at a path and below it.
+fn files_in(
+    alloc: Global,
+    map: &BTreeMap<HostPath, KeptFile>,
+    folder: &HostPath,
+) -> Result<List<File>, WantOfMemory>
+    ensures files { IfOk result
+        (λ files. files ≡ filter (stands_in folder.now) (files_of map.now.entries)) }
+    ensures order { IfOk result (λ files. IsStrictlySortedBy path_order (paths_of files)) }
+{
+    let mut files = List::new(alloc);
+    for (path, kept) in map.iter() {
+        push_in(alloc, &mut files, folder, path, kept)?;
+    }
+    Ok(files)
+}
+
+/// Adds a file that stands at a path or below it.
+fn push_in(
+    alloc: Global,
+    files: &mut List<File>,
+    folder: &HostPath,
+    path: &HostPath,
+    kept: &KeptFile,
+) -> Result<(), WantOfMemory>
+    ensures { OnOk result (files.new ≡ files.old
+        ++ cond (stands_in folder.now (file_kept path.now kept.now))
+        (file_kept path.now kept.now ∷ []) []) }
+{
+    if *path == *folder || lies_above(folder.as_bytes(), path.as_bytes()) {
+        return files.push(kept_file(alloc, path, kept)?);
+    }
+    Ok(())
+}
+
+/// A file of which this is kept.
+fn kept_file(alloc: Global, path: &HostPath, kept: &KeptFile) -> Result<File, WantOfMemory>
+    ensures { IfOk result (λ file. file ≡ file_kept path.now kept.now) }
+{
+    Ok(File {
+        path: path.replica(alloc)?,
+        generation: 0,
+        bytes: kept.bytes.replica(alloc)?,
+        moment: kept.moment,
+    })
+}
 
 /// Writes over the bytes of a file in a map by path.
 fn write_in(

@@ -2,8 +2,8 @@
 //!
 //! **It promises** that [`TreeFiles`] is the list of its files after every call, in
 //! the order of their paths, and that what it finds is what the list has: a file by
-//! its path or its name, and whether a path is a folder. Of n files each call takes
-//! about log n steps, beside the bytes that it writes. Only want of memory is
+//! its path or its name, whether a path is a folder, and the files in one. Of n files
+//! each other call takes about log n steps, beside the bytes that it writes. Only want of memory is
 //! another answer, and changes nothing.
 //!
 //! | Room | Holds |

@@ -1,6 +1,7 @@
-use Rattle.std.proofs.Common.{length, refl, sym}
+use Rattle.std.proofs.Common.{length, map, refl, sym, ap, ◌∙◌}
 use Rattle.add_calls.proofs.PlacingLemmas.{drew-none}
 use Rattle.add_calls.specs.Placing.{book_of}
+use Rattle.add_files.specs.declared.plan.PlanItem.{PlanItem}
 use Rattle.add_serving.proofs.AddSteps.{full-follow, kinds-follow, placed-follow, unseen-follows}
 use Rattle.add_serving.proofs.Bounded.{looks-few, was-asked, was-asked-none, words-few}
 use Rattle.add_serving.specs.Adds.{most_looks, most_words}
@@ -14,18 +15,18 @@ returns-then-shown-clause-ok g c =
 pub returns-then-not-are_of_kind-clause-ok : goal.returns-then-not-are_of_kind-clause-ok
 returns-then-not-are_of_kind-clause-ok g c =
     kinds-follow c.args.add.now c.args.who.now c.args.paths.now (book_of c.args.documents.now c.args.grants.now c.args.applications.now) (g.T.HostTree.is c.args.tree.now).told c.args.plan.now c.requires.plan
-    c.in-Ok.shown.looks c.in-Ok.shown.failed c.in-Ok.ensures.shows (g.K.Keeper.is c.args.keeper.now) c.refused.result c.as_slice.result.now c.if-shown.false c.as_slice.ensures (sym c.if-not-are_of_kind.ensures) c.refused.ensures
+    c.in-Ok.shown.looks c.in-Ok.shown.failed c.in-Ok.ensures.shows (g.K.Keeper.is c.args.keeper.now) c.refused.result c.as_slice-2.result.now (map (λ (item : PlanItem). item.path) c.as_slice.result.now) c.if-shown.false c.as_slice-2.ensures (ap (map (λ (item : PlanItem). item.path)) c.as_slice.ensures ∙ c.requires.planned) (sym c.if-not-are_of_kind.ensures) c.refused.ensures
 
 pub returns-then-exceeds-clause-ok : goal.returns-then-exceeds-clause-ok
 returns-then-exceeds-clause-ok g c =
     full-follow c.args.add.now c.args.who.now c.args.paths.now (book_of c.args.documents.now c.args.grants.now c.args.applications.now) (g.T.HostTree.is c.args.tree.now).told c.args.plan.now c.requires.plan
-    c.in-Ok.shown.looks c.in-Ok.shown.failed c.in-Ok.ensures.shows (g.K.Keeper.is c.args.keeper.now) c.full.result c.as_slice.result.now c.if-shown.false c.as_slice.ensures (sym c.if-not-are_of_kind.ensures) c.requires.call (sym c.if-exceeds.ensures) c.full.ensures
+    c.in-Ok.shown.looks c.in-Ok.shown.failed c.in-Ok.ensures.shows (g.K.Keeper.is c.args.keeper.now) c.full.result c.as_slice-2.result.now (map (λ (item : PlanItem). item.path) c.as_slice.result.now) c.if-shown.false c.as_slice-2.ensures (ap (map (λ (item : PlanItem). item.path)) c.as_slice.ensures ∙ c.requires.planned) (sym c.if-not-are_of_kind.ensures) c.requires.call (sym c.if-exceeds.ensures) c.full.ensures
 
 pub returns-in-Ok-place_kept-clause-ok : goal.returns-in-Ok-place_kept-clause-ok
 returns-in-Ok-place_kept-clause-ok g c =
     placed-follow c.args.add.now c.args.who.now c.args.paths.now (book_of c.args.documents.now c.args.grants.now c.args.applications.now) (g.T.HostTree.is c.args.tree.now).told c.args.plan.now c.requires.plan
     c.in-Ok.shown.looks c.in-Ok.shown.failed c.in-Ok.ensures.shows (g.W.Words.told c.args.words.now) (g.W.Words.told c.place_kept.new.words) (book_of c.place_kept.new.documents c.place_kept.new.grants c.place_kept.new.applications)
-    (g.K.Keeper.is c.args.keeper.now) (g.K.Keeper.is c.place_kept.new.keeper) c.in-Ok-place_kept.added c.placed.result c.as_slice.result.now c.if-shown.false c.as_slice.ensures (sym c.if-not-are_of_kind.ensures) c.requires.call
+    (g.K.Keeper.is c.args.keeper.now) (g.K.Keeper.is c.place_kept.new.keeper) c.in-Ok-place_kept.added c.placed.result c.as_slice-2.result.now (map (λ (item : PlanItem). item.path) c.as_slice.result.now) c.if-shown.false c.as_slice-2.ensures (ap (map (λ (item : PlanItem). item.path)) c.as_slice.ensures ∙ c.requires.planned) (sym c.if-not-are_of_kind.ensures) c.requires.call
     (sym c.if-exceeds.ensures) c.in-Ok-place_kept.ensures.ok c.placed.ensures
 
 -- ---- want of memory

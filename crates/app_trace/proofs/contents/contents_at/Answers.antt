@@ -10,6 +10,6 @@ loop-index-preserved c =
     let files = c.args.files.now in
     let path = c.index-paths-index.result in
     let again = c.comes_again-again.ensures ∙ ap (comes_again path) c.next_of.ensures in
-    once-more files (map path_told c.loop-index.contents) (map path_told c.push_content.new.contents) c.args.paths.now c.loop-index.index path c.loop-index-test.true c.index-paths-index.is
+    once-more (path_content files) (map path_told c.loop-index.contents) (map path_told c.push_content.new.contents) c.args.paths.now c.loop-index.index path c.loop-index-test.true c.index-paths-index.is
     (c.in_ok-push_content.ensures ∙ ap (λ (b : Bool). map path_told c.loop-index.contents ++ cond b [] (path_content files path ∷ [])) again)
     c.loop-index.invariant

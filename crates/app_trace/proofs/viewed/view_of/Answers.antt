@@ -1,14 +1,15 @@
-use Rattle.std.proofs.Common.{ℕ, List, ap, map, nat_eq, subst, ◌∙◌}
+use Rattle.std.proofs.Common.{ℕ, List, true, false, ap, map, nat_eq, subst, ◌∙◌}
 use Rattle.std.specs.List.{IsDistinct}
-use Rattle.app_world.specs.View.{ahead, contents_at, held_documents}
+use Rattle.app_world.specs.View.{ahead, below_ahead, below_at, contents_at, held_documents}
 use Rattle.portal_model.specs.declared.opening.OpeningDocument.{OpeningDocument}
 use Rattle.portal_model.specs.declared.state.Triple.{Triple}
 use Rattle.portal_model.specs.Opening.{document_kept, file_of, opened, rights_kept}
 use Rattle.portal_model.specs.Ordered.{put_all}
 use Rattle.portal_model.specs.State.{held_of}
 use Rattle.app_trace.specs.declared.view.HeldDocument.{HeldDocument}
-use Rattle.app_trace.specs.Contents.{path_held}
+use Rattle.app_trace.specs.Contents.{paths_held}
 use Rattle.document_records.proofs.ValidNames.{rights_named}
+use Rattle.app_trace.proofs.FilesInOrder.{below-alike}
 use Rattle.app_trace.proofs.FilesPlaced.{contents-alike}
 use Rattle.app_trace.proofs.ViewedParts.{numbers_kept, viewed}
 use Rattle.app_trace.proofs.viewed.view_of.Goals as goal
@@ -31,6 +32,10 @@ returns c =
     let shown = contents-alike c.in_ok-files.files (map file_of o.files) c.in_ok-files.ensures.shown in
     let contents =
     c.in_ok-contents.ensures
-    ∙ (ap (put_all ahead) (shown (map path_held c.as_slice.result.now))
-    ∙ ap (λ (held : List HeldDocument). contents_at (map file_of o.files) (map path_held held)) c.as_slice.ensures) in
-    viewed o app c.in_ok-documents.documents c.new.result c.in_ok-contents.contents documents c.new.ensures contents
+    ∙ (ap (put_all ahead) (shown (paths_held false c.as_slice.result.now))
+    ∙ ap (λ (held : List HeldDocument). contents_at (map file_of o.files) (paths_held false held)) c.as_slice.ensures) in
+    let below =
+    c.in_ok-below.ensures
+    ∙ (ap (put_all below_ahead) (below-alike c.in_ok-files.files (map file_of o.files) c.in_ok-files.ensures.shown (paths_held true c.as_slice-2.result.now))
+    ∙ ap (λ (held : List HeldDocument). below_at (map file_of o.files) (paths_held true held)) c.as_slice-2.ensures) in
+    viewed o app c.in_ok-documents.documents c.new.result c.in_ok-contents.contents c.in_ok-below.below documents c.new.ensures contents below

@@ -12,7 +12,7 @@ invariant_of-result g c =
     let lists = c.args.lists in
     let are = c.requires.lists in
     rw (c.new-2.ensures, c.new-history.ensures.entries) (
-      stands_first tree.began lists.opening lists.documents lists.rights lists.applications are.documents are.rights are.applications c.new-history.result.limit c.new-handles.result c.new-3.result tree.told c.requires.valid c.known.ensures.began
+      stands_first tree.began lists.opening lists.documents lists.rights lists.applications are.documents are.rights are.applications c.new-history.result.limit c.new-handles.result c.new-3.result tree.told c.requires.valid
           c.new-history.ensures.limit c.new-handles.ensures.limit c.new-handles.ensures.seats c.new-3.ensures c.requires.told,
       omega arith,
       c.requires.kept,

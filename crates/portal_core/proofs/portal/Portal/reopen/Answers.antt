@@ -15,7 +15,7 @@ pub lists_of_opening-requires-clause-started : goal.lists_of_opening-requires-cl
 lists_of_opening-requires-clause-started g c = opens-over (g.T.HostTree.is c.args.tree).began None c.args.opening c.requires.started tt
 
 pub over-requires-clause-valid : goal.over-requires-clause-valid
-over-requires-clause-valid g c = subst (λ (o : OpeningState). Valid (opened_over None o)) (sym c.in-Ok.ensures.opening) (valid_untold c.args.opening (g.T.HostTree.is c.args.tree).began c.requires.valid)
+over-requires-clause-valid g c = subst (λ (o : OpeningState). Valid (opened_over (g.T.HostTree.is c.args.tree).began o)) (sym c.in-Ok.ensures.opening) c.requires.valid
 
 pub over-requires-clause-started : goal.over-requires-clause-started
 over-requires-clause-started g c = subst (λ (o : OpeningState). IsOpeningState (opened_over None o)) (sym c.in-Ok.ensures.opening) (opens-over (g.T.HostTree.is c.args.tree).began None c.args.opening c.requires.started tt)
