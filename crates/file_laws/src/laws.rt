@@ -30,7 +30,8 @@ pub fn strict_handles_follow_revocations()
 
 /// What the entries of others tell an application: a file that a request changes,
 /// once and as the tree has it then, where a document or an open file of the
-/// application names its path; all the rights that a request lists, for the
+/// application names its path, or a document of it is a folder at or above that
+/// path; all the rights that a request lists, for the
 /// application that it names, and that it had not before, in the document that the
 /// request names, uses again or makes; the listed rights that it had and loses; and
 /// that a document is gone which the application held. Nothing else.
