@@ -1,0 +1,4 @@
+pub mod Folders
+pub mod Namings
+pub mod Nodes
+pub mod Examples
