@@ -9,7 +9,7 @@ ghost use Rattle.app_world.specs.TraceItem.{item_of};
 ghost use Rattle.portal_base.specs.Names.{is_in_own_folder};
 ghost use Rattle.portal_model.specs.declared.request.AddRequest.{AddRequest as Asked};
 ghost use Rattle.portal_model.specs.Add.{first_number, new_document as document_of_number, used_again as used_of};
-ghost use Rattle.portal_model.specs.AddArguments.{are_presented as presented, document_path, document_paths, exports as does_export, is_as_needed, is_left_out as left_out, makes_strict, paths_shown as paths_of_call, persists as does_persist, reuses as does_reuse};
+ghost use Rattle.portal_model.specs.AddArguments.{are_presented as presented, document_path, document_paths, is_as_needed, is_left_out as left_out, makes_strict, paths_shown as paths_of_call, reuses as does_reuse};
 ghost use Rattle.portal_model.specs.Documents.{serves as serves_for};
 ghost use Rattle.rights_rule.specs.Rights.{rights_named};
 ghost use Rattle.trace_items.specs.OwnAdds.{IsPlanned, Shared, is_given as given_in, is_in_order, looked_at, none_shared, presented_by as presented_path, reused_here, share_file as file_shared, shared_files, shared_with};
@@ -19,7 +19,7 @@ ghost use Rattle.trace_items.specs.Touches.{shown_in};
 
 use crate::lent::Lent;
 use crate::touches::gained;
-use add_files::{AddError, AddPlan, PlanItem, plan_add};
+use add_files::{AddError, AddPlan, PlanItem, exports, persists, plan_add};
 use app_trace::trace::TraceItem;
 use document_records::{Documents, Grants};
 use portal_base::list::List;
@@ -212,20 +212,6 @@ fn is_strict(add: &AddRequest) -> bool
     ensures { result ≡ makes_strict add.now }
 {
     add.flags / 16 % 2 == 1
-}
-
-/// Says whether the documents of a call are folders.
-fn exports(add: &AddRequest) -> bool
-    ensures { result ≡ does_export add.now }
-{
-    add.flags / 8 % 2 == 1
-}
-
-/// Says whether the documents of a call outlive the run.
-fn persists(add: &AddRequest) -> bool
-    ensures { result ≡ does_persist add.now }
-{
-    add.flags / 2 % 2 == 1
 }
 
 /// The live document that is used again for a file, if any.
