@@ -126,7 +126,7 @@ module _ (sees : FileName → Bool) (path : List ℕ) (generation : ℕ) (bytes 
       ap (λ (b : Bool). cond (sees (file_of x.path x.generation) || b) x (hidden_file x)) e
       ∙ ap (λ (b : Bool). cond b x (hidden_file x)) (or-false (sees (file_of x.path x.generation)))
 
-  renewed : (FileName → Bool) → File → File
+  abbrev renewed : (FileName → Bool) → File → File
   renewed t x = cond (is_named name (blind_file t x)) (with_content_of fresh (blind_file t x)) (blind_file t x)
 
   one-file : (x : File) → renewed wide x ≡ renewed sees x
