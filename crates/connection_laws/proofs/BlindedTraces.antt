@@ -114,42 +114,43 @@ module _ (sees : FileName → Bool) (path : List ℕ) (generation : ℕ) (bytes 
 
   -- ---- below folders
 
-  abbrev name : FileName
-  name = record { path = path; generation = generation }
+  abbrev told_name : FileName
+  told_name = record { path = path; generation = generation }
 
-  named-kept : (t : FileName → Bool) (x : File) → is_named name (blind_file t x) ≡ is_named name x
-  named-kept t x = elim (t (file_of x.path x.generation)) as (λ b. is_named name (cond b x (hidden_file x)) ≡ is_named name x) [ true ↦ refl | false ↦ refl ]
+  named-kept : (t : FileName → Bool) (x : File) → is_named told_name (blind_file t x) ≡ is_named told_name x
+  named-kept t x = elim (t (file_of x.path x.generation)) as (λ b. is_named told_name (cond b x (hidden_file x)) ≡ is_named told_name x) [ true ↦ refl | false ↦ refl ]
 
   -- any other file is in sight as before
-  same-elsewhere : (x : File) → is_named name x ≡ false → blind_file wide x ≡ blind_file sees x
+  same-elsewhere : (x : File) → is_named told_name x ≡ false → blind_file wide x ≡ blind_file sees x
   same-elsewhere x e =
       ap (λ (b : Bool). cond (sees (file_of x.path x.generation) || b) x (hidden_file x)) e
       ∙ ap (λ (b : Bool). cond b x (hidden_file x)) (or-false (sees (file_of x.path x.generation)))
 
   abbrev renewed : (FileName → Bool) → File → File
-  renewed t x = cond (is_named name (blind_file t x)) (with_content_of fresh (blind_file t x)) (blind_file t x)
+  renewed t x = cond (is_named told_name (blind_file t x)) (with_content_of fresh (blind_file t x)) (blind_file t x)
 
   one-file : (x : File) → renewed wide x ≡ renewed sees x
   one-file x =
       ap (λ (b : Bool). cond b (with_content_of fresh (blind_file wide x)) (blind_file wide x)) (named-kept wide x)
-      ∙ (by_name (is_named name x) refl
+      ∙ (by_name (is_named told_name x) refl
       ∙ sym (ap (λ (b : Bool). cond b (with_content_of fresh (blind_file sees x)) (blind_file sees x)) (named-kept sees x)))
     where
-      by_name : (b : Bool) → is_named name x ≡ b → cond b (with_content_of fresh (blind_file wide x)) (blind_file wide x) ≡ cond b (with_content_of fresh (blind_file sees x)) (blind_file sees x)
+      by_name : (b : Bool) → is_named told_name x ≡ b → cond b (with_content_of fresh (blind_file wide x)) (blind_file wide x) ≡ cond b (with_content_of fresh (blind_file sees x)) (blind_file sees x)
       by_name true e = λ i. record { path = (path-kept wide x ∙ sym (path-kept sees x)) i; generation = generation; bytes = bytes; moment = moment }
       by_name false e = same-elsewhere x e
 
-  renewed-same : (fs : List File) → change_named name (with_content_of fresh) (map (blind_file wide) fs) ≡ change_named name (with_content_of fresh) (map (blind_file sees) fs)
+  renewed-same : (fs : List File) → change_named told_name (with_content_of fresh) (map (blind_file wide) fs) ≡ change_named told_name (with_content_of fresh) (map (blind_file sees) fs)
   renewed-same [] = refl
   renewed-same (x ∷ xs) = λ i. one-file x i ∷ renewed-same xs i
 
   none-here : (fs : List File) → file_at fs path ≡ None → map (blind_file wide) fs ≡ map (blind_file sees) fs
   none-here [] e = refl
-  none-here (x ∷ xs) e = by_path (is_same x.path path) refl e
+  none-here (x ∷ xs) e = by_path (is_same x.path path) refl e (none-here xs)
     where
-      by_path : (b : Bool) → is_same x.path path ≡ b → cond b (Some x) (file_at xs path) ≡ None → blind_file wide x ∷ map (blind_file wide) xs ≡ blind_file sees x ∷ map (blind_file sees) xs
-      by_path true k g = cc
-      by_path false k g = λ i. same-elsewhere x (ap (λ (b : Bool). b && x.generation == generation) k) i ∷ none-here xs g i
+      by_path : (b : Bool) → is_same x.path path ≡ b → cond b (Some x) (file_at xs path) ≡ None → (file_at xs path ≡ None → map (blind_file wide) xs ≡ map (blind_file sees) xs) →
+          blind_file wide x ∷ map (blind_file wide) xs ≡ blind_file sees x ∷ map (blind_file sees) xs
+      by_path true k g more = cc
+      by_path false k g more = λ i. same-elsewhere x (ap (λ (b : Bool). b && x.generation == generation) k) i ∷ more g i
 
   some-kept : (t : FileName → Bool) (fs : List File) → is_some (file_at (map (blind_file t) fs) path) ≡ is_some (file_at fs path)
   some-kept t fs = ap is_some (file-found t path fs) ∙ by_file (file_at fs path)
@@ -159,7 +160,7 @@ module _ (sees : FileName → Bool) (path : List ℕ) (generation : ℕ) (bytes 
       by_file (Some f) = refl
 
   abbrev then_files : Bool → List File → List File
-  then_files b fs = cond b (change_named name (with_content_of fresh) fs) (cond (generation == 0) (with_first path fresh fs) fs)
+  then_files b fs = cond b (change_named told_name (with_content_of fresh) fs) (cond (generation == 0) (with_first path fresh fs) fs)
 
   files-same : (fs : List File) → with_file path generation fresh (map (blind_file wide) fs) ≡ with_file path generation fresh (map (blind_file sees) fs)
   files-same fs =
@@ -283,11 +284,11 @@ module _ {X : Type 0} (before : X → X → Bool) (p : X → Bool) where
 
 all-filtered : (p : File → Bool) (fs : List File) → list_all p (filter p fs) ≡ true
 all-filtered p [] = refl
-all-filtered p (f ∷ fs) = by_test (p f) refl
+all-filtered p (x ∷ xs) = by_test (p x) refl (all-filtered p xs)
   where
-    by_test : (b : Bool) → p f ≡ b → list_all p (cond b (f ∷ filter p fs) (filter p fs)) ≡ true
-    by_test true e = both (p f) (list_all p (filter p fs)) e (all-filtered p fs)
-    by_test false e = all-filtered p fs
+    by_test : (b : Bool) → p x ≡ b → list_all p (filter p xs) ≡ true → list_all p (cond b (x ∷ filter p xs) (filter p xs)) ≡ true
+    by_test true e h = both (p x) (list_all p (filter p xs)) e h
+    by_test false e h = h
 
 folder-placed : (files : List File) (folder : List ℕ) → is_placed (path_below files folder) ≡ true
 folder-placed files folder = all-put_all file_ahead (λ (f : File). is_at_or_below folder f.path) (filter (λ (f : File). is_at_or_below folder f.path) files) (all-filtered (λ (f : File). is_at_or_below folder f.path) files)
