@@ -107,9 +107,10 @@ pub fn bytes_so_far_are_of_the_served_trace()
 {}
 
 /// The bytes of a file are in no reply to an application that has neither the right
-/// to read a document of that path, nor a file open that it may read now: a reply is
-/// a function of the request and of the blinded view, in which such a file is as
-/// many zero bytes. Its length and its moment stay in sight.
+/// to read a document of that path, or of a folder that it lies below, nor a file
+/// open that it may read now: a reply is a function of the request and of the blinded
+/// view, in which such a file is as many zero bytes. Its length and its moment stay in
+/// sight.
 pub fn unread_bytes_are_in_no_reply()
     ensures { UnreadBytesAreInNoReply }
 {}
