@@ -2,7 +2,6 @@
 use Rattle.std.specs.Prelude.{IfSome, option_map}
 use Rattle.std.proofs.Common.{◌≡◌, ℕ, inl, inr, List, [], ◌∷◌, ◌++◌, map, false, cond, Option, Some, None, refl, sym, ap, subst, ◌∙◌, arith}
 use Rattle.std.specs.List.{IsDistinct, list_all}
-use Rattle.std.proofs.lemmas.List.Folds.{list_all-weaken}
 use Rattle.document_records.specs.Documents.{DocumentList}
 use Rattle.folder_documents.specs.Named.{Named, named_on}
 use Rattle.node_looks.specs.OpenHandles.{AreOpened, open_on}
@@ -18,6 +17,7 @@ use Rattle.portal_model.specs.Kept.{records_of}
 use Rattle.portal_model.specs.Opening.{document_kept, files_of, is_folder_kept, is_told, opened_over, rights_kept}
 use Rattle.portal_model.specs.RecordChanges.{changed_by, records_version}
 use Rattle.portal_model.specs.Valid.{Valid, is_sound_folder}
+use Rattle.portal_model.proofs.DistinctItems.{list_all-weaken}
 use Rattle.portal_model.proofs.OpeningLaws.{still_named}
 use Rattle.record_keeper.specs.BadRecords.{IsVersion}
 use Rattle.record_keeper.specs.Keepers.{KeeperIs}
