@@ -118,6 +118,7 @@ class Checks:
         self.documents(document)
         self.strict(document)
         self.files(document)
+        self.exported()
         self.outputs(document)
         self.permissions()
         self.watch()
@@ -198,12 +199,69 @@ class Checks:
                    "changed:  2001-09-09 01:46:40\nnode:     %d\n"
                    % (document, (2 << 32) + int(document, 16)))
         self.types("ls --json " + document, json.dumps(
-            [{"document": document, "name": "tour.txt", "size": 6, "writable": True,
-              "mtime": 10 ** 9}]) + "\n")
+            [{"document": document, "name": "tour.txt", "folder": False, "writable": True,
+              "size": 6, "mtime": 10 ** 9}]) + "\n")
         self.types("--as org.view put " + document, status=1,
                    said="EACCES: org.view may not write it; docportal-client grant %s org.view "
                         "write lets it" % document)
         self.edit(document)
+
+    def exported(self):
+        """A folder is exported, and what lies below it goes by its path."""
+        os.makedirs(os.path.join(self.service.root, "pictures", "cats"))
+        for name in ("a.txt", "cats/one.png"):
+            path = file_in(self.service.root, "pictures/" + name, b"a file\n")
+            os.utime(path, (1e9, 1e9))
+        self.types("export files/pictures", status=1,
+                   said="files/pictures is a folder; --folder exports it with all that lies below it")
+        self.types("export --folder files/tour.txt", status=1, said="files/tour.txt isn't a folder")
+        document = self.document("export --folder files/pictures --app org.ed --read --write")
+        self.see("the folder's document again", self.document("export -f files/pictures"), document)
+        self.types("lookup files/pictures", document + "\n")
+        self.types("grant files/pictures org.view read")
+        self.types("--as org.ed ls " + document, "DOCUMENT  NAME       ACCESS  SIZE\n"
+                                                 "%s  pictures/  write\n" % document)
+        pictures = document + "/pictures"
+        self.types("--as org.view ls %s/" % pictures, "NAME   ACCESS  SIZE\n"
+                                                      "a.txt  read    7\n"
+                                                      "cats/  read\n")
+        self.types("ls --short " + pictures, "a.txt\ncats\n")
+        self.types("ls %s/cats/one.png" % pictures, "NAME     ACCESS  SIZE\n"
+                                                    "one.png  write   7\n")
+        self.types("ls --json " + pictures, json.dumps([
+            {"name": "a.txt", "folder": False, "writable": True, "size": 7, "mtime": 10 ** 9},
+            {"name": "cats", "folder": True, "writable": True}]) + "\n")
+        self.types("--as org.ed stat %s/cats" % pictures,
+                   "document: %s\nname:     pictures/cats\nkind:     folder\n"
+                   "access:   read, write\nnode:     %d\n" % (document, (4 << 32) + 1))
+        self.types("--as org.view stat %s/cats/one.png" % pictures,
+                   "document: %s\nname:     pictures/cats/one.png\nsize:     7\n"
+                   "access:   read\nchanged:  2001-09-09 01:46:40\nnode:     %d\n"
+                   % (document, (4 << 32) + 2))
+        self.files_below(document, pictures)
+        self.types("unexport files/pictures")
+
+    def files_below(self, document, pictures):
+        self.types("--as org.view cat %s/cats/one.png" % pictures, "a file\n")
+        self.types("--as org.ed put %s/cats/two.png" % pictures, given=b"another\n")
+        self.types("put %s/a.txt" % pictures, given=b"new\n")
+        self.person.environment["VISUAL"] = "sed -i s/another/edited/"
+        self.types("--as org.ed edit %s/cats/two.png" % pictures)
+        for name, wanted in (("a.txt", b"new\n"), ("cats/two.png", b"edited\n")):
+            with open(os.path.join(self.service.root, "pictures", name), "rb") as file:
+                self.see("bytes of " + name, file.read(), wanted)
+        self.types("--as org.view put %s/a.txt" % pictures, status=1,
+                   said="EACCES: org.view may not write it; docportal-client grant %s org.view "
+                        "write lets it" % document)
+        for path in (document, pictures + "/cats"):
+            self.types("cat " + path, status=1,
+                       said="EISDIR: it is a folder; docportal-client ls %s lists it" % path)
+        self.types("cat %s/a.txt/x" % pictures, status=1,
+                   said="ENOTDIR: a name on the way is a file's")
+        for line in ("cat %s/none", "ls %s/none", "stat %s/none/x", "put %s/none/x"):
+            self.types(line % pictures, status=1,
+                       said="ENOENT: there is no such document, or its file isn't there; "
+                            "docportal-client ls lists them")
 
     def edit(self, document):
         self.person.environment["VISUAL"] = "sed -i s/short/long/"
@@ -347,11 +405,17 @@ class Checks:
                  "grant DOC APP RIGHT.."),
                 ("grant 5a0c11d7 org.ed fly", "argument RIGHT: fly is no right; they are read, "
                  "write, grant-permissions, delete", "grant DOC APP RIGHT.."),
-                ("cat 5a0c", "argument DOC: 5a0c is no identifier, eight digits 0-9 a-f",
-                 "cat DOC"),
+                ("cat 5a0c", "argument DOC[/PATH]: 5a0c is no identifier, eight digits 0-9 a-f",
+                 "cat DOC[/PATH]"),
+                ("cat 5a0c11d7/a/../b", "argument DOC[/PATH]: 5a0c11d7/a/../b: a name behind the "
+                 "identifier is empty, . or .., or no UTF-8", "cat DOC[/PATH]"),
+                ("export --folder --noexist x", "a folder isn't kept when the service is started "
+                 "anew, and has to be there: --folder stands without --persistent and --noexist",
+                 "export FILE [--app APP [RIGHTS]] [--persistent] [--strict] [--unique] "
+                 "[--noexist] [--folder]"),
                 ("ls --as ../x", "argument --as: ../x is no name of an application",
-                 "ls [DOC] [--short]"),
-                ("cat 5a0c11d7 --short", "unrecognized arguments: --short", "cat DOC"),
+                 "ls [DOC[/PATH]] [--short]"),
+                ("cat 5a0c11d7 --short", "unrecognized arguments: --short", "cat DOC[/PATH]"),
                 (["lookup", ""], "a file's name is empty", "lookup FILE"),
                 ("permission-reset", "name an application, or --all",
                  "permission-reset APP|--all [--table TABLE]"),

@@ -25,6 +25,7 @@ import re
 import socket
 import struct
 import time
+from stat import S_ISDIR
 from typing import NamedTuple
 
 MESSAGE_LIMIT = 16_777_216
@@ -537,6 +538,8 @@ class AddFlags(enum.IntFlag):
     REUSE_EXISTING = 1
     PERSISTENT = 2
     AS_NEEDED_BY_APP = 4
+    # Of AddFull alone: the path is a folder's, and all that lies below it is there.
+    EXPORT_DIRECTORY = 8
     # docportal's own: what is revoked is taken from open files too.
     STRICT = 16
     # No flag of the portal: a call with it is refused, and takes the presented files all the same.
@@ -619,6 +622,11 @@ class Documents:
         """Adds files, for an application or for none: their identifiers, and what else is told."""
         return self._add("AddFull", "ahusas", paths,
                          lambda places: [places, flags, app, permissions])
+
+    def add_folder(self, path, flags=AddFlags.REUSE_EXISTING, app="", permissions=()):
+        """Exports a folder with all that lies below it, for an application or for none: its
+        identifier. It isn't kept by a service that starts anew."""
+        return self.add_full([path], flags | AddFlags.EXPORT_DIRECTORY, app, permissions)[0][0]
 
     def add_named_full(self, folder, name, flags=AddFlags.REUSE_EXISTING, app="", permissions=()):
         """Adds a file by its folder and name, for an application: as `add_full`."""
@@ -781,10 +789,14 @@ def write_frame(opcode, node, body, unique):
 
 
 class Entry(NamedTuple):
-    """The file of a document."""
+    """The file of a document, or the folder that it is, or what stands below that."""
 
     name: str
     stat: os.stat_result
+
+    @property
+    def is_folder(self):
+        return S_ISDIR(self.stat.st_mode)
 
 
 class Mount(Stream):
@@ -895,39 +907,72 @@ class Mount(Stream):
         """The identifiers of the documents that the caller may read."""
         return [name for name in self.readdir(ROOT) if re.fullmatch("[0-9a-f]{8}", name)]
 
-    def find(self, document):
-        """The file of a document, or None where it isn't there."""
-        folder = self.lookup(ROOT, document).st_ino
-        for name in self.readdir(folder):
+    def find(self, path):
+        """What stands at a path, or None where nothing does: by a document's identifier its file,
+        or the folder that it is; by names behind it, as in `5a0c11d7/pictures/cat.png`, what the
+        mount shows there."""
+        if "/" not in path:
+            folder = self._node(path)
+            for name in self.readdir(folder):
+                return self._entry(folder, name)
+            return None
+        above, _, name = path.rpartition("/")
+        return self._entry(self._node(above), name)
+
+    def _node(self, path):
+        """The node at a path from the root on."""
+        node = ROOT
+        for name in path.split("/"):
+            node = self.lookup(node, name).st_ino
+        return node
+
+    def _entry(self, folder, name):
+        """What stands by a name in a folder, or None."""
+        try:
             return Entry(name, self.lookup(folder, name))
+        except MountError as error:
+            if error.errno != errno.ENOENT:
+                raise
         return None
 
-    def open_file(self, document, mode="rb", create_as=None):
-        """Opens the file of a document as `open` does: `rb`, `r+b`, or `wb`, which empties it.
+    def entries(self, path):
+        """What stands in the folder at a path, by name; what goes meanwhile is left out."""
+        entry = self.find(path)
+        if entry is None:
+            raise MountError(errno.ENOENT, os.strerror(errno.ENOENT))
+        folder = entry.stat.st_ino
+        found = (self._entry(folder, name) for name in self.readdir(folder))
+        return [entry for entry in found if entry]
 
-        Where the file isn't there, `wb` makes it, if `create_as` is the document's own name.
+    def open_file(self, path, mode="rb", create_as=None):
+        """Opens a file as `open` does: `rb`, `r+b`, or `wb`, which empties it. The path is a
+        document's identifier, or one behind it, as of `find`.
+
+        Where the file isn't there, `wb` makes it, if `create_as` is the document's own name, or
+        the path says where.
         """
         access = {"rb": os.O_RDONLY, "r+b": os.O_RDWR, "wb": os.O_WRONLY | os.O_TRUNC}[mode]
-        entry = self.find(document)
+        entry = self.find(path)
+        above, _, name = path.rpartition("/") if "/" in path else (path, "", create_as)
         if entry:
             node = entry.stat.st_ino
             handle = self.open_node(node, access)
-        elif create_as is not None and mode == "wb":
-            stat, handle = self.create(self.lookup(ROOT, document).st_ino, create_as, os.O_WRONLY)
+        elif name is not None and mode == "wb":
+            stat, handle = self.create(self._node(above), name, os.O_WRONLY)
             node = stat.st_ino
         else:
-            raise MountError(errno.ENOENT, "the document's file isn't there")
+            raise MountError(errno.ENOENT, "no file is there")
         buffered = {"rb": io.BufferedReader, "r+b": io.BufferedRandom, "wb": io.BufferedWriter}
         return buffered[mode](DocumentFile(self, node, handle, mode), WRITE_LIMIT)
 
-    def read_document(self, document):
-        """The bytes of a document."""
-        with self.open_file(document, "rb") as file:
+    def read_document(self, path):
+        """The bytes of a document, or of a file in one."""
+        with self.open_file(path, "rb") as file:
             return file.read()
 
-    def write_document(self, document, content):
-        """Writes a document anew, and asks that it is kept."""
-        with self.open_file(document, "wb") as file:
+    def write_document(self, path, content):
+        """Writes a document, or a file in one, anew, and asks that it is kept."""
+        with self.open_file(path, "wb") as file:
             file.write(content)
             file.flush()
             file.raw.fsync()

@@ -7,7 +7,10 @@ _docportal_client_options() {
     case $1 in
     '') options+=' --version' ;;
     documents | ls) options+=' --short' ;;
-    export) options+=' --app --read --write --grant --delete --persistent --strict --unique --noexist' ;;
+    export)
+        options+=' --app --read --write --grant --delete --persistent --strict --unique --noexist'
+        options+=' --folder'
+        ;;
     permission-set) options+=' --data --type' ;;
     permission-show) options+=' --table' ;;
     permission-reset) options+=' --all --table' ;;
