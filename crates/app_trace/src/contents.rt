@@ -173,11 +173,7 @@ fn push_below(
 }
 
 /// A path, and the files at and below it.
-fn path_below(
-    alloc: Global,
-    files: &TreeFiles,
-    path: &HostPath,
-) -> Result<PathBelow, WantOfMemory>
+fn path_below(alloc: Global, files: &TreeFiles, path: &HostPath) -> Result<PathBelow, WantOfMemory>
     ensures { IfOk result (λ below. below_told below ≡ below_of_path files.now path.now) }
 {
     Ok(PathBelow {

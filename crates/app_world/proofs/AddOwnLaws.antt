@@ -88,7 +88,6 @@ abbrev pub holds_for : AddRequest → List File → List ℕ → Holding
 holds_for a files path = cond (exports a) (Below (files_below files path)) (Alone (content_at files path))
 
 module _ (app : List ℕ) (a : AddRequest) (before : List Document) (held : ℕ → RightSet) (tree : List File) (content : List ℕ → Holding) where
-
   pub record Same (done : Added) (mine : OwnAdded) : Type 0 where
     pub seen : mine.view ≡ view done.state app
     pub numbers : mine.numbers ≡ done.numbers

@@ -308,7 +308,7 @@ module _ (path : List ℕ) where
     where
       by_kind : (b : Bool) → are_of ds path ≡ (plain ds || covered ds) → (cond b (is_at_or_below d.document.path path) (is_same d.document.path path) || are_of ds path)
           ≡ (is_among (map (λ (x : HeldDocument). x.document.path) (cond (not b) (d ∷ filter (λ (x : HeldDocument). is_plain_document x.document) ds) (filter (λ (x : HeldDocument). is_plain_document x.document) ds))) path
-            || list_any (λ folder. is_at_or_below folder path) (map (λ (x : HeldDocument). x.document.path) (cond b (d ∷ filter (λ (x : HeldDocument). is_folder_document x.document) ds) (filter (λ (x : HeldDocument). is_folder_document x.document) ds))))
+          || list_any (λ folder. is_at_or_below folder path) (map (λ (x : HeldDocument). x.document.path) (cond b (d ∷ filter (λ (x : HeldDocument). is_folder_document x.document) ds) (filter (λ (x : HeldDocument). is_folder_document x.document) ds))))
       by_kind true e = behind_first (is_at_or_below d.document.path path) (are_of ds path) (plain ds) (covered ds) e
       by_kind false e = ahead_first (is_same d.document.path path) (are_of ds path) (plain ds) (covered ds) e
 

@@ -34,7 +34,6 @@ module _ {X : Type 0} (last : X → TreeCall) where
   one_given files (Ends call done missing) (x ∷ xs) [] f false calls a b c d = let e : true ≡ false = b ∙ sym a.3 in absurd (cc)
   one_given files (Ends call done missing) (x ∷ xs) (y ∷ ys) f g calls a b c d =
       (ap (λ (l : Look). l ∷ xs) (a.0 ∙ sym b.0) ∙ ap (λ (ls : List Look). y ∷ ls) (a.1 ∙ sym b.1), a.2 ∙ sym b.2)
-
   one_given files (Lists path done missing) xs ys f g calls a b c d = (a ∙ sym b, c.0 ∙ sym d.0)
 
 -- and the same names are listed

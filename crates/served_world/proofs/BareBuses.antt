@@ -76,20 +76,20 @@ module _ (a : AddRequest) (content other : List ℕ → Holding) where
   use-same path x y (Some id) h =
       let view = gained-same x.view y.view (new_document a id path) (adding_rights a) (content path) (other path) (λ i. (h i).view) in
       λ i. record (h i) {
-    view = view i;
-    ids = (h i).ids ++ doc_text id.number ∷ [];
-  }
+        view = view i;
+        ids = (h i).ids ++ doc_text id.number ∷ [];
+      }
   use-same path x y None h =
       let numbers : first_number x.numbers ≡ first_number y.numbers = λ i. first_number (h i).numbers in
       let view =
       gained-same x.view y.view (new_document a (first_number x.numbers) path) (adding_rights a) (content path) (other path) (λ i. (h i).view)
       ∙ ap (λ (id : DocId). bare (apply y.view (Gained (new_document a id path) (adding_rights a) (other path)))) numbers in
       λ i. record {
-    view = view i;
-    numbers = drop 1 (h i).numbers;
-    ids = (h i).ids ++ doc_text (first_number (h i).numbers).number ∷ [];
-    made = (h i).made ++ new_document a (first_number (h i).numbers) path ∷ [];
-  }
+        view = view i;
+        numbers = drop 1 (h i).numbers;
+        ids = (h i).ids ++ doc_text (first_number (h i).numbers).number ∷ [];
+        made = (h i).made ++ new_document a (first_number (h i).numbers) path ∷ [];
+      }
 
   file-same : (f : OwnFile) (x y : OwnAdded) → bare_added x ≡ bare_added y → bare_added (own_add_file a content x f) ≡ bare_added (own_add_file a other y f)
   file-same f x y h = by_left (is_left_out a f.path)

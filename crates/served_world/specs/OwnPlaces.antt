@@ -147,8 +147,8 @@ PresentsItsOwn app s = list_all (waits_at_home app) (view s app).connections ≡
 
 -- Each look that stands in the item of a request that the application makes is of a place where
 -- the application may look: by a request on a node, of the file of a document in which it has
--- `read`, of what lies at or below such a one that is a folder, or of a file that it has open; by an Add, of a file in its own folder. No other request of
--- it looks at the tree.
+-- `read`, of what lies at or below such a one that is a folder, or of a file that it has open; by an
+-- Add, of a file in its own folder. No other request of it looks at the tree.
 pub record OwnLooksAreOfItsFiles : Type 0 where
   -- there is a place for each look of the item
   pub looks :
