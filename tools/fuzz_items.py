@@ -19,18 +19,22 @@ sys.path.insert(0, os.path.join(TOP, "contrib", "clients"))
 from docportal_client import Variant, Writer  # noqa: E402
 
 APPS = ("org.ed", "org.view")
-DOCUMENT_IDS = ("0000000a", "0000000a", "0000000b", "0000000c", "00000001", "ffffffff")
-PATHS = ("/home/a.txt", "/home/b.txt", "/app/org.ed/n.txt", "/app/org.view/n.txt", "/home",
+# 0000000d is a folder's, which the host exports ahead of all else.
+DOCUMENT_IDS = ("0000000a", "0000000a", "0000000b", "0000000c", "0000000d", "0000000d", "00000001",
+                "ffffffff")
+PATHS = ("/home/a.txt", "/home/b.txt", "/app/org.ed/n.txt", "/app/org.view/n.txt", "/home/p",
+         "/app/org.ed/deep", "/home",
          "/home/none.txt", "/", "/home/../etc", "home", "/home/\xff")
 NAMES = ("a.txt", "b.txt", "n.txt", "0000000a", "0000000b", "by-app", "org.ed", "..", ".",
-         "x" * 256)
+         "x" * 256, "p", "s", "s", "t.txt", "s/t.txt", "new", "s/..", "x" * 255)
 NUMBERS = (0, 1, 2, 3, 4, 5, 7, 8, 16, 39, 40, 63, 64, 127, 128, 255, 256, 4095, 4096, 65535, 65536,
            131072, 131073, 135168, 135169, 1 << 20, (1 << 20) + 1, 1 << 24, (1 << 24) + 1, 1 << 26,
            (1 << 26) + 1, 0x7fffffff, 0x80000000, 0xfffffff0, 0xfffffff8, 0xffffffff)
 LONG_NUMBERS = NUMBERS + (1 << 28, 1 << 32, 1 << 36, 1 << 40, 1 << 63, (1 << 64) - 8, (1 << 64) - 1)
-NODES = (1, 4294967306, 8589934602) * 3 + (
+# The numbers 13 are of an exported folder, and those from 17179869184 on of names below it.
+NODES = (1, 4294967306, 8589934602) * 3 + (8589934605, 17179869185, 17179869186) * 2 + (
     0, 2, 4294967307, 8589934603, 8589934604, 68719476737, 73014444042, 77309411338, 137438953473,
-    (1 << 64) - 1)
+    4294967309, 77309411341, 17179869184, 17179869187, 17179869188, 85899345921, (1 << 64) - 1)
 PIECES = [bytes([n]) for n in (0, 1, 0x0a, 0x0d, 0x20, 0x28, 0x29, 0x61, 0x67, 0x68, 0x76, 0x7b,
                                0x7f, 0x80, 0xc0, 0xff)]
 LINES = (b"AUTH EXTERNAL 31303030", b"AUTH EXTERNAL 30", b"AUTH EXTERNAL", b"AUTH", b"DATA",
@@ -184,8 +188,9 @@ class Maker:
         doc, app = self.one(DOCUMENT_IDS), self.one(APPS)
         rights = [self.one(("read", "write", "grant-permissions", "delete"))
                   for _ in range(self.chance.randrange(3))]
-        handle, flags = self.chance.randrange(2), self.one((0, 1, 2, 3, 4, 5, 16, 17, 18, 8))
-        path = self.one(PATHS[:4]).encode() + b"\0"
+        handle = self.chance.randrange(2)
+        flags = self.one((0, 1, 2, 3, 4, 5, 16, 17, 18, 8, 9, 9, 12, 24, 25, 10))
+        path = self.one(PATHS[:6]).encode() + b"\0"
         good = {
             b"Add": [handle, True, True], b"AddNamed": [handle, b"b.txt\0", True, False],
             b"AddFull": [[handle], flags, app, rights],

@@ -357,7 +357,7 @@ def property_of(message, here):
 NAMED, QUIET = "named", "quiet"
 # By opcode: the length of the body, the length of the answer, and the errors that may come.
 FRAMES = {
-    1: (NAMED, 128, {ENAMETOOLONG, ENOENT, ENOTDIR, EIO}),
+    1: (NAMED, 128, {ENAMETOOLONG, ENOENT, ENOTDIR, EIO, EMFILE}),
     3: (16, 104, {EBADF, EACCES, EIO, ENOENT}),
     4: (88, 104, {EPERM, EBADF, EACCES, EIO, ENOENT, EISDIR, EFBIG}),
     14: (8, 16, {EINVAL, ENOENT, EIO, EISDIR, EACCES, EMFILE}),
@@ -372,6 +372,14 @@ FRAMES = {
     34: (8, 0, {EINVAL, ENOENT, EIO, EACCES}),
     35: (NAMED, 144, {EINVAL, ENAMETOOLONG, ENOENT, EIO, ENOTDIR, EPERM, EACCES, EMFILE, EEXIST}),
 }
+# By the kind of a node: the modes that its attributes may tell. Those of the kind 4 have numbers
+# that a connection gave in their order.
+FILE_MODES = {0o100400, 0o100600}
+FOLDER_MODES = {0o040500}
+EXPORTED_MODES = {0o040500, 0o040700}
+MODES = {0: FOLDER_MODES, 1: FOLDER_MODES, 2: FILE_MODES | EXPORTED_MODES,
+         4: FILE_MODES | EXPORTED_MODES}
+NAMES_LIMIT = 65536
 STATFS = struct.pack("<5Q4I", *[1 << 30] * 3, *[1 << 20] * 2, 4096, 255, 4096, 0) + bytes(24)
 
 
@@ -458,6 +466,7 @@ class Connection:
         self.items = 0
         self.serial = 0
         self.opens = 0
+        self.names = 0
 
     def feed(self, data):
         """The answers to the items that are whole now; None stands for signals alone."""
@@ -582,8 +591,10 @@ class Connection:
         """Of an answer of the portal that is done."""
         opcode, length = wanted.opcode, FRAMES[wanted.opcode][1]
         if length is None:
-            most = struct.unpack_from("<I", wanted.frame, 56)[0]
-            return None if len(body) <= most else "more bytes than were asked"
+            offset, most = struct.unpack_from("<QI", wanted.frame, 48)
+            if len(body) > most:
+                return "more bytes than were asked"
+            return flaw_of_entries(body, offset) if opcode == 28 else None
         if len(body) != length:
             return "a body of %d bytes" % len(body)
         if opcode == 16 and body != wanted.frame[56:60] + bytes(4):
@@ -598,7 +609,39 @@ class Connection:
                 return "another uid or gid"
             if opcode in (1, 35) and body[:8] != body[at:at + 8]:
                 return "another node than its attributes say"
+            return self.flaw_of_node(opcode, body[at:])
         return None
+
+    def flaw_of_node(self, opcode, attributes):
+        """Of the node that attributes tell of, and of its number where it is a name's."""
+        node, = struct.unpack_from("<Q", attributes)
+        mode, = struct.unpack_from("<I", attributes, 60)
+        kind, number = node >> 32 & 15, node & 0xffffffff
+        if mode not in MODES.get(kind, ()):
+            return "the mode %o of node %d" % (mode, node)
+        if kind == 4:
+            most = min(self.names + (opcode in (1, 35)), NAMES_LIMIT)
+            if not 1 <= number <= most:
+                return "name %d of a connection that has named %d" % (number, self.names)
+            self.names = max(self.names, number)
+        return None
+
+
+def flaw_of_entries(body, offset):
+    """What is wrong with the entries of a folder from a place on, or None."""
+    at = 0
+    while at < len(body):
+        if at + 24 > len(body):
+            return "an entry that is cut"
+        _, place, length, kind = struct.unpack_from("<QQII", body, at)
+        name, padding = body[at + 24:at + 24 + length], -length % 8
+        end, offset = at + 24 + length + padding, offset + 1
+        if place != offset or kind not in (4, 8) or body[end - padding:end] != bytes(padding):
+            return "the entry %d, of the type %d, at place %d" % (place, kind, offset)
+        if (name == b".") != (place == 1) or (name == b"..") != (place == 2) or not name:
+            return "the name %r at place %d" % (name, place)
+        at = end
+    return None
 
 
 def flaw_of_answer(message, answer, codes):

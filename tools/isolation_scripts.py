@@ -37,17 +37,24 @@ from docportal_client import (
 
 OWN, OTHER = "org.ed", "org.view"
 HELLO = b"\0AUTH EXTERNAL 30\r\nBEGIN\r\n"
-FOLDER, FILE = 1 << 32, 2 << 32
+FOLDER, FILE, NAMED = 1 << 32, 2 << 32, 4 << 32
 # What OWN has in its own folder. The first is the one that tools/fuzz_items.py draws.
 OWN_FILES = ["/app/org.ed/n.txt", "/app/org.ed/m.txt", "/app/org.ed/deep/k.txt",
              "/app/org.ed/none.txt"]
 # What is alike in both, and given to OWN. The first two are held from the start to the end.
 STEADY = ["/home/h0/a.txt", "/home/h1/b.txt"]
 GIVEN = ["/home/h2/n.txt", "/home/h3/none.txt", "/app/org.view/given.txt", OWN_FILES[0]]
-# OWN never may read it, so it is another file in each.
-BLIND = "/blind/x.txt"
+# What is exported to OWN. The first is held from the start to the end, or to a restart; the last is
+# in its own folder. What lies below is alike in both.
+FOLDERS = ["/home/f", "/app/org.view/g", "/app/org.ed/deep"]
+BELOW = ["a.txt", "sub/b.txt", "sub/deep/c.txt"]
+# What is looked up there.
+NAMES = [*BELOW, "sub", "sub/deep", "b.txt", "deep", "c.txt", "k.txt", "new.txt", "sub/new.txt",
+         "none.txt", "odd", "..", "."]
+# OWN never may read these, so they are others in each.
+BLIND, BLIND_FOLDER = "/blind/x.txt", "/blindly"
 FOREIGN = ["/othr/a.txt", "/othr/b.txt", "/app/org.view/n.txt", "/app/org.ex/n.txt"]
-LEAKS = ("right", "taken", "gone", "bytes", "moment", "made")
+LEAKS = ("right", "taken", "gone", "bytes", "moment", "made", "below", "name")
 
 
 def load_fuzz():
@@ -142,8 +149,9 @@ class Lines:
         # The applications beside OWN and OTHER, by the side.
         self.strangers = {side: ["org.s%d%s" % (number, side)
                                  for number in range(maker.one((0, 1, 3)))] for side in "ab"}
-        # What OWN was given; the numbers that its additions may come to; those of others.
-        self.steady, self.given = [], []
+        # What OWN was given; the folder that it holds to the end; the numbers that its additions may
+        # come to; those of others.
+        self.steady, self.given, self.folders = [], [], []
         self.own = []
         # What it was given and has no right in any more, with the group by which it lost them.
         self.lost = {}
@@ -175,7 +183,7 @@ class Lines:
 
     def tokens(self):
         """All documents that OWN has heard of."""
-        return [held.token for held in self.steady + self.given] + self.own + [
+        return [held.token for held in self.steady + self.given + self.folders] + self.own + [
             *self.lost]
 
     def loose(self):
@@ -237,8 +245,8 @@ class Lines:
             if self.is_over(side, link):
                 return b""
         data = self.maker.item(self.states[side, link].state, self.maker.odds(0.15))
-        two = [text_of(self.maker.one(tokens or [0])) for _ in range(2)]
-        data = change(fuzz.with_documents([data], two)[0])
+        three = [text_of(self.maker.one(tokens or [0])) for _ in range(3)]
+        data = change(fuzz.with_documents([data], three)[0])
         self.say(side, verb, link, data)
         return data
 
@@ -254,7 +262,7 @@ class Own:
             OWN, self.maker.one(("bus.1", "bus.2", "mount.1", "mount.2")))
         tokens = self.lines.loose() + self.lines.hidden()
         if "mount" in link:
-            tokens += 3 * self.lines.readable()
+            tokens += 3 * self.lines.readable() + [held.token for held in self.lines.folders]
         data = self.lines.drawn("ab", "ask", link, tokens)
         if b"\0Add" in data:
             self.lines.own.append(own_token(group, 0))
@@ -276,9 +284,12 @@ class Own:
         rights = self.lines.some(RIGHTS) if self.maker.odds(0.5) else []
         app = self.maker.one(("", "", OTHER, OWN, "../x"))
         paths = [self.maker.one(OWN_FILES) for _ in range(self.maker.one((1, 1, 2, 3)))]
-        which = self.maker.chance.randrange(4)
+        which = self.maker.chance.randrange(5)
         folder, _, name = paths[0].rpartition("/")
-        if which == 0:
+        if which == 4:
+            paths = [FOLDERS[2]]
+            talk.documents.add_full(paths, self.maker.one((8, 8, 9, 24, 25, 10)), app, rights)
+        elif which == 0:
             talk.documents.add(paths[0], flags & 1 > 0, flags & 2 > 0)
         elif which == 1:
             talk.documents.add_named(folder, name, flags & 1 > 0, flags & 2 > 0)
@@ -340,12 +351,42 @@ class Own:
         self.lines.close("ab", OWN + ".mount.1")
         self.talk(talk)
 
+    def below(self):
+        """What lies below a folder: it is named, listed, read, written and made."""
+        self.lines.begin()
+        talk, folders = MountTalk(self.maker), [held.token for held in self.lines.given
+                                                if held.flags & 8]
+        token = self.maker.one([held.token for held in self.lines.folders] * 2 + folders
+                               + self.lines.own + self.lines.hidden() + [0])
+        self.lines.close("ab", OWN + ".mount.1")
+        talk.lookup(ROOT, text_of(token))
+        talk.readdir(FOLDER | token)
+        for _ in range(self.maker.one((3, 6, 12))):
+            self.below_once(talk, token)
+        self.talk(talk)
+
+    def below_once(self, talk, token):
+        node = self.maker.one((FILE | token, NAMED | 1, NAMED | 2, NAMED | 3, NAMED | 9))
+        name = self.maker.one(NAMES)
+
+        def opens():
+            handle = talk.open_node(node, self.maker.one((0, 0, 2, os.O_TRUNC | 2)))
+            talk.read(node, handle, 0, 4096)
+            talk.write(node, handle, 3, self.lines.content())
+            talk.getattr(node, handle)
+
+        self.maker.one((
+            lambda: talk.lookup(node, name), lambda: talk.lookup(FILE | token, name), opens,
+            lambda: talk.readdir(node), lambda: talk.getattr(node),
+            lambda: talk.create(node, name, 2)))()
+
     def peeks(self):
         """It looks for the views of others, which are the host's alone."""
         self.lines.begin()
         talk, view = MountTalk(self.maker), self.maker.one((1, 2, 3, 4)) << 36
         tokens = self.lines.hidden() + self.lines.readable()
-        for node in (2, view | 1, *(view | FOLDER | token for token in tokens[:3])):
+        for node in (2, view | 1, view | NAMED | 1,
+                     *(view | FOLDER | token for token in tokens[:3])):
             talk.getattr(node)
             talk.readdir(node)
         talk.lookup(ROOT, "by-app")
@@ -373,10 +414,26 @@ class Own:
         for handle in range(talk.opens):
             talk.read(ROOT, handle + 1, 0, 65536)
         self.anew(talk)
+        for held in self.lines.folders + [held for held in self.lines.given if held.flags & 8]:
+            self.survey_folder(FILE | held.token)
         calls = Talk(self.maker)
         for token in self.lines.tokens() + self.lines.others["a"][-4:]:
             calls.documents.grant_permissions(text_of(token), OTHER, [])
         self.anew(calls)
+
+    def survey_folder(self, folder):
+        """All that lies below a folder. Its numbers are those of a connection of its own."""
+        talk = MountTalk(self.maker)
+        talk.readdir(folder)
+        for name in BELOW + ["sub", "sub/deep"]:
+            talk.lookup(folder, name)
+        for number in range(1, 1 + len(BELOW) + 2):
+            talk.getattr(NAMED | number)
+            talk.readdir(NAMED | number)
+            talk.open_node(NAMED | number)
+        for handle in range(talk.opens):
+            talk.read(ROOT, handle + 1, 0, 65536)
+        self.anew(talk)
 
     def ends(self):
         """One of its connections ends."""
@@ -409,8 +466,10 @@ class Alike:
 
     def adds(self, side, who, path, flags, app, rights):
         folder, _, name = path.rpartition("/")
-        self.lines.by_bus(side, who, "add_named_full", folder, name, flags, app, rights,
-                          verb="gives")
+        member, words = "add_named_full", [folder, name]
+        if flags & 8:
+            member, words = "add_full", [[path]]
+        self.lines.by_bus(side, who, member, *words, flags, app, rights, verb="gives")
 
     def give(self, path, flags, rights):
         """A new document, in which OWN gets these rights."""
@@ -454,7 +513,8 @@ class Alike:
     def rights(self):
         """OWN gains rights, or loses them, or the document goes."""
         token = self.maker.one(self.lines.loose())
-        blind = [held for held in self.lines.given if held.token == token and held.path == BLIND]
+        blind = [held for held in self.lines.given
+                 if held.token == token and held.path in (BLIND, BLIND_FOLDER)]
         rights = self.lines.some(RIGHTS[1:] if blind else RIGHTS, 1)
         which = self.maker.chance.randrange(5)
         if which < 2:
@@ -503,6 +563,50 @@ class Alike:
 
         self.each(lambda side: self.lines.once(side, "host", talk), by_another, beside)
 
+    def writes_below(self):
+        """A file below the folder that OWN holds is written or cut where it stands, or made."""
+        if not self.lines.folders:
+            return
+        held, content = self.lines.folders[0], self.lines.content()
+        self.lines.begin(held.group)
+        name, offset = self.maker.one(BELOW), self.maker.one((0, 3, 1000))
+        which, talk = self.maker.chance.randrange(3), MountTalk(self.maker)
+        if which == 2:
+            name = self.maker.one(("new.txt", "sub/new.txt", "sub/deep/new.txt"))
+            handle = talk.create(FILE | held.token, name)[1]
+        else:
+            talk.lookup(FILE | held.token, name)
+            handle = talk.open_node(NAMED | 1, 1)
+        if which == 1:
+            talk.truncate(NAMED | 1, handle, offset)
+        else:
+            talk.write(NAMED | 1, handle, offset, content)
+        talk.release(NAMED | 1, handle)
+
+        def by_another(side):
+            other = self.lines.other(side)
+            self.lines.by_bus(side, "host", "grant_permissions", text_of(held.token), other,
+                              ["read", "write"])
+            self.lines.once(side, other, talk)
+
+        def beside(side):
+            change = ("cut", held.path + "/" + name, str(offset)) if which == 1 else (
+                "patch", held.path + "/" + name, str(offset), content.hex() or "-")
+            self.lines.line(side, "disk", *change)
+
+        ways = [lambda side: self.lines.once(side, "host", talk), by_another]
+        self.each(*ways, *([beside] if which < 2 else []))
+
+    def changes_below(self):
+        """What lies below an exported folder changes, beside the service."""
+        self.lines.begin()
+        path = self.maker.one(FOLDERS) + "/" + self.maker.one(
+            BELOW + ["new.txt", "sub/new.txt", "odd", "odd", "sub/odd"])
+        content = self.lines.content().hex() or "-"
+        self.lines.line("ab", "disk", *self.maker.one((
+            ("save", path, content, self.lines.moment()), ("remove", path), ("folder", path),
+            ("pipe", path), ("link", path, STEADY[0]))))
+
     def makes(self):
         """A document's file is made, where it isn't there."""
         self.lines.begin()
@@ -529,8 +633,9 @@ class Alike:
 
     def gift(self):
         """One more document."""
-        path = self.maker.one(GIVEN)
-        flags = self.maker.one((0, 1, 2, 3, 16, 17))
+        path, flags = self.maker.one(GIVEN), self.maker.one((0, 1, 2, 3, 16, 17))
+        if self.maker.odds(0.3):
+            path, flags = self.maker.one(FOLDERS), self.maker.one((8, 9, 24, 25))
         self.lines.given.append(self.give(path, flags, self.lines.some(RIGHTS, 1)))
 
 
@@ -550,8 +655,8 @@ class Beside:
         self.lines.begin()
         self.maker.one((
             self.item, self.item, self.item, self.addition, self.rights_of_others,
-            self.rights_as_they_are, self.lost_goes, self.same_file, self.reads, self.entries,
-            self.files, self.ends))()
+            self.rights_as_they_are, self.lost_goes, self.same_file, self.reads, self.names,
+            self.entries, self.files, self.ends))()
 
     def who(self):
         return self.maker.one(("host", "host", self.lines.other(self.side)))
@@ -616,6 +721,8 @@ class Beside:
         path = self.maker.one(STEADY + GIVEN + OWN_FILES + [BLIND])
         talk.documents.add_full([path], self.maker.one((0, 2, 16)), self.lines.other(self.side),
                                 ["read", "grant-permissions", "delete"])
+        talk.documents.add_full([self.maker.one(FOLDERS)], self.maker.one((8, 24)),
+                                self.lines.other(self.side), ["read", "grant-permissions"])
         self.tell("host.bus.2", talk)
 
     def reads(self):
@@ -635,6 +742,26 @@ class Beside:
         self.lines.close(self.side, who + ".mount.1")
         self.tell(who + ".mount.1", talk)
 
+    def names(self):
+        """Another names what lies below a folder of OWN's, and the host in other views too."""
+        talk, calls = MountTalk(self.maker), Talk(self.maker)
+        folders = self.lines.folders + [held for held in self.lines.given if held.flags & 8]
+        if not folders:
+            return
+        held, who = self.maker.one(folders), self.who()
+        self.lines.begin(held.group)
+        if who != "host":
+            calls.documents.grant_permissions(text_of(held.token), who, ["read"])
+            self.tell("host.bus.2", calls)
+        view = self.maker.one((0, 0, 1, 2)) << 36 if who == "host" else 0
+        for name in self.lines.some(NAMES):
+            talk.lookup(view | FILE | held.token, name)
+        talk.readdir(view | FILE | held.token)
+        handle = talk.open_node(view | NAMED | self.maker.one((1, 2)))
+        talk.read(ROOT, handle, 0, 65536)
+        self.lines.close(self.side, who + ".mount.1")
+        self.tell(who + ".mount.1", talk)
+
     def entries(self):
         """Of the permission store, also of OWN."""
         talk = Talk(self.maker)
@@ -650,7 +777,9 @@ class Beside:
 
     def files(self):
         """Files that OWN doesn't look at, or may not read."""
-        path = self.maker.one([*FOREIGN, BLIND, BLIND, "/home/h0/other%d" % self.lines.group,
+        path = self.maker.one([*FOREIGN, BLIND, BLIND, BLIND_FOLDER + "/a.txt",
+                               BLIND_FOLDER + "/sub/b.txt",
+                               "/home/h0/other%d" % self.lines.group,
                                "/app/org.ed/unseen%d" % self.lines.group])
         content = self.lines.content().hex() or "-"
         self.lines.line(self.side, "disk", *self.maker.one((
@@ -668,10 +797,14 @@ def opening(lines, alike, restarts):
     lines.begin()
     for path in OWN_FILES[:3] + STEADY + [GIVEN[0], GIVEN[2]]:
         lines.line("ab", "disk", "save", path, lines.content().hex() or "-", lines.moment())
+    for folder in FOLDERS:
+        for name in BELOW:
+            lines.line("ab", "disk", "save", folder + "/" + name, lines.content().hex() or "-",
+                       lines.moment())
     lines.line("ab", "disk", "folder", "/home/h3")
     for side in "ab":
         lines.begin()
-        for path in [*FOREIGN, BLIND]:
+        for path in [*FOREIGN, BLIND, BLIND_FOLDER + "/a.txt"]:
             lines.line(side, "disk", "save", path, lines.content().hex() or "-", lines.moment())
         starts(lines, side)
     for path in STEADY:
@@ -682,6 +815,10 @@ def opening(lines, alike, restarts):
         alike_flags = lines.maker.one((0, 1, 2, 3, 16, 17))
         lines.given.append(alike.give(path, alike_flags, lines.some(RIGHTS, 1)))
     lines.given.append(alike.give(BLIND, lines.maker.one((0, 2, 16)), lines.some(RIGHTS[1:], 1)))
+    rights = ["read", *lines.some(["write", "grant-permissions"])]
+    lines.folders.append(alike.give(FOLDERS[0], lines.maker.one((8, 9, 24, 25)), rights))
+    for path, of in ((FOLDERS[1], RIGHTS), (BLIND_FOLDER, RIGHTS[1:])):
+        lines.given.append(alike.give(path, lines.maker.one((8, 24)), lines.some(of, 1)))
 
 
 def starts(lines, side):
@@ -695,6 +832,10 @@ def restart(lines):
     lines.states.clear()
     for side in "ab":
         starts(lines, side)
+    # No folder is kept.
+    gone = lines.folders + [held for held in lines.given if held.flags & 8]
+    lines.lost.update((held.token, lines.group) for held in gone)
+    lines.folders, lines.given = [], [held for held in lines.given if not held.flags & 8]
 
 
 def leak(lines, which):
@@ -714,6 +855,13 @@ def leak(lines, which):
         for each in "ab":
             content = b"other bytes" if each == side else b"these bytes"
             lines.line(each, "disk", "save", held.path, content.hex(), "1000")
+    elif which in ("below", "name"):
+        lines.folders.append(Alike(lines).give(FOLDERS[0], 8, ["read"]))
+        lines.begin()
+        path = FOLDERS[0] + ("/a.txt" if which == "below" else "/zone.txt")
+        for each in "ab" if which == "below" else side:
+            content = b"other bytes" if each == side else b"these"
+            lines.line(each, "disk", "save", path, content.hex(), "1000")
     elif which == "moment":
         for each in "ab":
             moment = "1001" if each == side else "1000"
@@ -735,6 +883,7 @@ def draw(maker, steps, leaking=None):
     opening(lines, alike, again is not None)
     ways = [way for way, odds in (
         (own.item, 40), (own.addition, 8), (own.asks, 8), (own.session, 10), (own.survey, 3),
+        (own.below, 12), (alike.writes_below, 4), (alike.changes_below, 4),
         (own.peeks, 3), (own.ends, 3), (own.files, 6), (alike.rights, 8), (alike.loses, 2),
         (alike.writes, 4), (alike.makes, 3), (alike.saves, 4), (alike.gift, 2))
             for _ in range(odds)]

@@ -3,8 +3,10 @@
 In the lines, $ED, $VIEW and $HOST are the folders of org.ed, org.view and the host, $FILES is the
 service's root, and $OUT the folder that they run in. $N, $B, $D and $V are documents: notes.txt and
 book.bin (5,000,000 bytes), which org.ed may write and may read, draft.txt, whose file isn't
-there yet, and one that only org.view sees. $NOTES and $BOOK are the files of the first two.
-A line that changes notes.txt begins by what it needs of it.
+there yet, and one that only org.view sees. $NOTES and $BOOK are the files of the first two. $P is
+the document of a folder, `project`, which org.ed may write and org.view may read; $PROJECT is that
+folder, and on the host $FILES/project. Beside what is seen it holds a link, a pipe and a name that
+isn't UTF-8. A line that changes notes.txt begins by what it needs of it.
 """
 
 BOOK = '"$FILES/book.bin"'
@@ -59,6 +61,35 @@ for call, words in ((os.listxattr, []), (os.setxattr, ["user.a", b"b"])):
         print(error.errno)
 END'''
 ANEW = 'echo hello > "$NOTES"; '
+ON_HOST = '"$FILES/project"'
+# An editor that writes the file where it stands: ed, where it is there.
+EDITOR = r'''edit() { if command -v ed > /dev/null; then printf "1s/goodbye/hello/\nw\nq\n" | ed -s "$1"
+else text=$(sed s/goodbye/hello/ "$1"); printf "%s\n" "$text" > "$1"; fi; }; edit'''
+# What a program does that opens a folder as a project: it looks at all files, changes one where it
+# stands, makes another, and comes by what another program changes.
+PROJECT_TOOL = r'''$PYTHON - "$PROJECT" "$FILES/project" <<'END'
+import os, pathlib, sys
+project, host = map(pathlib.Path, sys.argv[1:])
+for at, folders, files in sorted(os.walk(project)):
+    print(os.path.relpath(at, project), sorted(folders), sorted(files))
+print(sorted(str(path.relative_to(project)) for path in project.rglob("*.c")))
+with open(project / "src" / "main.c", "r+") as file:
+    text = file.read().replace("hello", "goodbye")
+    file.seek(0)
+    file.write(text)
+    file.truncate()
+(project / "src" / "deep" / "er" / "new.c").write_text("// new\n")
+for name in ("src/main.c", "src/deep/er/new.c"):
+    print((host / name).read_text(), end="")
+(host / "src" / "late.c").write_text("// late\n")
+print((project / "src" / "late.c").read_text(), end="")
+for name in ("src/late.c", "src/deep/er/new.c"):
+    (host / name).unlink()
+print((project / "src" / "late.c").exists(), sorted(os.listdir(project / "src")))
+before = os.stat(project / "src")
+print(before.st_ino == os.stat(project / "src").st_ino,
+      os.path.samefile(project / "src", project / "src" / "deep" / ".."))
+END'''
 
 COMMANDS = [
     # What is there
@@ -66,7 +97,7 @@ COMMANDS = [
     ('ls "$HOST"', 0, "$ALL"),
     ('ls "$HOST/by-app"', 0, "org.ed\norg.view"),
     ('ls "$HOST/by-app/org.ed"', 0, "$OWN"),
-    ('ls "$VIEW"', 0, "$V"),
+    ('ls "$VIEW"', 0, "$VIEWED"),
     ('ls -la "$ED/$N" | cut -c1-10', 0, "total 1\ndr-x------\ndr-x------\n-rw-------"),
     ('ls -la "$ED/$B" | tail -n1 | cut -c1-10', 0, "-r--------"),
     ('ls -ld "$ED" | cut -c1-10', 0, "dr-x------"),
@@ -78,8 +109,8 @@ COMMANDS = [
     ('stat -f -c "%S %l" "$ED"', 0, "4096 255"),
     ('df -B4096 --output=avail "$ED" | tail -n1', 0, "1073741824"),
     ('du -b "$BOOK" | cut -f1', 0, "5000000"),
-    ('find "$ED" -type f -printf "%f\\n" | sort', 0, "book.bin\nnotes.txt"),
-    ('find "$ED" -mindepth 1 -type d | wc -l', 0, "3"),
+    ('find "$ED" -maxdepth 2 -type f -printf "%f\\n" | sort', 0, "book.bin\nnotes.txt"),
+    ('find "$ED" -mindepth 1 -maxdepth 1 -type d | wc -l', 0, "4"),
     ('cd "$ED/$N" && ls', 0, "notes.txt"),
     ('[ -r "$NOTES" ] && [ -w "$NOTES" ] && [ ! -x "$NOTES" ]', 0, ""),
     ('[ -r "$BOOK" ] && [ ! -w "$BOOK" ]', 0, ""),
@@ -157,4 +188,69 @@ COMMANDS = [
     ('"$NOTES"', 126, ""),
     (ATTRIBUTES, 0, "95\n95"),
     ('cat "$NOTES"; ls "$ED"', 0, "hello\n$OWN"),
+    # A folder with all that lies below it
+    ('ls "$ED/$P"', 0, "project"),
+    ('ls -A "$PROJECT"', 0, "Makefile\nread me.txt\nsrc"),
+    ('ls -l "$PROJECT" | cut -c1-10', 0, "total 1\n-rw-------\n-rw-------\ndrwx------"),
+    ('cd "$PROJECT" && ls -lR | grep -c "^[-d]r"', 0, "8"),
+    ('cd "$PROJECT" && ls -R', 0,
+     ".:\nMakefile\nread me.txt\nsrc\n\n./src:\ndeep\nmain.c\nutil.h\n\n./src/deep:\ner\n\n"
+     "./src/deep/er:\nbig.bin"),
+    ('ls -l "$VIEWED_PROJECT/src" | cut -c1-10', 0,
+     "total 1\ndr-x------\n-r--------\n-r--------"),
+    ('cd "$PROJECT" && find . | sort', 0,
+     ".\n./Makefile\n./read me.txt\n./src\n./src/deep\n./src/deep/er\n./src/deep/er/big.bin\n"
+     "./src/main.c\n./src/util.h"),
+    ('find "$PROJECT" -type d | wc -l', 0, "4"),
+    ('find "$PROJECT" -name "*.h" -newermt 2000-01-01 -printf "%P %s %m\\n"', 0,
+     "src/util.h 11 600"),
+    ('stat -c "%F %a %h" "$PROJECT/src" "$PROJECT/src/main.c"', 0,
+     "directory 700 2\nregular file 600 1"),
+    ('[ -w "$PROJECT" ] && [ -w "$PROJECT/src" ] && [ ! -w "$ED/$P" ]', 0, ""),
+    ('[ -r "$VIEWED_PROJECT/src" ] && [ ! -w "$VIEWED_PROJECT/src" ]', 0, ""),
+    ('cd "$PROJECT/src/deep/er" && cd ../.. && pwd -P | tail -c 12', 0, "project/src"),
+    ('realpath --relative-to="$PROJECT" "$PROJECT/src/deep/../main.c"', 0, "src/main.c"),
+    ('du -sb --apparent-size "$PROJECT" | cut -f1', 0, "2000090"),
+    ('cat "$PROJECT/src/main.c"', 0, "int main() { return 0; } // hello"),
+    ('grep -rl hello "$PROJECT" | sed "s,.*project/,,"', 0, "src/main.c"),
+    ('cmp "$PROJECT/src/deep/er/big.bin" ' + ON_HOST + '/src/deep/er/big.bin', 0, ""),
+    ('cp -r "$PROJECT" copied && diff -r copied "$PROJECT" && find copied | wc -l', 0, "9"),
+    ('tar -C "$ED/$P" -cf - project | tar -tf - | sort | head -n 3', 0,
+     "project/\nproject/Makefile\nproject/read me.txt"),
+    ('diff -r "$PROJECT" "$HOST/by-app/org.ed/$P/project"', 0, ""),
+    ('diff -r "$PROJECT" "$VIEWED_PROJECT"', 0, ""),
+    ('cc -o built "$PROJECT/src/main.c" && ./built', 0, ""),
+    (PROJECT_TOOL, 0, ". ['src'] ['Makefile', 'read me.txt']\nsrc ['deep'] ['main.c', 'util.h']\n"
+                      "src/deep ['er'] []\nsrc/deep/er [] ['big.bin']\n['src/main.c']\n"
+                      "int main() { return 0; } // goodbye\n// new\n// late\n"
+                      "False ['deep', 'main.c', 'util.h']\nTrue True"),
+    (EDITOR + ' "$PROJECT/src/main.c" && cat ' + ON_HOST + '/src/main.c', 0,
+     "int main() { return 0; } // hello"),
+    ('echo more >> "$PROJECT/read me.txt" && cat ' + ON_HOST + '/read*', 0, "read me\nmore"),
+    ('touch "$PROJECT/src/new" && stat -c %s ' + ON_HOST + '/src/new', 0, "0"),
+    ('cp "$PROJECT/Makefile" "$PROJECT/src/deep/copy" && cd ' + ON_HOST
+     + ' && cmp Makefile src/deep/copy && rm src/deep/copy src/new; ls "$PROJECT/src"', 0,
+     "deep\nmain.c\nutil.h"),
+    # (what is made beside the file can't be removed or renamed again)
+    ('sed -i s/hello/bye/ "$PROJECT/src/main.c"', 4, ""),
+    ('cat "$PROJECT/src/main.c"; ls "$PROJECT/src" | grep -c "^sed"; rm ' + ON_HOST + '/src/sed*', 0,
+     "int main() { return 0; } // hello\n1"),
+    ('mkdir -p odd.d && cp -r odd.d "$PROJECT/src"', 1, ""),
+    ('set -C; echo x > "$PROJECT/Makefile"', 1, ""),
+    ('mkdir "$PROJECT/sub"', 1, ""),
+    ('rm -f "$PROJECT/Makefile"', 1, ""),
+    ('rmdir "$PROJECT/src/deep/er"', 1, ""),
+    ('mv "$PROJECT/Makefile" "$PROJECT/src/"', 1, ""),
+    ('ln -s Makefile "$PROJECT/link2"', 1, ""),
+    ('ls "$PROJECT/link"', 2, ""),
+    ('cat "$PROJECT/link"', 1, ""),
+    ('timeout 10 cat "$PROJECT/pipe"', 1, ""),
+    ('echo x > "$PROJECT/link"; cat ' + BOOK + ' | wc -c', 0, "5000000"),
+    ('timeout 10 bash -c "echo x > \\"$PROJECT/pipe\\""', 1, ""),
+    ('ls "$PROJECT/.."', 0, "project"),
+    ('echo x > "$ED/$P/other"', 1, ""),
+    ('echo x > "$VIEWED_PROJECT/src/main.c"', 1, ""),
+    ('echo x > "$VIEWED_PROJECT/src/new"', 1, ""),
+    ('cd "$HOST" && ls "$P/project/src" "by-app/org.view/$P/project/src" | sort -u', 0,
+     "\n$P/project/src:\nby-app/org.view/$P/project/src:\ndeep\nmain.c\nutil.h"),
 ]
