@@ -209,3 +209,20 @@ any-step q f g gs hs false e = grind arith
 pub any-put : (q : List ℕ → Bool) (f : File) (fs : List File) → list_any q (paths_of (put_file f fs)) ≡ (q f.path || list_any q (paths_of fs))
 any-put q f [] = refl
 any-put q f (g ∷ gs) = any-step q f g gs (put_file f gs) (is_lt (path_order f.path g.path)) (any-put q f gs)
+
+-- the same of what is asked of the whole file
+file_all_step : (r : File → Bool) (f g : File) (gs hs : List File) (b : Bool) → list_all r hs ≡ (r f && list_all r gs) → list_all r (cond b (f ∷ g ∷ gs) (g ∷ hs)) ≡ (r f && (r g && list_all r gs))
+file_all_step r f g gs hs true e = refl
+file_all_step r f g gs hs false e = grind arith
+
+pub all-put-file : (r : File → Bool) (f : File) (fs : List File) → list_all r (put_file f fs) ≡ (r f && list_all r fs)
+all-put-file r f [] = refl
+all-put-file r f (g ∷ gs) = file_all_step r f g gs (put_file f gs) (is_lt (path_order f.path g.path)) (all-put-file r f gs)
+
+file_any_step : (r : File → Bool) (f g : File) (gs hs : List File) (b : Bool) → list_any r hs ≡ (r f || list_any r gs) → list_any r (cond b (f ∷ g ∷ gs) (g ∷ hs)) ≡ (r f || (r g || list_any r gs))
+file_any_step r f g gs hs true e = refl
+file_any_step r f g gs hs false e = grind arith
+
+pub any-put-file : (r : File → Bool) (f : File) (fs : List File) → list_any r (put_file f fs) ≡ (r f || list_any r fs)
+any-put-file r f [] = refl
+any-put-file r f (g ∷ gs) = file_any_step r f g gs (put_file f gs) (is_lt (path_order f.path g.path)) (any-put-file r f gs)

@@ -17,6 +17,13 @@ is_nothing_or_dots (b ∷ []) = b == 46
 is_nothing_or_dots (b ∷ c ∷ []) = b == 46 && c == 46
 is_nothing_or_dots (b ∷ c ∷ d ∷ bs) = false
 
+-- "." or "..", by which a folder names itself and the one that it stands in
+abbrev pub is_dots : List ℕ → Bool
+is_dots [] = false
+is_dots (b ∷ []) = b == 46
+is_dots (b ∷ c ∷ []) = b == 46 && c == 46
+is_dots (b ∷ c ∷ d ∷ bs) = false
+
 -- ---- applications
 
 -- a letter, a digit, '.', '_' or '-'

@@ -5,16 +5,38 @@ ghost use Rattle.portal_base.specs.FileChanges.{overlaid};
 ghost use Rattle.tree_files.specs.Kept.{kept_resized, kept_written};
 
 use portal_base::list::ByteList;
-use portal_base::memory::WantOfMemory;
+use portal_base::memory::{Replica, WantOfMemory};
+use portal_base::names::HostPath;
+use std::alloc::Global;
 
-/// What is kept of a file, whose generation is 0: no file of a tree that tells its
-/// files ever goes, so each is the first of its path.
+/// What is kept of a file.
 #[derive(Drop)]
 pub struct KeptFile {
+    /// Which of the files that its path has had.
+    pub generation: u64,
     /// Its bytes.
     pub bytes: ByteList,
     /// When it changed last, in seconds.
     pub moment: u64,
+}
+
+/// A file that isn't present.
+#[derive(Drop)]
+pub struct HiddenFile {
+    /// The path at which it was made to stand, or stood.
+    pub path: HostPath,
+    /// The file.
+    pub kept: KeptFile,
+}
+
+impl Replica for KeptFile {
+    fn replica(&self, alloc: Global) -> Result<KeptFile, WantOfMemory> {
+        Ok(KeptFile {
+            generation: self.generation,
+            bytes: self.bytes.replica(alloc)?,
+            moment: self.moment,
+        })
+    }
 }
 
 impl KeptFile {
