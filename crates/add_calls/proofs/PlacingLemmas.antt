@@ -30,7 +30,7 @@ use Rattle.add_calls.specs.declared.give.Given.{Given}
 use Rattle.add_calls.specs.declared.place.Drawn.{Drawn}
 use Rattle.add_calls.specs.declared.place.Use.{Use}
 use Rattle.add_calls.specs.Giving.{GaveBoth, GaveListed, GaveOwn, HasRoomForBoth, HasRoomForCaller, HasRoomForNamed, caller_with}
-use Rattle.add_calls.specs.Placing.{Book, Drew, Finds, Follows, Found, HasDrawnUpTo, IsLastMade, IsLastUse, IsMade, Makes, Placed, PlacedItem, UsedAll, WasUsed, book_of, followed_at, none_drawn, with_lists}
+use Rattle.add_calls.specs.Placing.{Book, Drew, Finds, Follows, Found, HasDrawnUpTo, IsLastMade, IsLastUse, IsMade, Makes, Placed, PlacedItem, UsedAll, WasUsed, book_of, followed_at, none_drawn, with_lists, words_for, words_of}
 use Rattle.add_calls.specs.Limits.{HasRoomForAll, OwnHolds, OwnsHold, both_numbered, caller_numbered, exceeds_planned, has_document, named_numbered, numbered_by, uses_documents}
 use Rattle.add_calls.proofs.Counts.{numbered-length, numbered-once}
 use Rattle.add_calls.proofs.Giving.{front-back}
@@ -210,10 +210,10 @@ module _ (who : Who) (a : AddRequest) (plan : AddPlan) (item : PlanItem) (docume
   found-last (Earlier k) id f = tt
   found-last New id f = record { before = documents; last = new_document a id item.path; number = refl; added = f.added; new = f.unused.unused }
 
-  pub found-drawn : (place : PlanUse) (id : Option DocId) → Found a item.path place id documents after told told_after drawn drawn_after → HasDrawnUpTo 1 told told_after
-  found-drawn LeftOut id f = drew-none 1 told told_after f.undrawn
-  found-drawn (Live live) id f = drew-none 1 told told_after f.undrawn
-  found-drawn (Earlier k) id f = drew-none 1 told told_after f.undrawn
+  pub found-drawn : (place : PlanUse) (id : Option DocId) → Found a item.path place id documents after told told_after drawn drawn_after → HasDrawnUpTo (words_of place) told told_after
+  found-drawn LeftOut id f = drew-none 0 told told_after f.undrawn
+  found-drawn (Live live) id f = drew-none 0 told told_after f.undrawn
+  found-drawn (Earlier k) id f = drew-none 0 told told_after f.undrawn
   found-drawn New None f = absurd f
   found-drawn New (Some id) f = drew-one told told_after f.word f.draws
 
@@ -312,60 +312,74 @@ room-rest who a plan items item rest (Some used) before after e h w =
     let all : new_left items ≡ cond (is_new item.place) 1 0 + new_left rest = ap new_left e ∙ one-and-rest item rest in
     room-by a item.path item.place used.id before.documents after.documents (new_left rest) (subst (λ (n : ℕ). n ≤ room before.documents) all h) w.made
 
--- ---- words, one for a file at most
+-- ---- words, one for a new document at most
 
-made-more : (a : AddRequest) (path : List ℕ) (place : PlanUse) (id : DocId) (d e : DocumentList) → IsMade a path place id d e → length e.made ≤ length d.made + 1
-made-more a path LeftOut id d e m = let same : length e.made ≡ length d.made = ap (λ (x : DocumentList). length x.made) m in omega arith
-made-more a path (Live live) id d e m = let same : length e.made ≡ length d.made = ap (λ (x : DocumentList). length x.made) m in omega arith
-made-more a path (Earlier k) id d e m = let same : length e.made ≡ length d.made = ap (λ (x : DocumentList). length x.made) m in omega arith
+no-less : (x y n : ℕ) → y ≡ x → y ≤ x + n
+no-less x y n e = omega arith
+
+made-more : (a : AddRequest) (path : List ℕ) (place : PlanUse) (id : DocId) (d e : DocumentList) → IsMade a path place id d e → length e.made ≤ length d.made + words_of place
+made-more a path LeftOut id d e m = no-less (length d.made) (length e.made) 0 (ap (λ (x : DocumentList). length x.made) m)
+made-more a path (Live live) id d e m = no-less (length d.made) (length e.made) 0 (ap (λ (x : DocumentList). length x.made) m)
+made-more a path (Earlier k) id d e m = no-less (length d.made) (length e.made) 0 (ap (λ (x : DocumentList). length x.made) m)
 made-more a path New id d e m =
     let made : length e.made ≡ length d.made + 1 = ap (λ (x : DocumentList). length x.made) m ∙ length-append d.made (id ∷ []) in
-    omega arith
+    let most : length e.made ≤ length d.made + 1 = omega (arith, made) in
+    most
 
-used-made : (who : Who) (a : AddRequest) (plan : AddPlan) (item : PlanItem) (used : Option Use) (before after : Book) → WasUsed who a plan item used before after → length after.documents.made ≤ length before.documents.made + 1
-used-made who a plan item None before after w = let same : length after.documents.made ≡ length before.documents.made = ap (λ (b : Book). length b.documents.made) w in omega arith
+used-made : (who : Who) (a : AddRequest) (plan : AddPlan) (item : PlanItem) (used : Option Use) (before after : Book) → WasUsed who a plan item used before after → length after.documents.made ≤ length before.documents.made + words_of item.place
+used-made who a plan item None before after w = no-less (length before.documents.made) (length after.documents.made) (words_of item.place) (ap (λ (b : Book). length b.documents.made) w)
 used-made who a plan item (Some used) before after w = made-more a item.path item.place used.id before.documents after.documents w.made
 
+-- so many words of one file and of those behind it
+one-few : (words numbers before after one : ℕ) → after ≡ before + numbers → words ≡ numbers → after ≤ before + one → words ≤ one
+one-few words numbers before after one made same more = omega arith
+
+both-few : (word words both one rest all : ℕ) → both ≡ word + words → word ≤ one → words ≤ rest → all ≡ one + rest → both ≤ all
+both-few word words both one rest all b w ws e = omega arith
+
+first-few : (word one rest all : ℕ) → word ≤ one → all ≡ one + rest → word ≤ all
+first-few word one rest all w e = omega arith
+
+further : (before mid after one rest all : ℕ) → mid ≤ before + one → after ≤ mid + rest → all ≡ one + rest → after ≤ before + all
+further before mid after one rest all h k e = omega arith
+
+first-words : (items : List PlanItem) (item : PlanItem) (rest : List PlanItem) → items ≡ item ∷ rest → words_for items ≡ words_of item.place + words_for rest
+first-words items item rest e = ap new_left e ∙ one-and-rest item rest
+
 module _ (who : Who) (a : AddRequest) (plan : AddPlan) (item : PlanItem) (used : Option Use) (before mid : Book) (told told_mid : Option (List ℕ)) (drawn drawn_mid : Drawn) (p : PlacedItem who a plan item used before mid told told_mid drawn drawn_mid) where
-  one-word : length p.placed.words ≤ 1
+  one-word : length p.placed.words ≤ words_of item.place
   one-word =
       let made : length mid.documents.made ≡ length before.documents.made + length p.placed.numbers = ap (λ (l : List DocId). length l) p.placed.made ∙ length-append before.documents.made p.placed.numbers in
       let same : length p.placed.words ≡ length p.placed.numbers = drawn-length before.documents.made p.placed.words p.placed.numbers p.placed.drawn_for in
-      let more = used-made who a plan item used before mid p.undone in
-      omega (arith, made, same, more)
+      one-few (length p.placed.words) (length p.placed.numbers) (length before.documents.made) (length mid.documents.made) (words_of item.place) made same (used-made who a plan item used before mid p.undone)
 
   -- behind a file that was placed
-  pub drew-behind : (items rest : List PlanItem) (told_after : Option (List ℕ)) → items ≡ item ∷ rest → HasDrawnUpTo (length rest) told_mid told_after → HasDrawnUpTo (length items) told told_after
-  drew-behind items rest told_after e d =
-      let all : length items ≡ length (item ∷ rest) = ap (λ (l : List PlanItem). length l) e in
-      let both : length (p.placed.words ++ d.0) ≡ length p.placed.words + length d.0 = length-append p.placed.words d.0 in
-      let few : length (p.placed.words ++ d.0) ≤ length items = omega (arith, all, both, one-word, d.2) in
-      (p.placed.words ++ d.0, drew-joined told told_mid told_after p.placed.words d.0 p.placed.drew d.1, few)
+  pub drew-behind : (items rest : List PlanItem) (told_after : Option (List ℕ)) → items ≡ item ∷ rest → HasDrawnUpTo (words_for rest) told_mid told_after → HasDrawnUpTo (words_for items) told told_after
+  drew-behind items rest told_after e d = (
+    p.placed.words ++ d.0,
+    drew-joined told told_mid told_after p.placed.words d.0 p.placed.drew d.1,
+    both-few (length p.placed.words) (length d.0) (length (p.placed.words ++ d.0)) (words_of item.place) (words_for rest) (words_for items) (length-append p.placed.words d.0) one-word d.2 (first-words items item rest e),
+  )
 
 -- by the first of some files
-pub drew-first : (items : List PlanItem) (item : PlanItem) (rest : List PlanItem) (old new : Option (List ℕ)) → items ≡ item ∷ rest → HasDrawnUpTo 1 old new → HasDrawnUpTo (length items) old new
-drew-first items item rest old new e d =
-    let all : length items ≡ length (item ∷ rest) = ap (λ (l : List PlanItem). length l) e in
-    let few : length d.0 ≤ length items = omega (arith, all, d.2) in
-    (d.0, d.1, few)
+pub drew-first : (items : List PlanItem) (item : PlanItem) (rest : List PlanItem) (old new : Option (List ℕ)) → items ≡ item ∷ rest → HasDrawnUpTo (words_of item.place) old new → HasDrawnUpTo (words_for items) old new
+drew-first items item rest old new e d = (d.0, d.1, first-few (length d.0) (words_of item.place) (words_for rest) (words_for items) d.2 (first-words items item rest e))
 
-used-all-made : (who : Who) (a : AddRequest) (plan : AddPlan) (items : List PlanItem) (uses : List (Option Use)) (before after : Book) → UsedAll who a plan items uses before after → length after.documents.made ≤ length before.documents.made + length items
-used-all-made who a plan [] uses before after u = let same : length after.documents.made ≡ length before.documents.made = ap (λ (b : Book). length b.documents.made) u in omega arith
+used-all-made : (who : Who) (a : AddRequest) (plan : AddPlan) (items : List PlanItem) (uses : List (Option Use)) (before after : Book) → UsedAll who a plan items uses before after → length after.documents.made ≤ length before.documents.made + words_for items
+used-all-made who a plan [] uses before after u = no-less (length before.documents.made) (length after.documents.made) (words_for []) (ap (λ (b : Book). length b.documents.made) u)
 used-all-made who a plan (item ∷ items) [] before after u = absurd u
 used-all-made who a plan (item ∷ items) (used ∷ uses) before after u =
     let mid : Book = u.0 in
-    let one : length mid.documents.made ≤ length before.documents.made + 1 = used-made who a plan item used before mid u.1 in
-    let rest : length after.documents.made ≤ length mid.documents.made + length items = used-all-made who a plan items uses mid after u.3 in
-    omega arith
+    further (length before.documents.made) (length mid.documents.made) (length after.documents.made) (words_of item.place) (words_for items) (words_for (item ∷ items))
+    (used-made who a plan item used before mid u.1) (used-all-made who a plan items uses mid after u.3) (one-and-rest item items)
 
 -- a plan that was followed
 pub drew-followed : (who : Who) (a : AddRequest) (plan : AddPlan) (before after : Book) (told told_after : Option (List ℕ)) (drawn : Drawn) (uses : List (Option Use)) → Follows who a plan before after told told_after drawn → UsedAll who a plan plan.items uses before after →
-    HasDrawnUpTo (length plan.items) told told_after
+    HasDrawnUpTo (words_for plan.items) told told_after
 drew-followed who a plan before after told told_after drawn uses f u =
     let made : length after.documents.made ≡ length before.documents.made + length drawn.numbers = ap (λ (l : List DocId). length l) f.made ∙ length-append before.documents.made drawn.numbers in
     let same : length drawn.words ≡ length drawn.numbers = drawn-length before.documents.made drawn.words drawn.numbers f.drawn_for in
-    let more : length after.documents.made ≤ length before.documents.made + length plan.items = used-all-made who a plan plan.items uses before after u in
-    let few : length drawn.words ≤ length plan.items = omega arith in
+    let few = one-few (length drawn.words) (length drawn.numbers) (length before.documents.made) (length after.documents.made) (words_for plan.items) made same (used-all-made who a plan plan.items uses before after u) in
     (drawn.words, f.drew, few)
 
 -- ---- room for applications

@@ -1,6 +1,7 @@
 -- The files of a plan placed one after another: what becomes of the portal's own lists, of the
 -- words and of what is told of both.
-use Rattle.std.specs.Prelude.{◌≡◌, ◌<◌, ◌≤◌, ◌^◌, ℕ, List, [], ◌∷◌, ◌++◌, fold, length, Option, Some, None, is_some}
+use Rattle.std.specs.Prelude.{◌≡◌, ◌<◌, ◌≤◌, ◌^◌, ℕ, List, [], ◌∷◌, ◌++◌, fold, length, cond, Option, Some, None, is_some}
+use Rattle.std.specs.List.{count_by}
 use Rattle.portal_base.specs.Outside.{Draws}
 use Rattle.portal_base.specs.declared.names.doc_id.DocId.{DocId}
 use Rattle.portal_base.specs.declared.who.Who.{Who}
@@ -11,7 +12,7 @@ use Rattle.portal_model.specs.Documents.{IsUnused}
 use Rattle.portal_model.specs.Outside.{AreDrawn}
 use Rattle.portal_model.specs.State.{State}
 use Rattle.document_records.specs.Documents.{DocumentList, IsLast, with_document}
-use Rattle.add_files.specs.Plans.{Followed, document_at, follow_item, followed}
+use Rattle.add_files.specs.Plans.{Followed, document_at, follow_item, followed, is_new}
 use Rattle.add_files.specs.declared.plan.AddPlan.{AddPlan}
 use Rattle.add_files.specs.declared.plan.PlanItem.{PlanItem}
 use Rattle.add_files.specs.declared.plan.PlanUse.{PlanUse}
@@ -58,6 +59,14 @@ HasDrawn old new = (words : List ℕ) × Drew old words new
 -- the same, so many words at most
 abbrev pub HasDrawnUpTo : ℕ → Option (List ℕ) → Option (List ℕ) → Type 0
 HasDrawnUpTo most old new = (words : List ℕ) × Drew old words new × (length words ≤ most)
+
+-- how many words are drawn for a file at most: one where its document is new
+abbrev pub words_of : PlanUse → ℕ
+words_of place = cond (is_new place) 1 0
+
+-- and for files, one for each whose document is new
+abbrev pub words_for : List PlanItem → ℕ
+words_for items = count_by (λ item. is_new item.place) items
 
 -- ---- the document of a file
 

@@ -9,7 +9,7 @@ ghost use Rattle.add_files.specs.declared.plan.PlanUse.TheVariants.{New};
 ghost use Rattle.add_files.specs.Plans.{IsOfCall, document_at, is_new};
 ghost use Rattle.add_calls.specs.Giving.{HasRoomForBoth};
 ghost use Rattle.add_calls.specs.Limits.{HasRoomForAll, OwnsHold, exceeds_planned, has_document};
-ghost use Rattle.add_calls.specs.Placing.{Book, Follows, Found, HasDrawnUpTo, IsLastMade, IsLastUse, IsMade, Placed, PlacedItem, UsedAll, WasUsed, WerePlaced, book_of, none_drawn, with_drawn, with_told};
+ghost use Rattle.add_calls.specs.Placing.{Book, Follows, Found, HasDrawnUpTo, IsLastMade, IsLastUse, IsMade, Placed, PlacedItem, UsedAll, WasUsed, WerePlaced, book_of, none_drawn, with_drawn, with_told, words_for, words_of};
 
 use crate::give::{GivenBoth, give_both, take_both_back};
 use add_files::{AddPlan, PlanItem, PlanUse};
@@ -56,7 +56,7 @@ pub(crate) struct Use {
 /// are made with the numbers that are drawn for them, and rights are given.
 ///
 /// Where there is no memory all of it is taken back, but for the words that
-/// were drawn.
+/// were drawn, one for each new document at most.
 pub fn place_all<W: Words>(
     alloc: Global,
     who: &Who,
@@ -80,7 +80,7 @@ pub fn place_all<W: Words>(
     ensures rights { OnErr result (grants.new ≡ grants.old) }
     ensures applications { OnErr result (applications.new ≡ applications.old) }
     ensures words { OnErr result
-        (HasDrawnUpTo (length plan.now.items) (W.told words.old) (W.told words.new)) }
+        (HasDrawnUpTo (words_for plan.now.items) (W.told words.old) (W.told words.new)) }
 {
     let mut uses = match no_uses(alloc, plan.items.len()) {
         Ok(uses) => uses,
@@ -210,7 +210,8 @@ pub(crate) fn place_from<W: Words>(
     ensures rights { OnErr result (grants.new ≡ grants.old) }
     ensures applications { OnErr result (applications.new ≡ applications.old) }
     ensures words { OnErr result
-        (HasDrawnUpTo (length (drop at plan.now.items)) (W.told words.old) (W.told words.new)) }
+        (HasDrawnUpTo (words_for (drop at plan.now.items)) (W.told words.old)
+        (W.told words.new)) }
 {
     let items = plan.items.as_slice();
     if at >= items.len() {
@@ -275,7 +276,8 @@ fn place_item<W: Words>(
     ensures documents { OnErr result (documents.new ≡ documents.old) }
     ensures rights { OnErr result (grants.new ≡ grants.old) }
     ensures applications { OnErr result (applications.new ≡ applications.old) }
-    ensures words { OnErr result (HasDrawnUpTo 1 (W.told words.old) (W.told words.new)) }
+    ensures words { OnErr result
+        (HasDrawnUpTo (words_of item.now.place) (W.told words.old) (W.told words.new)) }
 {
     let id = match find_document(alloc, add, item, documents, words, drawn) {
         Ok(Some(id)) => id,
@@ -355,7 +357,8 @@ fn find_document<W: Words>(
     ensures ok { IfOk result (λ id. Found add.now item.now.path item.now.place id documents.old
         documents.new (W.told words.old) (W.told words.new) drawn.old drawn.new) }
     ensures documents { OnErr result (documents.new ≡ documents.old) }
-    ensures words { OnErr result (HasDrawnUpTo 1 (W.told words.old) (W.told words.new)) }
+    ensures words { OnErr result
+        (HasDrawnUpTo (words_of item.now.place) (W.told words.old) (W.told words.new)) }
 {
     match item.place {
         PlanUse::LeftOut => told(drawn, None),

@@ -37,7 +37,7 @@ use Rattle.add_files.specs.declared.plan.AddError.{AddError}
 use Rattle.add_files.specs.declared.plan.AddError.TheVariants.{InvalidArgument, NotAllowed, Memory}
 use Rattle.add_files.specs.declared.plan.AddPlan.{AddPlan}
 use Rattle.add_calls.specs.Limits.{exceeds_planned}
-use Rattle.add_calls.specs.Placing.{Book, followed_at, with_lists}
+use Rattle.add_calls.specs.Placing.{Book, HasDrawnUpTo, followed_at, with_lists}
 use Rattle.add_calls.specs.Shown.{Shows}
 use Rattle.add_calls.proofs.Counts.{as-planned}
 use Rattle.add_calls.proofs.ShownLemmas.{gives-shown, walked-shown}
@@ -48,7 +48,7 @@ use Rattle.document_calls.specs.declared.served.ServedCall.{ServedCall}
 use Rattle.document_calls.proofs.QueueSteps.{same-queue, same-queues}
 use Rattle.document_calls.proofs.ServedSteps.{same-told, walk-serves}
 use Rattle.record_keeper.specs.Keepers.{KeeperIs, after_call}
-use Rattle.add_serving.specs.Adds.{Adds, IsPlanOf, IsReached, PlacedKept, left_by}
+use Rattle.add_serving.specs.Adds.{Adds, DrewNoMore, IsPlanOf, IsReached, PlacedKept, documents_made, left_by}
 use Rattle.add_serving.specs.Changes.{AppliedWhere, changes_of, plan_changes}
 use Rattle.add_serving.specs.Outcomes.{full_call, placed_call, queue_left, refusal, refused_call, undrawn, unseen_call}
 use Rattle.add_serving.specs.declared.outcomes.AddedFiles.{AddedFiles}
@@ -336,13 +336,12 @@ module _ (s : State) (c : Connection) (v : Valid s) (queue : List (List ℕ)) (m
   left-queue Fault.Tree a book = ap (λ (u : State). record (with_lists s book) { connections = u.connections }) (sym (same-queue s c v queue most q))
   left-queue Fault.Keeper a book = ap (λ (u : State). record (with_lists s book) { connections = u.connections }) (sym (same-queue s c v queue most q))
 
-pub add-follows : (a : AddRequest) (who : Who) (queue paths queue_after : List (List ℕ)) (before after : Book) (told : Option (List File)) (old new : KeeperIs) (served : ServedCall) →
-    are_presented queue a ≡ true → paths ≡ take a.fds queue → queue_after ≡ queue_left served.given.fault a.fds queue → Adds a who paths before after told old new served →
-    (s : State) (c : Connection) → IsBook s before.documents before.rights before.applications → IsQueue s c queue s.limits.queued → files_told s ≡ told → Valid s → c.who ≡ who →
-    ServesKept s c (Request.Add a) served.given (queue_set (with_book s after.documents after.rights after.applications) c queue_after) served.answer old new
-add-follows a who queue paths queue_after before after told old new served p t l adds s c b q f v w =
+-- a call that names presented files is reached
+reached-so : (s : State) (c : Connection) (a : AddRequest) (who : Who) (queue paths : List (List ℕ)) (before : Book) (told : Option (List File)) → are_presented queue a ≡ true → paths ≡ take a.fds queue → IsBook s before.documents before.rights before.applications → IsQueue s c queue s.limits.queued →
+    files_told s ≡ told → Valid s → c.who ≡ who → IsReached s c a who paths before told
+reached-so s c a who queue paths before told p t b q f v w =
     let presented : are_presented c.queue a ≡ true = ap (λ (qs : List (List ℕ)). are_presented qs a) q.own ∙ p in
-    let reached : IsReached s c a who paths before told = record {
+    record {
       asked = record {
         live = b.live;
         held = b.held;
@@ -354,10 +353,21 @@ add-follows a who queue paths queue_after before after told old new served p t l
       files = f;
       valid = v;
       presented = presented;
-    } in
+    }
+
+pub add-follows : (a : AddRequest) (who : Who) (queue paths queue_after : List (List ℕ)) (before after : Book) (told : Option (List File)) (old new : KeeperIs) (served : ServedCall) →
+    are_presented queue a ≡ true → paths ≡ take a.fds queue → queue_after ≡ queue_left served.given.fault a.fds queue → Adds a who paths before after told old new served →
+    (s : State) (c : Connection) → IsBook s before.documents before.rights before.applications → IsQueue s c queue s.limits.queued → files_told s ≡ told → Valid s → c.who ≡ who →
+    ServesKept s c (Request.Add a) served.given (queue_set (with_book s after.documents after.rights after.applications) c queue_after) served.answer old new
+add-follows a who queue paths queue_after before after told old new served p t l adds s c b q f v w =
     subst (λ (t : State). ServesKept s c (Request.Add a) served.given t served.answer old new)
     (left-queue s c v queue s.limits.queued q served.given.fault a after ∙ ap (queue_set (with_lists s after) c) (sym l))
-    (adds s c reached)
+    (adds s c (reached-so s c a who queue paths before told p t b q f v w))
+
+-- and where it is refused, no more words were drawn than documents are made by it
+pub add-draws : (a : AddRequest) (who : Who) (queue paths : List (List ℕ)) (before : Book) (told : Option (List File)) (old new : Option (List ℕ)) → are_presented queue a ≡ true → paths ≡ take a.fds queue → DrewNoMore a who paths before told old new →
+    (s : State) (c : Connection) → IsBook s before.documents before.rights before.applications → IsQueue s c queue s.limits.queued → files_told s ≡ told → Valid s → c.who ≡ who → HasDrawnUpTo (documents_made s c a) old new
+add-draws a who queue paths before told old new p t drew s c b q f v w = drew s c (reached-so s c a who queue paths before told p t b q f v w)
 
 pub not-presented : (a : AddRequest) (who : Who) (queue : List (List ℕ)) (before : Book) (told : Option (List File)) (k : KeeperIs) (served : ServedCall) → are_presented queue a ≡ false → served ≡ refused_call Code.InvalidArgs [] →
     (s : State) (c : Connection) → IsBook s before.documents before.rights before.applications → IsQueue s c queue s.limits.queued → files_told s ≡ told → Valid s → c.who ≡ who →

@@ -1,5 +1,5 @@
 -- An addition that is served, over the portal's lists, the tree, the words and the keeper.
-use Rattle.std.specs.Prelude.{◌≡◌, ◌+◌, ◌≤◌, ℕ, List, drop, length, map, nat_le, true, false, cond, Option}
+use Rattle.std.specs.Prelude.{◌≡◌, ◌+◌, ◌-◌, ◌≤◌, ℕ, List, [], drop, length, map, nat_le, true, false, cond, Option}
 use Rattle.portal_base.specs.declared.files.File.{File}
 use Rattle.portal_base.specs.declared.who.Who.{Who}
 use Rattle.host_tree.specs.Trees.{TreeIs}
@@ -9,12 +9,13 @@ use Rattle.portal_model.specs.declared.request.Request.{Request}
 use Rattle.portal_model.specs.declared.state.Connection.{Connection}
 use Rattle.portal_model.specs.declared.state.Document.{Document}
 use Rattle.portal_model.specs.declared.state.Triple.{Triple}
+use Rattle.portal_model.specs.Add.{added_files}
 use Rattle.portal_model.specs.AddArguments.{are_presented, files_limit}
 use Rattle.portal_model.specs.Outside.{files_told}
 use Rattle.portal_model.specs.Present.{with_queue}
 use Rattle.portal_model.specs.State.{State}
 use Rattle.portal_model.specs.Valid.{Valid}
-use Rattle.add_calls.specs.Placing.{Book, Follows, with_lists}
+use Rattle.add_calls.specs.Placing.{Book, Follows, HasDrawnUpTo, with_lists}
 use Rattle.add_calls.specs.Shown.{Asked}
 use Rattle.add_files.specs.Plans.{IsAsked, IsPlan, id_told}
 use Rattle.add_files.specs.declared.plan.AddPlan.{AddPlan}
@@ -36,6 +37,11 @@ most_looks a =
 -- how many words it draws at most: one for each file
 abbrev pub most_words : AddRequest → ℕ
 most_words a = cond (nat_le (length a.handles) files_limit) (length a.handles) 0
+
+-- How many documents it makes over this connection, where nothing is refused. That doesn't depend
+-- on the numbers that they get.
+abbrev pub documents_made : State → Connection → AddRequest → ℕ
+documents_made s c a = length (added_files s c a []).state.documents - length s.documents
 
 -- the tree was asked so many times at most, and no call failed
 abbrev pub WasAsked : ℕ → TreeIs → TreeIs → Type 0
@@ -63,6 +69,13 @@ Adds a who paths before after told old new served =
     (s : State) (c : Connection) → IsReached s c a who paths before told →
     ServesKept s c (Request.Add a) served.given
     (left_by served.given.fault c a (with_lists s after)) served.answer old new
+
+-- no more words were drawn than documents are made by the call, in any such state
+abbrev pub DrewNoMore : AddRequest → Who → List (List ℕ) → Book → Option (List File) →
+    Option (List ℕ) → Option (List ℕ) → Type 0
+DrewNoMore a who paths before told old new =
+    (s : State) (c : Connection) → IsReached s c a who paths before told →
+    HasDrawnUpTo (documents_made s c a) old new
 
 -- what a plan is in any state with these records
 abbrev pub IsPlanOf : Who → AddRequest → List (List ℕ) → List Document → List Triple → AddPlan →

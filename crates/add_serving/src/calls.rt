@@ -15,7 +15,7 @@ ghost use Rattle.add_calls.specs.Shown.{Asked, Shows};
 ghost use Rattle.add_files.specs.Arguments.{are_few};
 ghost use Rattle.add_files.specs.Items.{are_below, paths_of, presented_of};
 ghost use Rattle.add_files.specs.Plans.{IsOfCall};
-ghost use Rattle.add_serving.specs.Adds.{Adds, IsPlanOf, WasAsked, most_looks, most_words};
+ghost use Rattle.add_serving.specs.Adds.{Adds, DrewNoMore, IsPlanOf, WasAsked, documents_made, most_looks, most_words};
 ghost use Rattle.document_calls.specs.Books.{IsBook, IsQueue, queue_set, with_book};
 ghost use Rattle.document_calls.specs.Changes.{SameLimits};
 ghost use Rattle.document_calls.specs.KeeperCalls.{KeeperStays, ServesKept};
@@ -51,7 +51,7 @@ use std::alloc::Global;
 ///
 /// Want of memory leaves the lists and the queue as they were. Before it the tree
 /// showed each file of the call at most, or each folder and the file in it, and one
-/// word was drawn for each file at most.
+/// word was drawn for each file at most: no more than the documents that the call makes.
 pub fn add<T: HostTree, W: Words, K: Keeper>(
     alloc: Global,
     documents: &mut Documents,
@@ -84,6 +84,11 @@ pub fn add<T: HostTree, W: Words, K: Keeper>(
         (WasAsked (most_looks add.now) (T.is tree.old) (T.is tree.new)) }
     ensures words { OnErr result
         (HasDrawnUpTo (most_words add.now) (W.told words.old) (W.told words.new)) }
+    ensures made { OnErr result ((s : State) (c : Connection) →
+        IsBook s documents.old grants.old applications.old →
+        IsQueue s c queue.old s.limits.queued → files_told s ≡ (T.is tree.old).told →
+        Valid s → c.who ≡ who.now →
+        HasDrawnUpTo (documents_made s c add.now) (W.told words.old) (W.told words.new)) }
     ensures keeper { OnErr result (KeeperStays (K.is keeper.old) (K.is keeper.new)) }
 {
     if !are_presented(queue.as_slice(), add) {
@@ -139,6 +144,9 @@ fn add_presented<T: HostTree, W: Words, K: Keeper>(
         (WasAsked (most_looks add.now) (T.is tree.old) (T.is tree.new)) }
     ensures words { OnErr result
         (HasDrawnUpTo (most_words add.now) (W.told words.old) (W.told words.new)) }
+    ensures made { OnErr result (DrewNoMore add.now who.now paths.now
+        (book_of documents.old grants.old applications.old) (T.is tree.old).told
+        (W.told words.old) (W.told words.new)) }
     ensures keeper { OnErr result (KeeperStays (K.is keeper.old) (K.is keeper.new)) }
 {
     match plan_add(alloc, documents, grants, who, add, paths) {
@@ -195,6 +203,9 @@ fn add_planned<T: HostTree, W: Words, K: Keeper>(
         (WasAsked (most_looks add.now) (T.is tree.old) (T.is tree.new)) }
     ensures words { OnErr result
         (HasDrawnUpTo (most_words add.now) (W.told words.old) (W.told words.new)) }
+    ensures made { OnErr result (DrewNoMore add.now who.now paths.now
+        (book_of documents.old grants.old applications.old) (T.is tree.old).told
+        (W.told words.old) (W.told words.new)) }
     ensures keeper { OnErr result (KeeperStays (K.is keeper.old) (K.is keeper.new)) }
 {
     let shown = match look(alloc, tree, add, paths, plan) {

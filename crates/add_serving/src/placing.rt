@@ -2,7 +2,7 @@
 
 ghost use Rattle.std.specs.Prelude.{◌≡◌, ◌∷◌, ◌++◌, [], ◌≤◌, length, map, IfOk, OnOk, OnErr, false};
 ghost use Rattle.add_calls.specs.Limits.{exceeds_planned};
-ghost use Rattle.add_calls.specs.Placing.{HasDrawnUpTo, book_of};
+ghost use Rattle.add_calls.specs.Placing.{HasDrawnUpTo, book_of, words_for};
 ghost use Rattle.add_files.specs.Plans.{IsOfCall, id_told};
 ghost use Rattle.add_serving.specs.Adds.{PlacedKept};
 ghost use Rattle.add_serving.specs.Changes.{AppliedWhere, changes_of, plan_changes};
@@ -49,7 +49,7 @@ pub(crate) fn place_kept<W: Words, K: Keeper>(
     ensures grants { OnErr result (grants.new ≡ grants.old) }
     ensures applications { OnErr result (applications.new ≡ applications.old) }
     ensures words { OnErr result
-        (HasDrawnUpTo (length plan.now.items) (W.told words.old) (W.told words.new)) }
+        (HasDrawnUpTo (words_for plan.now.items) (W.told words.old) (W.told words.new)) }
     ensures keeper { OnErr result (KeeperStays (K.is keeper.old) (K.is keeper.new)) }
 {
     let asks = plan_changes(documents, grants, who, add, plan);

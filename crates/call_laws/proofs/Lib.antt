@@ -5,6 +5,7 @@ mod Requests
 pub mod Signals
 mod StoreAnswers
 pub mod Calls
+pub mod LittleAnswers
 mod Sizes
 mod Shifts
 mod StoreCosts

@@ -1,7 +1,12 @@
 -- What the portal answers to calls (XDG Desktop Portal documentation,
 -- "org.freedesktop.portal.Documents" and "org.freedesktop.impl.portal.PermissionStore").
-use Rattle.std.specs.Prelude.{◌≡◌, ℕ, ◌*◌, ◌≤◌, List, length, true}
+use Rattle.std.specs.Prelude.{◌≡◌, ◌≢◌, ℕ, ◌*◌, ◌≤◌, List, length, true, None, Ok}
 use Rattle.std.specs.List.{list_all}
+use Rattle.bus_answers.specs.Little.{is_little, kind_of}
+use Rattle.bus_answers.specs.declared.kind.ReturnKind.TheVariants.{Data}
+use Rattle.dbus_calls.specs.Calls.{found}
+use Rattle.dbus_calls.specs.declared.method.Method.{Method}
+use Rattle.dbus_dispatch.specs.Replies.{error_in}
 use Rattle.portal_base.specs.declared.limits.Settings.{Settings}
 use Rattle.dbus_types.specs.declared.message.Message.{Message}
 use Rattle.dbus_message.specs.Messages.{IsMessage}
@@ -20,6 +25,14 @@ use Rattle.dbus_dispatch.specs.Writable.{IsToldTo}
 abbrev pub AnswersAreTold : Type 0
 AnswersAreTold = (settings : Settings) (call : Message) (s : State) (e : Entry) → Valid s →
     ask_of settings call ≡ Portal e.request → IsToldTo call (reply_at s e).answer
+
+-- Whatever the outside gave: the answer to a call that may change something tells little, where it
+-- is no error.
+abbrev pub AnswersAreLittle : Type 0
+AnswersAreLittle = (settings : Settings) (call : Message) (method : Method) (s : State)
+    (e : Entry) → ask_of settings call ≡ Portal e.request → found call ≡ Ok method →
+    kind_of method ≢ Data → error_in (reply_at s e).answer ≡ None →
+    is_little method (reply_at s e).answer ≡ true
 
 -- The changes that ride in the reply to an entry tell of entries that are valid, or were.
 abbrev pub SignalsAreTold : Type 0

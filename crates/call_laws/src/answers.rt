@@ -1,6 +1,6 @@
 //! Laws of what calls ask, and of the answers to them.
 
-ghost use Rattle.call_laws.specs.Answers.{AnswersAreTold, CallsAskOnRecords, CallsCostLittle, SignalsAreTold};
+ghost use Rattle.call_laws.specs.Answers.{AnswersAreLittle, AnswersAreTold, CallsAskOnRecords, CallsCostLittle, SignalsAreTold};
 
 /// In every valid state, the answer of a step of the request that a call asks
 /// is one that can be told to this call: its texts are texts of D-Bus, and it
@@ -8,6 +8,13 @@ ghost use Rattle.call_laws.specs.Answers.{AnswersAreTold, CallsAskOnRecords, Cal
 /// written.
 pub fn answers_are_told()
     ensures { AnswersAreTold }
+{}
+
+/// The answer of a step of the request that a call asks which may change something
+/// tells little, where it is no error: that it is done, a place, or identifiers of
+/// at most 16 files. So memory for it can be taken before the request is asked.
+pub fn answers_are_little()
+    ensures { AnswersAreLittle }
 {}
 
 /// In every valid state, the changes that ride in the reply of a step tell of

@@ -26,7 +26,7 @@ use std::alloc::Global;
 
 /// The values that a call of a method returns with this answer. None where it
 /// is an error.
-pub(crate) fn body_of(
+pub fn body_of(
     alloc: Global,
     method: Method,
     mountpoint: &[u8],
@@ -146,7 +146,7 @@ fn texts_value(alloc: Global, texts: &[Text]) -> Result<Value, WantOfMemory>
 }
 
 /// The mount point under its key, as `a{sv}`.
-fn extra(alloc: Global, mountpoint: &[u8]) -> Result<Value, WantOfMemory>
+pub fn extra(alloc: Global, mountpoint: &[u8]) -> Result<Value, WantOfMemory>
     ensures { IfOk result (λ value. value ≡ extra mountpoint.now) }
 {
     let key = Value::Str(Text::copied(alloc, "mountpoint")?);

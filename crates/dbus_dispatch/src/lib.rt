@@ -27,7 +27,7 @@
 #![tactic(auto)]
 
 pub mod ask;
-mod body;
+pub mod body;
 pub mod laws;
 pub mod properties;
 pub mod refused;

@@ -1,9 +1,9 @@
 -- Messages that are written.
-use Rattle.std.proofs.Common.{◌≡◌, ℕ, zero, suc, ◌+◌, ◌-◌, ◌%◌, ◌^◌, ◌<◌, true, List, [], ◌∷◌, ◌++◌, length, map, take, drop, replicate, refl, sym, ap, ◌∙◌, append_assoc, arith}
+use Rattle.std.proofs.Common.{◌≡◌, ℕ, zero, suc, ◌+◌, ◌-◌, ◌%◌, ◌^◌, ◌<◌, ◌≤◌, true, List, [], ◌∷◌, ◌++◌, length, map, take, drop, replicate, refl, sym, ap, ◌∙◌, append_assoc, arith}
 use Rattle.std.specs.Prelude.{◌==◌}
 use Rattle.std.specs.List.{list_all}
 use Rattle.std.specs.Int.{w32, from_le_bytes}
-use Rattle.std.proofs.lemmas.List.{take_at, drop_at, drop-drop, drop-take, length-append, length-replicate}
+use Rattle.std.proofs.lemmas.List.{append-nil, take_at, drop_at, drop-drop, drop-take, drop-append-le, length-append, length-replicate, take-append-le}
 use Rattle.std.proofs.lemmas.Nat.{from_le_bytes-to_le_bytes_4}
 use Rattle.dbus_types.specs.declared.types.Endian.TheVariants.{Little}
 use Rattle.dbus_types.specs.declared.types.Value.{Value}
@@ -113,3 +113,32 @@ module _ (k serial : ℕ) (T B : List ℕ) where
       ∙ ap (λ (w : List ℕ). 108 ∷ k ∷ 1 ∷ 1 ∷ 0 ∷ 0 ∷ 0 ∷ 0 ∷ w) (regroup (bits_of serial) P)) in
       let count : n ≡ length B = omega (arith, size, ap length u, length-append e B) in
       put ∙ (ap (λ (w : List ℕ). take 4 w ++ (bits_of n ++ drop 8 w)) whole ∙ ap (λ (m : ℕ). 108 ∷ k ∷ 1 ∷ 1 ∷ (bits_of m ++ rest)) count)
+
+-- ---- the part ahead of a body
+
+pub front_laid : (k serial : ℕ) (T d e : List ℕ) → d ≡ (108 ∷ k ∷ 1 ∷ 1 ∷ 0 ∷ 0 ∷ 0 ∷ 0 ∷ bits_of serial) ++ T → e ≡ d ++ replicate (gap 8 (length d)) 0 → e ≡ laid k serial T []
+front_laid k serial T d e head t =
+    let len : length d ≡ 12 + length T = omega (arith, ap length head, length-append (bits_of serial) T, number_len Little four serial) in
+    let P : List ℕ = replicate (gap 8 (12 + length T)) 0 in
+    let parts : e ≡ 108 ∷ k ∷ 1 ∷ 1 ∷ 0 ∷ 0 ∷ 0 ∷ 0 ∷ ((bits_of serial ++ T) ++ P) = t ∙ (ap (λ (m : ℕ). d ++ replicate (gap 8 m) 0) len ∙ ap (λ (w : List ℕ). w ++ P) head) in
+    parts ∙ ap (λ (w : List ℕ). 108 ∷ k ∷ 1 ∷ 1 ∷ 0 ∷ 0 ∷ 0 ∷ 0 ∷ w) (append_assoc (bits_of serial) T P ∙ ap (λ (w : List ℕ). bits_of serial ++ (T ++ w)) (sym (append-nil P)))
+
+-- a body behind it, and its length put in
+pub body_laid : (k serial : ℕ) (T B front : List ℕ) → front ≡ laid k serial T [] → take 4 front ++ (bits_of (length B) ++ (drop 8 front ++ B)) ≡ laid k serial T B
+body_laid k serial T B front is =
+    ap (λ (w : List ℕ). take 4 w ++ (bits_of (length B) ++ (drop 8 w ++ B))) is
+    ∙ (ap (λ (w : List ℕ). 108 ∷ k ∷ 1 ∷ 1 ∷ (bits_of (length B) ++ (w ++ B))) (drop_8 k serial T [])
+    ∙ ap (λ (w : List ℕ). 108 ∷ k ∷ 1 ∷ 1 ∷ (bits_of (length B) ++ w)) (regroup_body (bits_of serial) (replicate (gap 8 (12 + length T)) 0)))
+  where
+    regroup_body : (S P : List ℕ) → (S ++ (T ++ (P ++ []))) ++ B ≡ S ++ (T ++ (P ++ B))
+    regroup_body S P =
+        append_assoc S (T ++ (P ++ [])) B
+        ∙ ap (λ (w : List ℕ). S ++ w) (append_assoc T (P ++ []) B ∙ ap (λ (w : List ℕ). T ++ w) (append_assoc P [] B))
+
+-- and so of bytes that begin with it
+pub body_sealed : (front B f g : List ℕ) (start : ℕ) → start ≡ length front → 8 ≤ length front → f ≡ front ++ B → g ≡ take 4 f ++ (bits_of (length f - start) ++ drop 8 f) → g ≡ take 4 front ++ (bits_of (length B) ++ (drop 8 front ++ B))
+body_sealed front B f g start at long is put =
+    let count : length f - start ≡ length B = omega (arith, at, ap length is, length-append front B) in
+    put
+    ∙ ((λ i. take 4 (is i) ++ (bits_of (count i) ++ drop 8 (is i)))
+    ∙ (λ i. take-append-le 4 front B (omega (arith, long)) i ++ (bits_of (length B) ++ drop-append-le 8 front B (omega (arith, long)) i)))

@@ -74,6 +74,11 @@ abbrev pub message_bytes : OutMessage → ℕ → List ℕ
 message_bytes out serial = laid (kind_out out) serial
     (spelling Little 12 (V.Array field_type (fields_out out))) (spellings Little 0 (body_out out))
 
+-- the same up to the body, whose length is still to be put in
+abbrev pub front_bytes : OutMessage → ℕ → List ℕ
+front_bytes out serial =
+    laid (kind_out out) serial (spelling Little 12 (V.Array field_type (fields_out out))) []
+
 -- The values of a body keep the rules, and their types have a signature.
 abbrev pub IsGoodBody : List Value → Type 0
 IsGoodBody body = All KeepsRules body × (length (types_text (map type_of body)) ≤ 255)

@@ -10,7 +10,7 @@ ghost use Rattle.dbus_values.specs.Spells.{number};
 ghost use Rattle.dbus_values.specs.Spelling.{spelling, spellings};
 ghost use Rattle.dbus_message.specs.Fields.{field_type};
 ghost use Rattle.dbus_message.specs.Messages.{IsMessage};
-ghost use Rattle.dbus_message.specs.Written.{last_part as part_after, kind_out, body_out, return_fields, fields_out, IsWritten, CanWrite, stands_for};
+ghost use Rattle.dbus_message.specs.Written.{last_part as part_after, kind_out, body_out, return_fields, fields_out, front_bytes, IsWritten, CanWrite, stands_for};
 
 use crate::fields::{ERROR_NAME, INTERFACE, MEMBER, PATH, REPLY_SERIAL, SIGNATURE};
 use crate::header::{
@@ -110,6 +110,42 @@ fn header(
     let len = bytes.len() - FIXED_LEN;
     overwrite_length(&mut bytes, FIELDS_AT, len);
     Ok(bytes)
+}
+
+/// The header of a message, and the padding behind it.
+fn front_of(
+    alloc: Global,
+    message: &OutMessage,
+    body: &[Value],
+    serial: u32,
+) -> Result<ByteList, WantOfMemory>
+    requires { body.now ≡ body_out message.now }
+    ensures { IfOk result (λ bytes. bytes ≡ front_bytes message.now serial) }
+{
+    let mut bytes = header(alloc, message, body, serial)?;
+    pad(&mut bytes, BODY_ALIGNMENT)?;
+    Ok(bytes)
+}
+
+/// The bytes of a message up to its body. The body's length is still to be put into them, in the
+/// four bytes from the fifth on.
+pub fn write_front(
+    alloc: Global,
+    message: &OutMessage,
+    serial: u32,
+) -> Result<ByteList, WantOfMemory>
+    ensures { IfOk result (λ bytes. bytes ≡ front_bytes message.now serial) }
+{
+    match message {
+        OutMessage::Return { body, .. } => front_of(alloc, message, body.as_slice(), serial),
+        OutMessage::Signal { body, .. } => front_of(alloc, message, body.as_slice(), serial),
+        OutMessage::Error { name, .. } => {
+            let text = Text::copied(alloc, last_part(name.as_str()))?;
+            let mut body = List::new(alloc);
+            body.push(Value::Str(text))?;
+            front_of(alloc, message, body.as_slice(), serial)
+        }
+    }
 }
 
 /// The bytes of a message with a body. It is put behind the header, and then

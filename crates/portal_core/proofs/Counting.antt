@@ -60,6 +60,7 @@ module _ {T K C W : Type 0} (tree_is : T → TreeIs) (keeper_is : K → KeeperIs
     clock = s.clock;
     words = s.words;
     drawn = s.drawn;
+    made = s.made;
     story = s.story;
     unkept = s.unkept;
     unasked = s.unasked;

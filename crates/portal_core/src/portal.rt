@@ -309,15 +309,15 @@ impl<T: HostTree, K: Keeper, C: Clock, W: Words> Portal<T, K, C, W> {
     /// handle of a strict document is done only as far as it has the rights in the document
     /// then.
     ///
-    /// Where memory is wanted the portal is as it was, but for the count of refusals and for
-    /// memory that was taken ahead: that stays, or is more, since what was taken for the
-    /// request stays too; at a request on a node what is for one request may go. Such a refusal
-    /// of a request that may change the records may have asked the keeper in vain; one of an
-    /// Add may have asked the tree too, once for each of its files or twice where they are
-    /// named, and have drawn one word for each; one of a READ, WRITE or FSYNC may have asked the
+    /// Where memory is wanted the portal is as it was, but for the count of refusals and for memory
+    /// that was taken ahead: that stays, or is more, since what was taken for the request stays
+    /// too; at a request on a node what is for one request may go. Such a refusal of a request that
+    /// may change the records may have asked the keeper in vain; one of an Add may have asked the
+    /// tree too, once for each of its files or twice where they are named, and have drawn no more
+    /// words than it would have made documents; one of a READ, WRITE or FSYNC may have asked the
     /// tree once, one of a SETATTR, OPEN or OPENDIR twice, as one of a LOOKUP at the node of a
-    /// document's file or of a name below a document that is a folder, and one of a CREATE
-    /// three times; and of these SETATTR, OPEN, CREATE and WRITE may have read the clock.
+    /// document's file or of a name below a document that is a folder, and one of a CREATE three
+    /// times; and of these SETATTR, OPEN, CREATE and WRITE may have read the clock.
     ///
     /// A LOOKUP in a root, in the folder of all views or in a document's folder, a GETATTR,
     /// ACCESS, FLUSH, RELEASE, RELEASEDIR, FORGET or BATCH_FORGET finds memory where some was

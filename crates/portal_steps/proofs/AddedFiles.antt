@@ -1,7 +1,9 @@
 -- An Add over the portal's lists: what its call gives for the queue of its seat's connection is what serves it on a bus.
-use Rattle.std.specs.Prelude.{IfOk}
-use Rattle.std.proofs.Common.{◌≡◌, ℕ, List, get_or, set, true, false, Option, Some, None, is_some, option_map, Result, refl, sym, ap, subst, ◌∙◌}
+use Rattle.std.specs.Prelude.{IfOk, OnErr}
+use Rattle.std.proofs.Common.{◌≡◌, ℕ, List, get_or, set, true, false, Option, Some, None, is_some, option_map, Result, Ok, Err, refl, sym, ap, subst, ◌∙◌}
 use Rattle.std.specs.List.{position}
+use Rattle.add_calls.specs.Placing.{HasDrawnUpTo}
+use Rattle.add_serving.specs.Adds.{documents_made}
 use Rattle.document_records.specs.Documents.{DocumentList}
 use Rattle.portal_base.specs.declared.files.File.{File}
 use Rattle.portal_base.specs.declared.memory.WantOfMemory.{WantOfMemory}
@@ -20,7 +22,7 @@ use Rattle.record_keeper.specs.Keepers.{KeeperIs}
 use Rattle.document_calls.specs.Books.{IsBook, IsQueue, queue_set, with_book}
 use Rattle.document_calls.specs.KeeperCalls.{ServesKept}
 use Rattle.document_calls.specs.declared.served.ServedCall.{ServedCall}
-use Rattle.portal_steps.specs.Documents.{HasLists, ServedOn, with_lists, with_queues}
+use Rattle.portal_steps.specs.Documents.{DrewOn, HasLists, ServedOn, with_lists, with_queues}
 use Rattle.portal_steps.proofs.SeatQueues.{connection-is, has_seat, queue-is, queue-set, queued_so}
 use Rattle.portal_start.proofs.LoadedRecords.{if_ok}
 use Rattle.portal_steps.proofs.ServedLists.{none-there, on-some, same_lists}
@@ -74,3 +76,40 @@ module _ (ds : DocumentList) (rs : List Triple) (apps : List (List ℕ)) (cs : L
       queue-set seat cs i v c place_is stands found s valid l.connected s.limits.queued refl queue ∙ (λ j. record s { connections = with_queues s.connections (sym e j) }) in
       subst (λ (t : State). ServesKept s c (Request.Add a) served.given t served.answer old new) (ap (λ (t : State). record (with_book s ds' rs' apps') { connections = t.connections }) set_is)
       (k s c l.book (queue-is seat cs i v c place_is stands found s valid l.connected s.limits.queued refl) files valid (ap (λ (x : Connection). x.who) (sym (connection-is seat cs i v c place_is stands found)))))
+
+  -- ---- where it is refused
+
+  -- what the whole call says of the words that were drawn, what it says on a bus, and of a queue
+  abbrev pub DrawsAdd : Option Connection → AddRequest → Option (List ℕ) → Option (List ℕ) → Type 0
+  DrawsAdd o a old new =
+      (s : State) (b : Option Connection) → Valid s → HasLists s ds rs apps cs → files_told s ≡ told → option_map silent b ≡ o → DrewOn s a old new b
+
+  abbrev pub DrawsBus : Option Connection → AddRequest → Option (List ℕ) → Option (List ℕ) → Type 0
+  DrawsBus o a old new =
+      (s : State) (c : Connection) → Valid s → HasLists s ds rs apps cs → files_told s ≡ told → o ≡ Some (silent c) → HasDrawnUpTo (documents_made s c a) old new
+
+  abbrev pub DrawsQueue : Connection → AddRequest → Option (List ℕ) → Option (List ℕ) → Type 0
+  DrawsQueue v a old new =
+      (s : State) (c : Connection) → IsBook s ds rs apps → IsQueue s c v.queue s.limits.queued → files_told s ≡ told → Valid s → c.who ≡ v.who → HasDrawnUpTo (documents_made s c a) old new
+
+  draws-on : (o : Option Connection) (a : AddRequest) (old new : Option (List ℕ)) → is_some o ≡ true → DrawsBus o a old new → DrawsAdd o a old new
+  draws-on None a old new e k = absurd (cc)
+  draws-on (Some c) a old new e k = λ s b v l f here.
+      on-some (DrewOn s a old new) b c here
+      (λ d same. k s d v l f (ap (λ (x : Connection). Some x) (sym same)))
+
+  err-so : {X E P Q : Type 0} (r : Result X E) → (P → Q) → OnErr r P → OnErr r Q
+  err-so (Ok x) f h = tt
+  err-so (Err e) f h = f h
+
+  pub draws-somewhere : {X E : Type 0} (o : Option Connection) (a : AddRequest) (old new : Option (List ℕ)) (r : Result X E) → is_some o ≡ true → OnErr r (DrawsBus o a old new) → OnErr r (DrawsAdd o a old new)
+  draws-somewhere o a old new r e = err-so r (draws-on o a old new e)
+
+  -- the queue of the seat's connection stands here in the list
+  draws-here : (seat i : ℕ) (v : Connection) → Some i ≡ position (has_seat seat) cs → v ≡ get_or cs i v → (a : AddRequest) (old new : Option (List ℕ)) → DrawsQueue v a old new → DrawsBus (bus_of (connection_of cs seat)) a old new
+  draws-here seat i v place_is stands a old new k = λ s c valid l files here.
+      let found : connection_of cs seat ≡ Some (silent c) = bus_found (connection_of cs seat) (silent c) here in
+      k s c l.book (queue-is seat cs i v c place_is stands found s valid l.connected s.limits.queued refl) files valid (ap (λ (x : Connection). x.who) (sym (connection-is seat cs i v c place_is stands found)))
+
+  pub add-draws : {X E : Type 0} (seat i : ℕ) (v : Connection) → Some i ≡ position (has_seat seat) cs → v ≡ get_or cs i v → (a : AddRequest) (old new : Option (List ℕ)) (r : Result X E) → OnErr r (DrawsQueue v a old new) → OnErr r (DrawsBus (bus_of (connection_of cs seat)) a old new)
+  add-draws seat i v place_is stands a old new r = err-so r (draws-here seat i v place_is stands a old new)

@@ -43,9 +43,9 @@ use Rattle.host_tree.specs.Trees.{TreeIs}
 use Rattle.add_calls.specs.Shown.{Asked}
 use Rattle.document_calls.specs.Changes.{SameLimits}
 use Rattle.document_calls.specs.KeeperCalls.{KeeperStays, KeeperWent, ServesKept}
-use Rattle.portal_steps.specs.Answered.{KeepsState}
+use Rattle.portal_steps.specs.Answered.{DrewForMade, KeepsState}
 use Rattle.portal_steps.specs.Devices.{Keeping, KeeperWentOn, may_change_records}
-use Rattle.portal_steps.specs.Documents.{HasLists, ServedOn, is_document_call, with_lists, with_queues}
+use Rattle.portal_steps.specs.Documents.{DrewOn, HasLists, ServedOn, is_document_call, with_lists, with_queues}
 use Rattle.portal_steps.specs.Held.{Holds, Stands, told_files}
 use Rattle.portal_steps.proofs.AddVerdicts.{TellsNoFaultIf, add-tells, gives-none, queue-records}
 use Rattle.portal_steps.proofs.AskedCalls.{asked-risen}
@@ -215,6 +215,13 @@ module _ (began : Option (List File)) (o : OpeningState) (h : List Entry) (limit
 
   queued-at : at.limits.queued ≡ o.limits.queued
   queued-at = ap (λ (l : Limits). l.queued) p.holds.limits_are
+
+  -- the words that a refused Add of a seat drew
+  pub drew_added : (seat : ℕ) (a : AddRequest) (tells : Option (List File)) → tells ≡ told → (words words' : Option (List ℕ)) →
+      ((s : State) (b : Option Connection) → Valid s → HasLists s ds rs apps cs → files_told s ≡ tells → option_map silent b ≡ bus_of (connection_of cs seat) → DrewOn s a words words' b) →
+      DrewForMade at a words words'
+  drew_added seat a tells t words words' k =
+      inr (seat, k at (bus_of (connection_of at.connections seat)) (valid-now began o h limit ds rs apps cs table names told p) p.holds.lists (p.holds.files ∙ sym t) (bus-now began o h limit ds rs apps cs table names told p seat))
 
   module _ (ds' : DocumentList) (rs' : List Triple) (apps' : List (List ℕ)) (cs' : List Connection) (seat : ℕ) (request : Request) (given : Given) (signals : List Change) (answer : Answer) (old new : KeeperIs) where
     -- the state in which the request is answered, and the one after it

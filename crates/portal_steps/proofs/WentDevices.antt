@@ -17,7 +17,7 @@ use Rattle.portal_model.specs.State.{State, connection_of}
 use Rattle.portal_model.specs.Step.{all_told, bus_of}
 use Rattle.record_keeper.specs.Keepers.{KeeperIs}
 use Rattle.document_calls.specs.KeeperCalls.{KeeperStays}
-use Rattle.portal_steps.specs.Answered.{Spends, Went}
+use Rattle.portal_steps.specs.Answered.{DrewForMade, Spends, Went}
 use Rattle.add_calls.specs.Placing.{Drew, HasDrawnUpTo}
 use Rattle.add_calls.specs.Shown.{Asked}
 use Rattle.add_serving.specs.Adds.{WasAsked, most_looks, most_words}
@@ -127,8 +127,8 @@ same-portal old new t k c w b o h = λ i. record { tree = t i; keeper = k i; clo
 module _ {T K C W : Type 0} (tree_is : T → TreeIs) (keeper_is : K → KeeperIs) (clock_reads : C → ℕ → C → Type 0) (words_told : W → Option (List ℕ)) (old : PortalIs T K C W) (request : Request) (new : PortalIs T K C W) where
   -- that of an Add, which may have asked each device but the clock
   pub spends-add : (a : AddRequest) → request ≡ Request.Add a → WasAsked (most_looks a) (tree_is old.tree) (tree_is new.tree) → KeeperStays (keeper_is old.keeper) (keeper_is new.keeper) → new.clock ≡ old.clock →
-      HasDrawnUpTo (most_words a) (words_told old.words) (words_told new.words) → new.story.began ≡ old.story.began → new.story.opening ≡ old.story.opening → new.story.history ≡ old.story.history → Spends tree_is keeper_is clock_reads words_told old request new
-  spends-add a is t k c w b o h =
+      HasDrawnUpTo (most_words a) (words_told old.words) (words_told new.words) → DrewForMade (state_now old.story) a (words_told old.words) (words_told new.words) → new.story.began ≡ old.story.began → new.story.opening ≡ old.story.opening → new.story.history ≡ old.story.history → Spends tree_is keeper_is clock_reads words_told old request new
+  spends-add a is t k c w m b o h =
       let called = was-asked-called (most_looks a) (tree_is old.tree) (tree_is new.tree) t in
       let draws : true ≡ may_draw request = sym (ap may_draw is) in
       let asks : true ≡ may_ask_tree_in_vain request = sym (ap may_ask_tree_in_vain is) in
@@ -145,6 +145,9 @@ module _ {T K C W : Type 0} (tree_is : T → TreeIs) (keeper_is : K → KeeperIs
         drawn = λ q e.
             let same : a ≡ q = cc (sym is ∙ e) in
             subst (λ (x : AddRequest). HasDrawnUpTo (most_words x) (words_told old.words) (words_told new.words)) same w;
+        made = λ q e.
+            let same : a ≡ q = cc (sym is ∙ e) in
+            subst (λ (x : AddRequest). DrewForMade (state_now old.story) x (words_told old.words) (words_told new.words)) same m;
         story = λ i. record { began = b i; opening = o i; history = h i };
         unkept = λ f. let no : true ≡ false = changes ∙ f in absurd (cc);
         unasked = λ f. let no : true ≡ false = asks ∙ f in absurd (cc);
@@ -165,6 +168,7 @@ module _ {T K C W : Type 0} (tree_is : T → TreeIs) (keeper_is : K → KeeperIs
     clock = c;
     words = ([], ap words_told w);
     drawn = λ q e. let no : Request.Node r ≡ Request.Add q = sym is ∙ e in absurd (cc);
+    made = λ q e. inl (ap words_told w);
     story = λ i. record { began = b i; opening = o i; history = h i };
     unkept = λ _. k;
     unasked = asks;

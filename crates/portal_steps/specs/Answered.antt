@@ -1,5 +1,5 @@
 -- What an answer does to a portal.
-use Rattle.std.specs.Prelude.{◌≡◌, ◌≢◌, ℕ, List, [], ◌∷◌, ◌++◌, false, Option, IfSome}
+use Rattle.std.specs.Prelude.{◌≡◌, ◌≢◌, ◌⊎◌, ℕ, List, [], ◌∷◌, ◌++◌, false, Option, IfSome}
 use Rattle.portal_base.specs.Outside.{HasRisen}
 use Rattle.host_tree.specs.Trees.{TreeIs}
 use Rattle.portal_model.specs.declared.entry.Entry.{Entry}
@@ -15,8 +15,8 @@ use Rattle.portal_model.specs.Alike.{Alike}
 use Rattle.portal_model.specs.Errno.{eio}
 use Rattle.portal_model.specs.Kept.{records_of}
 use Rattle.portal_model.specs.Lawful.{Lawful}
-use Rattle.portal_model.specs.State.{State}
-use Rattle.portal_model.specs.Step.{reply_at}
+use Rattle.portal_model.specs.State.{State, connection_of}
+use Rattle.portal_model.specs.Step.{bus_of, reply_at}
 use Rattle.record_keeper.specs.Keepers.{KeeperIs}
 use Rattle.add_serving.specs.Adds.{most_looks, most_words}
 use Rattle.add_calls.specs.Placing.{HasDrawn, HasDrawnUpTo}
@@ -25,6 +25,7 @@ use Rattle.node_looks.specs.Done.{MayRead, Reads}
 use Rattle.document_calls.specs.KeeperCalls.{KeeperStays}
 use Rattle.portal_steps.specs.Devices.{Drawn, Keeping, may_ask_tree_in_vain, may_change_records}
 use Rattle.portal_steps.specs.Devices.{may_draw, may_read_clock}
+use Rattle.portal_steps.specs.Documents.{DrewOn}
 use Rattle.portal_steps.specs.Story.{PortalIs, state_first, state_now}
 use Rattle.portal_steps.specs.TreeCalls.{Calling, WasCalled, WasCalledUpTo, entry_calls}
 
@@ -48,13 +49,18 @@ pub record Went {T K C W : Type 0} (tree_is : T → TreeIs) (keeper_is : K
       (e.given.fault ≢ Fault.Keeper) × (new.keeper ≡ old.keeper)
   pub undrawn : may_draw e.request ≡ false → new.words ≡ old.words
 
+-- no word was drawn by a refused Add, or no more than documents are made by it on the bus of a seat
+abbrev pub DrewForMade : State → AddRequest → Option (List ℕ) → Option (List ℕ) → Type 0
+DrewForMade s a old new = (new ≡ old)
+    ⊎ ((seat : ℕ) × DrewOn s a old new (bus_of (connection_of s.connections seat)))
+
 -- What a refusal does, which comes where memory is wanted: the keeper may have been asked once and
 -- have wanted memory too. Where the request may ask the tree in vain, that may have been asked, of
 -- which no call failed, and else it is the same; a request on a node asks it three times in vain at
 -- most, by its kind; an Add looks once at most at each of its files, of which it may have 16, or
--- twice where the file is named. Where the request may draw
--- words, some may have been drawn, one for each file at most, and else they are the same; and where
--- it may read the clock, that may have been read once, and else it is the same; and where it may
+-- twice where the file is named. Where the request may draw words, some may have been drawn, one
+-- for each file at most, and no more than documents would have been made, and else they are the
+-- same; and where it may read the clock, that may have been read once, and else it is the same; and where it may
 -- not change the records the keeper is the same. All else is as before.
 pub record Spends {T K C W : Type 0} (tree_is : T → TreeIs) (keeper_is : K
     → KeeperIs) (clock_reads : C → ℕ → C → Type 0) (words_told : W → Option (List ℕ))
@@ -69,6 +75,8 @@ pub record Spends {T K C W : Type 0} (tree_is : T → TreeIs) (keeper_is : K
   pub words : HasDrawn (words_told old.words) (words_told new.words)
   pub drawn : (a : AddRequest) → request ≡ Request.Add a →
       HasDrawnUpTo (most_words a) (words_told old.words) (words_told new.words)
+  pub made : (a : AddRequest) → request ≡ Request.Add a →
+      DrewForMade (state_now old.story) a (words_told old.words) (words_told new.words)
   pub story : new.story ≡ old.story
   pub unkept : may_change_records request ≡ false → new.keeper ≡ old.keeper
   pub unasked : may_ask_tree_in_vain request ≡ false → new.tree ≡ old.tree

@@ -4,12 +4,15 @@ use Rattle.document_records.specs.Documents.{DocumentList}
 use Rattle.portal_model.specs.declared.entry.Given.{Given}
 use Rattle.portal_model.specs.declared.reply.Answer.{Answer}
 use Rattle.portal_model.specs.declared.reply.Code.TheVariants as Code
+use Rattle.portal_model.specs.declared.request.AddRequest.{AddRequest}
 use Rattle.portal_model.specs.declared.request.Request.{Request}
 use Rattle.portal_model.specs.declared.state.Connection.{Connection}
 use Rattle.portal_model.specs.declared.state.Triple.{Triple}
 use Rattle.portal_model.specs.Lawful.{nothing_given}
 use Rattle.portal_model.specs.State.{State}
 use Rattle.record_keeper.specs.Keepers.{KeeperIs}
+use Rattle.add_calls.specs.Placing.{HasDrawnUpTo}
+use Rattle.add_serving.specs.Adds.{documents_made}
 use Rattle.document_calls.specs.Books.{IsBook}
 use Rattle.document_calls.specs.KeeperCalls.{ServesKept}
 use Rattle.store_serving.specs.Waiting.{silent}
@@ -61,3 +64,10 @@ ServedOn s request given after answer old new None =
     (given ≡ nothing_given) × (answer ≡ Answer.Refused Code.NotHere) × (after ≡ s) × (new ≡ old)
 ServedOn s request given after answer old new (Some c) =
     ServesKept s c request given after answer old new
+
+-- the words that a refused Add drew on a bus: no more than documents are made by it; and none of a
+-- seat that has no bus
+abbrev pub DrewOn : State → AddRequest → Option (List ℕ) → Option (List ℕ) → Option Connection
+    → Type 0
+DrewOn s a old new None = new ≡ old
+DrewOn s a old new (Some c) = HasDrawnUpTo (documents_made s c a) old new

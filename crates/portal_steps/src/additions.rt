@@ -4,7 +4,7 @@
 ghost use Rattle.std.specs.Prelude.{◌≡◌, length, IfOk, OnErr, Option, Some, option_map};
 ghost use Rattle.add_calls.specs.Placing.{Drew, HasDrawnUpTo};
 ghost use Rattle.add_calls.specs.Shown.{Asked};
-ghost use Rattle.add_serving.specs.Adds.{WasAsked, most_looks, most_words};
+ghost use Rattle.add_serving.specs.Adds.{WasAsked, documents_made, most_looks, most_words};
 ghost use Rattle.document_calls.specs.Changes.{SameLimits};
 ghost use Rattle.document_calls.specs.KeeperCalls.{KeeperStays, ServesKept};
 ghost use Rattle.portal_model.specs.Bus.{is_tree};
@@ -14,7 +14,7 @@ ghost use Rattle.portal_model.specs.Outside.{files_told};
 ghost use Rattle.portal_model.specs.State.{State, connection_of as open_connection};
 ghost use Rattle.portal_model.specs.Step.{bus_of as open_bus};
 ghost use Rattle.portal_model.specs.Valid.{Valid};
-ghost use Rattle.portal_steps.specs.Documents.{HasLists, ServedOn, with_lists, with_queues};
+ghost use Rattle.portal_steps.specs.Documents.{DrewOn, HasLists, ServedOn, with_lists, with_queues};
 ghost use Rattle.store_serving.specs.Waiting.{silent};
 
 use crate::lists::{bus_of, place_of};
@@ -35,8 +35,8 @@ use std::mem;
 /// Serves an Add of a seat.
 ///
 /// A seat without an open bus is answered `NotHere`. Want of memory leaves the
-/// lists as they were; before it the tree was asked and words were drawn no more often
-/// than the files of the call allow.
+/// lists as they were; before it the tree was asked no more often than the files of the
+/// call allow, and no more words were drawn than documents are made by it.
 pub fn serve_add<T: HostTree, K: Keeper, W: Words>(
     alloc: Global,
     documents: &mut Documents,
@@ -72,6 +72,11 @@ pub fn serve_add<T: HostTree, K: Keeper, W: Words>(
     ensures keeper { OnErr result (KeeperStays (K.is keeper.old) (K.is keeper.new)) }
     ensures words { OnErr result
         (HasDrawnUpTo (most_words request.now) (W.told words.old) (W.told words.new)) }
+    ensures made { OnErr result ((s : State) (o : Option Connection) → Valid s →
+        HasLists s documents.old rights.old applications.old connections.old →
+        files_told s ≡ (T.is tree.old).told →
+        option_map silent o ≡ open_bus (open_connection connections.old seat) →
+        DrewOn s request.now (W.told words.old) (W.told words.new) o) }
 {
     if bus_of(connections.as_slice(), seat).is_none() {
         return Ok(answered(alloc, Answer::Refused(Code::NotHere)));
@@ -126,6 +131,11 @@ fn add_on<T: HostTree, K: Keeper, W: Words>(
     ensures keeper { OnErr result (KeeperStays (K.is keeper.old) (K.is keeper.new)) }
     ensures words { OnErr result
         (HasDrawnUpTo (most_words request.now) (W.told words.old) (W.told words.new)) }
+    ensures made { OnErr result ((s : State) (c : Connection) → Valid s →
+        HasLists s documents.old rights.old applications.old connections.old →
+        files_told s ≡ (T.is tree.old).told →
+        open_bus (open_connection connections.old seat) ≡ Some (silent c) →
+        HasDrawnUpTo (documents_made s c request.now) (W.told words.old) (W.told words.new)) }
 {
     let Some(at) = place_of(connections.as_slice(), seat) else {
         return Ok(answered(alloc, Answer::Refused(Code::NotHere)));

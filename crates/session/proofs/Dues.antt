@@ -22,11 +22,12 @@ use Rattle.session.specs.declared.served.Fed.{Fed}
 use Rattle.session.specs.declared.served.Fed.TheVariants.{Memory}
 use Rattle.session.specs.Answers.{AreOf, Gives, Outcome, Made, Denied, last_spoken, messages_of, pieces_of, serial_past, signals_for, spoken, told_for}
 use Rattle.session.specs.Asked.{MayAnswer, asked_by, collect_requests}
-use Rattle.session.specs.Dues.{Became, CanTell, CanTellTo, due_of, frames_due, said_of, signals_told, told_by}
-use Rattle.session.specs.Ledger.{ActEnds, Sends, world}
+use Rattle.session.specs.Dues.{Became, CanTell, CanTellTo, TellsLittle, due_of, frames_due, said_of, signals_told, told_by}
+use Rattle.session.specs.Lacks.{MayLack}
+use Rattle.session.specs.Ledger.{ActEnds, LacksAt, Sends, world}
 use Rattle.session.proofs.DidItems.{act_ends, act_halted}
 use Rattle.session.proofs.Grew.{asked_err, asked_ok, grew_none}
-use Rattle.session.proofs.ServeCall.{reply_sound, reply_told}
+use Rattle.session.proofs.ServeCall.{reply_little, reply_sound, reply_told}
 
 -- ---- what is said
 
@@ -81,11 +82,19 @@ silent_told c (Portal call request) why h = (tt, tt)
 silent_told c (Node unique request) why h = (tt, tt)
 silent_told c (Local unique answer) why h = (tt, tt)
 
+silent_little : (act : Act) (why : Refused) → TellsLittle (due_of act) told.Nothing × TellsLittle (due_of act) (told.Refused why)
+silent_little Nothing why = (tt, tt)
+silent_little (Line reply) why = (tt, tt)
+silent_little (Call reply collects) why = (tt, tt)
+silent_little (Portal call request) why = (tt, tt)
+silent_little (Node unique request) why = (tt, tt)
+silent_little (Local unique answer) why = (tt, tt)
+
 pub can_tell_none : (c : Client) (act : Act) → MayAnswer c act → CanTell (due_of act) told.Nothing
-can_tell_none c act h = record { sound = refl; to_call = (silent_told c act Refused.Memory h).0 }
+can_tell_none c act h = record { sound = refl; to_call = (silent_told c act Refused.Memory h).0; little = (silent_little act Refused.Memory).0 }
 
 pub can_tell_refused : (c : Client) (act : Act) (why : Refused) → MayAnswer c act → CanTell (due_of act) (told.Refused why)
-can_tell_refused c act why h = record { sound = refl; to_call = (silent_told c act why h).1 }
+can_tell_refused c act why h = record { sound = refl; to_call = (silent_told c act why h).1; little = (silent_little act why).1 }
 
 -- the one request
 same_request : (r q : Request) → r ∷ [] ≡ q ∷ [] → r ≡ q
@@ -100,8 +109,18 @@ reply_to_call c (Portal call asked) request v w reply h e a k =
 reply_to_call c (Node unique node) request v w reply h e a k = tt
 reply_to_call c (Local unique answer) request v w reply h e a k = tt
 
+little_to_call : (c : Client) (act : Act) (request : Request) (v w : Seated) (reply : Reply) → MayAnswer c act → asked_by act ≡ request ∷ [] → Asks v request (Ok reply) w → TellsLittle (due_of act) (told.Reply reply)
+little_to_call c Nothing request v w reply h e a = tt
+little_to_call c (Line line) request v w reply h e a = tt
+little_to_call c (Call answer collects) request v w reply h e a = tt
+little_to_call c (Portal call asked) request v w reply h e a =
+    reply_little c call asked v w reply h (subst (λ (q : Request). Asks v q (Ok reply) w) (sym (same_request asked request e)) a)
+little_to_call c (Node unique node) request v w reply h e a = tt
+little_to_call c (Local unique answer) request v w reply h e a = tt
+
 pub can_tell_reply : (c : Client) (act : Act) (request : Request) (v w : Seated) (reply : Reply) → MayAnswer c act → asked_by act ≡ request ∷ [] → Asks v request (Ok reply) w → Known w → CanTell (due_of act) (told.Reply reply)
-can_tell_reply c act request v w reply h e a k = record { sound = reply_sound v w request reply a k; to_call = reply_to_call c act request v w reply h e a k }
+can_tell_reply c act request v w reply h e a k =
+    record { sound = reply_sound v w request reply a k; to_call = reply_to_call c act request v w reply h e a k; little = little_to_call c act request v w reply h e a }
 
 -- ---- how an item ended
 
@@ -136,3 +155,8 @@ module _ (c : Client) (act : Act) (serial : ℕ) (request : Option Request) (d :
   answer_unsaid o a =
       act_halted c act serial became.outcomes v w became.grew o o a a Memory (pieces_of c act serial became.outcomes) (serial_past c act serial became.outcomes)
       (record { asked = each; said = refl; serial_is = refl }) (refl, refl)
+
+  -- which it isn't sure of
+  pub answer_lacks : (o : Option (List (List ℕ))) (a : ℕ) → MayLack act became.outcomes → LacksAt c act serial (world v o a) (world w o a) Memory
+  unfolding answer_unsaid act_halted
+  answer_lacks o a lack = (answer_unsaid o a, lack)

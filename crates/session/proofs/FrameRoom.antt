@@ -1,9 +1,10 @@
--- Room for a frame that isn't longer than a struct.
+-- Room for a frame that isn't longer than a struct, and what may lack an answer.
 use Rattle.std.proofs.Common.{◌≡◌, ℕ, ◌+◌, ◌<◌, ◌≤◌, List, [], ◌∷◌, ◌++◌, length, Bool, true, false, cond, None, Some, Option, Result, Ok, Err, IfErr, OnOk, sym, ◌∙◌, subst, arith}
 use Rattle.std.specs.Prelude.{if◌then◌else◌, is_err, option_to_list}
 use Rattle.std.specs.List.{All}
 use Rattle.std.proofs.lemmas.List.Elements.{All-cons, All-nil}
 use Rattle.fuse_reply.specs.Replies.{body_of, error_of, frame_of, header_len, is_quiet, negated}
+use Rattle.dbus_types.specs.declared.message.Message.{Message}
 use Rattle.portal_model.specs.declared.reply.NodeAnswer.{NodeAnswer}
 use Rattle.portal_model.specs.declared.reply.NodeAnswer.TheVariants.{Error}
 use Rattle.portal_model.specs.declared.reply.Refused.{Refused}
@@ -15,17 +16,21 @@ use Rattle.portal_model.specs.Seated.{Asks, Seated}
 use Rattle.portal_model.specs.Step.{reply_at}
 use Rattle.session.specs.declared.act.Act.{Act}
 use Rattle.session.specs.declared.act.Act.TheVariants.{Nothing, Line, Call, Portal, Node, Local}
+use Rattle.session.specs.declared.act.Client.{Client}
+use Rattle.session.specs.declared.answer.Due.TheVariants as due
 use Rattle.session.specs.declared.answer.Told.{Told}
 use Rattle.session.specs.declared.answer.Told.TheVariants as told
 use Rattle.session.specs.declared.room.Room.{Room}
 use Rattle.session.specs.declared.served.Fed.{Fed}
 use Rattle.session.specs.declared.served.Fed.TheVariants.{WriteFault}
 use Rattle.session.specs.Asked.{asked_by}
-use Rattle.session.specs.Dues.{due_of}
+use Rattle.session.specs.Answers.{Outcome, Made, Denied}
+use Rattle.session.specs.Dues.{IsToldLittle, TellsLittle, due_of, told_by}
 use Rattle.session.specs.FrameLengths.{FrameFits, longest_struct, room_for}
 use Rattle.session.specs.Frames.{frames_of, refusal_errno}
-use Rattle.session.specs.Lacks.{LacksAt, MayLack}
-use Rattle.session.specs.Rooms.{AreShort, FitsItsOp, IsLonger, IsTaken, IsTakenFor, frame_room}
+use Rattle.session.specs.Lacks.{LacksReply, MayLack}
+use Rattle.session.specs.Ledger.{LacksAt, World}
+use Rattle.session.specs.Rooms.{AreShort, FitsItsOp, HasRoomFor, IsLonger, IsMore, IsTakenFor, frame_room}
 use Rattle.session.proofs.FramesFit.{frames_fit}
 
 -- ---- a frame
@@ -93,19 +98,37 @@ fits_reply (Local unique answer) request v w reply e a = tt
 below : (a b : ℕ) → (a ≤ b → ⊥) → b < a
 below a b h = omega (arith, h)
 
-pub node_lacks : (act : Act) (t : Told) (room : Room) → IsTakenFor act room → (IsTaken room → IsLonger (due_of act) t) → FitsItsOp act t → MayLack act
-node_lacks Nothing t room taken longer fits = tt
-node_lacks (Line reply) t room taken longer fits = tt
-node_lacks (Call reply collects) t room taken longer fits = tt
-node_lacks (Portal call request) t room taken longer fits = tt
-node_lacks (Node unique r) t room taken longer fits =
-    below (room_for r.op) longest_struct (λ few. longer taken (λ k d l. let one = fits k d l in omega (arith, one, few)))
-node_lacks (Local unique answer) t room taken longer fits = tt
+-- by what became of a call's request
+reply_lacks : (call : Message) (os : List Outcome) (t : Told) → t ≡ told_by os → IsMore call t → TellsLittle (due.Portal call) t → LacksReply call os
+reply_lacks call [] t e more little = tt
+reply_lacks call (Made x ∷ os) t e more little =
+    let longer : IsMore call (told.Reply x.reply) = subst (IsMore call) e more in
+    let short : IsToldLittle call x.reply.answer = subst (TellsLittle (due.Portal call)) e little in
+    λ none changes right. longer none (changes.0, changes.1, short changes.0 changes.1 changes.2 right)
+reply_lacks call (Denied request why ∷ os) t e more little = tt
+
+pub act_lacks : (act : Act) (t : Told) (os : List Outcome) → t ≡ told_by os → IsLonger (due_of act) t → TellsLittle (due_of act) t → FitsItsOp act t → MayLack act os
+act_lacks Nothing t os e longer little fits = tt
+act_lacks (Line reply) t os e longer little fits = tt
+act_lacks (Call reply collects) t os e longer little fits = tt
+act_lacks (Portal call request) t os e longer little fits = reply_lacks call os t e longer little
+act_lacks (Node unique r) t os e longer little fits =
+    below (room_for r.op) longest_struct (λ few. longer (λ k d l. let one = fits k d l in omega (arith, one, few)))
+act_lacks (Local unique answer) t os e longer little fits = tt
+
+-- the room is that for how an item is answered
+pub taken_due : (c : Client) (serial : ℕ) (act : Act) (room : Room) → IsTakenFor c serial act room → HasRoomFor c serial (due_of act) room
+taken_due c serial Nothing room taken = tt
+taken_due c serial (Line reply) room taken = tt
+taken_due c serial (Call reply collects) room taken = tt
+taken_due c serial (Portal call request) room taken = taken
+taken_due c serial (Node unique r) room taken = taken
+taken_due c serial (Local unique answer) room taken = tt
 
 -- a write that failed is none
-pub fault_lacks : (act : Act) (r : Result ℕ Fed) → IfErr r (λ halt. halt ≡ WriteFault) → IfErr r (LacksAt act)
-fault_lacks act (Ok last) h = tt
-fault_lacks act (Err halt) h = subst (LacksAt act) (sym h) tt
+pub fault_lacks : (c : Client) (act : Act) (serial : ℕ) (v w : World) (r : Result ℕ Fed) → IfErr r (λ halt. halt ≡ WriteFault) → IfErr r (LacksAt c act serial v w)
+fault_lacks c act serial v w (Ok last) h = tt
+fault_lacks c act serial v w (Err halt) h = subst (LacksAt c act serial v w) (sym h) tt
 
 -- what holds where it is done
 pub where_done : {X E : Type 0} (P : Type 0) (r : Result X E) → false ≡ is_err r → OnOk r P → P

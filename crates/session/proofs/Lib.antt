@@ -29,6 +29,7 @@ pub mod HeardReplies
 pub mod NodeAnswersFit
 pub mod FramesFit
 pub mod FrameRoom
+pub mod BegunReplies
 pub mod WholeInputsEnd
 pub mod FramesCarry
 pub mod ItemsCostLittle

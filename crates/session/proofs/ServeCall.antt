@@ -5,6 +5,7 @@ use Rattle.std.proofs.lemmas.List.{append_assoc}
 use Rattle.std.specs.List.{list_all}
 use Rattle.call_laws.specs.Answers.{IsOnRecords}
 use Rattle.call_laws.proofs.Calls.{answers_told, calls_on_records}
+use Rattle.call_laws.proofs.LittleAnswers.{answers_little}
 use Rattle.call_laws.proofs.Signals.{signals_told}
 use Rattle.dbus_dispatch.specs.Asks.{ask_of, expects_reply}
 use Rattle.dbus_dispatch.specs.Writable.{IsToldTo, IsWritable}
@@ -26,6 +27,7 @@ use Rattle.portal_model.proofs.Histories.{Legal-front}
 use Rattle.portal_model.proofs.ValidLaws.{run-Valid}
 use Rattle.session.specs.declared.act.Client.{Client}
 use Rattle.session.specs.Asked.{reply_to}
+use Rattle.session.specs.Dues.{IsToldLittle}
 
 -- ---- the answer that is given
 
@@ -62,6 +64,17 @@ reply_told c call request v w reply is a k =
     let same : reply.answer ≡ (reply_at (run v.opening before) m.entry).answer =
     given_answer v.opening.told request (reply_at (run v.opening before) m.entry) reply (calls_on_records c.settings call request is) m.reply_is in
     subst (IsToldTo call) (sym same) told
+
+-- and tells little, where the call may change something
+pub reply_little : (c : Client) (call : Message) (request : Request) (v w : Seated) (reply : Reply) → ask_of c.settings call ≡ ask.Portal request → Asks v request (Ok reply) w → IsToldLittle call reply.answer
+reply_little c call request v w reply is a =
+    let m = a.answered in
+    let before : List Entry = v.seen ++ m.others in
+    let asks : ask_of c.settings call ≡ ask.Portal m.entry.request = is ∙ ap ask.Portal (sym m.request_is) in
+    let little : IsToldLittle call (reply_at (run v.opening before) m.entry).answer = λ method found changes right. answers_little c.settings call method (run v.opening before) m.entry asks found changes right in
+    let same : reply.answer ≡ (reply_at (run v.opening before) m.entry).answer =
+    given_answer v.opening.told request (reply_at (run v.opening before) m.entry) reply (calls_on_records c.settings call request is) m.reply_is in
+    subst (IsToldLittle call) (sym same) little
 
 -- and what it tells are changes of entries as they are
 pub reply_sound : (v w : Seated) (request : Request) (reply : Reply) → Asks v request (Ok reply) w → Known w → list_all is_sound_change reply.signals ≡ true

@@ -18,8 +18,7 @@ use Rattle.session.specs.Asked.{Means}
 use Rattle.session.specs.Cuts.{Cuts, whole_item}
 use Rattle.session.specs.Items.{Remains}
 use Rattle.session.specs.Answers.{Made, Denied, serial_after}
-use Rattle.session.specs.Lacks.{LacksAt}
-use Rattle.session.specs.Ledger.{ActEnds, Collected, Did, ItemEnds, Stops, World}
+use Rattle.session.specs.Ledger.{ActEnds, Collected, Did, ItemEnds, LacksAt, Stops, World}
 use Rattle.session.specs.Standings.{stage}
 use Rattle.session.proofs.Grew.{asked_ok, asked_err, risen_later}
 use Rattle.session.proofs.NextCut.{whole_within}
@@ -71,9 +70,9 @@ item_size p bytes used n k is size within =
     (l, omega (arith, w.0, l), omega (arith, length-drop used bytes, w.1, l))
 
 -- an item that was read, and whose answer halts
-pub item_halts : (c : Client) (s x : Stage) (v w : World) (item : List ℕ) (act : Act) (halt : Fed) → Means c s.phase item (Ok act) → ActEnds c (Err halt) act s.serial v w → LacksAt act halt → ItemEnds c (Err halt) s v item x w
+pub item_halts : (c : Client) (s x : Stage) (v w : World) (item : List ℕ) (act : Act) (halt : Fed) → Means c s.phase item (Ok act) → ActEnds c (Err halt) act s.serial v w → LacksAt c act s.serial v w halt → ItemEnds c (Err halt) s v item x w
 item_halts c s x v w item act WriteFault means ends lack = (act, means, ends)
-item_halts c s x v w item act Memory means ends lack = inr ((act, means, ends), lack)
+item_halts c s x v w item act Memory means ends lack = inr ((act, means, lack.0), lack.1)
 item_halts c s x v w item act More means ends lack = absurd ends
 item_halts c s x v w item act (Over ending) means ends lack = absurd ends
 

@@ -57,7 +57,7 @@ module _ (c : Client) (s t : Stage) (v m w : World) (bytes : List ℕ) (used n :
     halted = halted;
   }
 
-  pub broke_unsaid : (act : Act) → Means c t.phase (take n (drop used bytes)) (Ok act) → Unsaid c act t.serial m w → MayLack act → BrokeUnsaid c s v bytes w
+  pub broke_unsaid : (act : Act) → Means c t.phase (take n (drop used bytes)) (Ok act) → (h : Unsaid c act t.serial m w) → MayLack act h.0.outcomes → BrokeUnsaid c s v bytes w
   unfolding broke
   broke_unsaid act means h lack = (broke act means h.0, h.1, h.2 ∙ did.sound, lack)
 

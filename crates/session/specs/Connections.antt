@@ -93,7 +93,8 @@ pub record Half (c : Client) (read : List ℕ) (v w : World) : Type 0 where
 -- none that is sure of the memory for its answer.
 abbrev pub HalfUnsaid : Client → List ℕ → World → World → Type 0
 HalfUnsaid c read v w =
-    (h : Half c read v w) × (h.then.written ≡ []) × (w.faults ≡ v.faults) × MayLack h.then.act
+    (h : Half c read v w) × (h.then.written ≡ []) × (w.faults ≡ v.faults)
+    × MayLack h.then.act h.then.outcomes
 
 -- Nothing was read or written, and no read or write failed.
 abbrev pub IsUntouched : List ℕ → Spring → Spring → World → World → Type 0

@@ -1,11 +1,17 @@
 -- What an item asks, apart from how it is answered, and how it is answered by what became of that.
-use Rattle.std.specs.Prelude.{◌≡◌, ℕ, List, [], ◌∷◌, ◌++◌, map, Bool, true, cond, Option, IfSome, option_to_list}
+use Rattle.std.specs.Prelude.{◌≡◌, ◌≢◌, ℕ, List, [], ◌∷◌, ◌++◌, map, Bool, true, cond, Option, None, IfSome, Ok, option_to_list}
 use Rattle.std.specs.List.{list_all}
+use Rattle.bus_answers.specs.Little.{is_little, kind_of}
+use Rattle.bus_answers.specs.declared.kind.ReturnKind.TheVariants.{Data}
+use Rattle.dbus_calls.specs.Calls.{found}
 use Rattle.dbus_calls.specs.Errors.{error_to}
-use Rattle.dbus_dispatch.specs.Replies.{refusal_of, reply_of}
+use Rattle.dbus_calls.specs.declared.method.Method.{Method}
+use Rattle.dbus_dispatch.specs.Replies.{error_in, refusal_of, reply_of}
 use Rattle.dbus_dispatch.specs.Signals.{signal_of}
 use Rattle.dbus_dispatch.specs.Writable.{IsToldTo, IsWritable}
+use Rattle.dbus_types.specs.declared.message.Message.{Message}
 use Rattle.dbus_types.specs.declared.message.OutMessage.{OutMessage}
+use Rattle.portal_model.specs.declared.reply.Answer.{Answer}
 use Rattle.portal_model.specs.declared.reply.Change.{Change}
 use Rattle.portal_model.specs.declared.reply.NodeAnswer.TheVariants.{Error}
 use Rattle.portal_model.specs.declared.request.Request.{Request}
@@ -83,10 +89,20 @@ CanTellTo (due.Line reply) t = Unit {0}
 CanTellTo (due.Node unique quiet) t = Unit {0}
 CanTellTo (due.Local unique answer) t = Unit {0}
 
+-- a call that may change something is told little, or an error
+abbrev pub IsToldLittle : Message → Answer → Type 0
+IsToldLittle call answer = (method : Method) → found call ≡ Ok method →
+    kind_of method ≢ Data → error_in answer ≡ None → is_little method answer ≡ true
+
+abbrev pub TellsLittle : Due → Told → Type 0
+TellsLittle (due.Portal call) (told.Reply reply) = IsToldLittle call reply.answer
+TellsLittle d t = Unit {0}
+
 -- what became of an item's request can be told to the client
 pub record CanTell (d : Due) (t : Told) : Type 0 where
   pub sound : list_all is_sound_change (signals_told t) ≡ true
   pub to_call : CanTellTo d t
+  pub little : TellsLittle d t
 
 -- these requests, and no others, were asked at a desk, and this is what became of them
 pub record Became (requests : List Request) (t : Told) (v w : Seated) : Type 0 where

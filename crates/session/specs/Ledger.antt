@@ -121,6 +121,11 @@ ActEnds c (Err Memory) act serial v w = Unsaid c act serial v w
 ActEnds c (Err More) act serial v w = ⊥
 ActEnds c (Err (Over ending)) act serial v w = ⊥
 
+-- where there was no memory for the answer, it is none that is sure of it
+abbrev pub LacksAt : Client → Act → ℕ → World → World → Fed → Type 0
+LacksAt c act serial v w Memory = (h : Unsaid c act serial v w) × MayLack act h.0.outcomes
+LacksAt c act serial v w halt = Unit {0}
+
 -- what a whole item that asks nothing is
 abbrev pub Declines : Client → Phase → List ℕ → Stop → Type 0
 Declines c p item stop.More = ⊥
@@ -140,7 +145,7 @@ ItemEnds c (Ok None) s v item t w = (act : Act) × Means c s.phase item (Ok act)
 ItemEnds c (Ok (Some what)) s v item t w = Declines c s.phase item what × (t ≡ s) × (w ≡ v)
 ItemEnds c (Err WriteFault) s v item t w = HaltsAt c WriteFault s v item w
 ItemEnds c (Err Memory) s v item t w =
-    (w ≡ v) ⊎ ((h : HaltsAt c Memory s v item w) × MayLack h.0)
+    (w ≡ v) ⊎ ((h : HaltsAt c Memory s v item w) × MayLack h.0 h.2.0.outcomes)
 ItemEnds c (Err More) s v item t w = ⊥
 ItemEnds c (Err (Over ending)) s v item t w = ⊥
 
@@ -178,7 +183,8 @@ pub record Broke (c : Client) (s : Stage) (v : World) (bytes : List ℕ) (w : Wo
 -- none that is sure of the memory for its answer.
 abbrev pub BrokeUnsaid : Client → Stage → World → List ℕ → World → Type 0
 BrokeUnsaid c s v bytes w =
-    (b : Broke c s v bytes w) × (b.halted.written ≡ []) × (w.faults ≡ v.faults) × MayLack b.act
+    (b : Broke c s v bytes w) × (b.halted.written ≡ []) × (w.faults ≡ v.faults)
+    × MayLack b.act b.halted.outcomes
 
 -- These bytes begin with items that are asked and answered, and nothing more is done.
 pub record Began (c : Client) (s : Stage) (v : World) (bytes : List ℕ) (w : World) : Type 0 where

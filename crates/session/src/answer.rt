@@ -3,7 +3,7 @@
 //! Who asks stands between the two: a desk that waits, or one that may say that
 //! it is busy.
 
-ghost use Rattle.std.specs.Prelude.{◌≡◌, ◌<◌, ◌≤◌, ◌∷◌, [], ◌++◌, map, option_to_list, true, IfOk, IfSome};
+ghost use Rattle.std.specs.Prelude.{◌≡◌, ◌<◌, ◌≤◌, ◌∷◌, [], ◌++◌, ℕ, List as AList, map, option_to_list, true, IfOk, IfSome};
 ghost use Rattle.std.specs.Prelude.{IsOk, OnErr, vec_capacity};
 ghost use Rattle.std.specs.List.{list_all};
 ghost use Rattle.dbus_dispatch.specs.Signals.{signal_of};
@@ -13,13 +13,20 @@ ghost use Rattle.session.specs.Answers.{last_spoken, spoken};
 ghost use Rattle.dbus_types.specs.declared.message.OutMessage.{OutMessage as AnOutMessage};
 ghost use Rattle.session.specs.Asked.{asked_by, collect_requests, reply_to as message_to};
 ghost use Rattle.session.specs.Dues.{CanTell, due_of, frames_due, said_of, signals_told};
-ghost use Rattle.session.specs.Rooms.{AreShort, IsLonger, IsTaken, frame_room};
+ghost use Rattle.bus_answers.specs.Begun.{IsBegun};
+ghost use Rattle.bus_answers.specs.Little.{is_little};
+ghost use Rattle.dbus_dispatch.specs.Replies.{reply_of};
+ghost use Rattle.dbus_dispatch.specs.Writable.{IsToldTo};
+ghost use Rattle.session.specs.Answers.{serial_after as next_serial};
+ghost use Rattle.session.specs.Rooms.{AreShort, HasReturn, HasRoomFor, IsLonger, IsMore, frame_room};
 
 use crate::act::{Act, Client};
 use crate::frame::{answer_frame, has_no_reply, refusal_frame, told_frame};
 use crate::item::reply_to;
 use crate::room::{Room, handed_out};
-use crate::speech::{Speech, spoken};
+use crate::speech::{Speech, serial_after, spoken};
+use bus_answers::begun::{Begun, finish, take_little};
+use dbus_dispatch::ask::expects_reply;
 use dbus_dispatch::refused::refused_message;
 use dbus_dispatch::reply::reply_message;
 use dbus_types::message::{Message, OutMessage};
@@ -133,8 +140,8 @@ fn collect_request(collects: bool) -> Option<Request>
 
 /// The pieces that answer an item, behind this serial, and the last serial.
 ///
-/// What became of the item's request can be told. Where the room is taken there is memory for
-/// whatever frame isn't longer.
+/// What became of the item's request can be told, and the room is taken: there is memory for
+/// whatever frame isn't longer, and for an answer that tells a call little.
 pub fn answer(
     alloc: Global,
     client: &Client,
@@ -143,12 +150,13 @@ pub fn answer(
     serial: u32,
     room: &mut Room,
 ) -> Result<Speech, WantOfMemory>
-    requires { CanTell due told }
+    requires can_tell { CanTell due told }
+    requires taken { HasRoomFor client.now serial due room.old }
     ensures pieces { IfOk result (λ speech. speech.pieces
         ≡ frames_due due told ++ spoken serial (said_of client.now due told)) }
     ensures serial { IfOk result (λ speech. speech.serial
         ≡ last_spoken serial (said_of client.now due told)) }
-    ensures lacks { IsTaken room.old → OnErr result (IsLonger due told) }
+    ensures lacks { OnErr result (IsLonger due told) }
 {
     match due {
         Due::Nothing => Ok(Speech {
@@ -157,7 +165,7 @@ pub fn answer(
         }),
         Due::Line { reply } => one_piece(alloc, &mut room.pieces, serial, Some(reply)),
         Due::Call { reply } => answer_locally(alloc, serial, &reply, told),
-        Due::Portal { call } => answer_call(alloc, client, serial, &call, told),
+        Due::Portal { call } => answer_call(alloc, client, serial, &call, told, room),
         Due::Node { unique, is_quiet } => {
             let frame = node_frame(alloc, &mut room.frame, unique, is_quiet, told)?;
             one_piece(alloc, &mut room.pieces, serial, frame)
@@ -224,27 +232,109 @@ fn answer_call(
     serial: u32,
     call: &Message,
     told: Told,
+    room: &mut Room,
 ) -> Result<Speech, WantOfMemory>
-    requires { CanTell (Due.Portal call.now) told }
+    requires can_tell { CanTell (Due.Portal call.now) told }
+    requires taken { HasReturn client.now serial call.now room.old }
     ensures pieces { IfOk result (λ speech. speech.pieces
         ≡ spoken serial (said_of client.now (Due.Portal call.now) told)) }
     ensures serial { IfOk result (λ speech. speech.serial
         ≡ last_spoken serial (said_of client.now (Due.Portal call.now) told)) }
+    ensures lacks { OnErr result (IsMore call.now told) }
 {
     match told {
         Told::Nothing => Ok(Speech {
             pieces: List::new(alloc),
             serial,
         }),
-        Told::Reply(told) => {
-            let answer = reply_message(alloc, &told.answer, call, &client.settings);
-            say(alloc, serial, told.signals.as_slice(), call, answer)
-        }
+        Told::Reply(told) => answer_reply(alloc, client, serial, call, &told, room),
         Told::Refused(refused) => {
             let answer = refused_message(alloc, &refused, call);
             say(alloc, serial, &[], call, answer)
         }
     }
+}
+
+/// The same of a reply. Where it tells little, and no signal rides ahead of it, the return that was
+/// begun is finished.
+fn answer_reply(
+    alloc: Global,
+    client: &Client,
+    serial: u32,
+    call: &Message,
+    told: &Reply,
+    room: &mut Room,
+) -> Result<Speech, WantOfMemory>
+    requires can_tell { CanTell (Due.Portal call.now) (Told.Reply told.now) }
+    requires taken { HasReturn client.now serial call.now room.old }
+    ensures pieces { IfOk result (λ speech. speech.pieces
+        ≡ spoken serial (said_of client.now (Due.Portal call.now) (Told.Reply told.now))) }
+    ensures serial { IfOk result (λ speech. speech.serial
+        ≡ last_spoken serial (said_of client.now (Due.Portal call.now) (Told.Reply told.now))) }
+    ensures lacks { OnErr result (IsMore call.now (Told.Reply told.now)) }
+{
+    if told.signals.len() > 0 {
+        return say_reply(alloc, client, serial, call, told);
+    }
+    match take_little(&mut room.begun, &told.answer) {
+        Some(begun) => {
+            let pieces = &mut room.pieces;
+            say_begun(alloc, serial, call, told, begun, pieces)
+        }
+        None => say_reply(alloc, client, serial, call, told),
+    }
+}
+
+/// The signals, and behind them a reply, with memory of their own.
+fn say_reply(
+    alloc: Global,
+    client: &Client,
+    serial: u32,
+    call: &Message,
+    told: &Reply,
+) -> Result<Speech, WantOfMemory>
+    requires { CanTell (Due.Portal call.now) (Told.Reply told.now) }
+    ensures pieces { IfOk result (λ speech. speech.pieces
+        ≡ spoken serial (said_of client.now (Due.Portal call.now) (Told.Reply told.now))) }
+    ensures serial { IfOk result (λ speech. speech.serial
+        ≡ last_spoken serial (said_of client.now (Due.Portal call.now) (Told.Reply told.now))) }
+{
+    let answer = reply_message(alloc, &told.answer, call, &client.settings);
+    say(alloc, serial, told.signals.as_slice(), call, answer)
+}
+
+/// A reply that tells little, where the call expects one: its return was begun. It stands alone in
+/// this list, which is handed out then.
+fn say_begun(
+    alloc: Global,
+    serial: u32,
+    call: &Message,
+    told: &Reply,
+    begun: Begun,
+    list: &mut Vec<ByteList>,
+) -> Result<Speech, WantOfMemory>
+    requires begun { (mountpoint : AList ℕ)
+        × IsBegun mountpoint call.now (next_serial serial) begun }
+    requires little { is_little begun.method told.now.answer ≡ true }
+    requires to_call { IsToldTo call.now told.now.answer }
+    ensures pieces { (mountpoint : AList ℕ) →
+        IsBegun mountpoint call.now (next_serial serial) begun → IfOk result (λ speech.
+        speech.pieces ≡ spoken serial
+        (option_to_list (message_to call.now (reply_of mountpoint call.now told.now.answer)))) }
+    ensures serial { (mountpoint : AList ℕ) →
+        IsBegun mountpoint call.now (next_serial serial) begun → IfOk result (λ speech.
+        speech.serial ≡ last_spoken serial
+        (option_to_list (message_to call.now (reply_of mountpoint call.now told.now.answer)))) }
+    ensures room { 0 < vec_capacity list.old → IsOk result }
+{
+    if !expects_reply(call) {
+        return Ok(Speech {
+            pieces: List::new(alloc),
+            serial,
+        });
+    }
+    let piece = finish(begun, &told.answer)?;
+    one_piece(alloc, list, serial_after(serial), Some(piece))
 }
 
 /// The signals that tell of changes, and behind them the answer to a call,

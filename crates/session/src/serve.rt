@@ -15,11 +15,10 @@ ghost use Rattle.session.specs.Answers.{last_spoken, spoken};
 ghost use Rattle.session.specs.Asked.{MayAnswer, asked_by};
 ghost use Rattle.session.specs.Cuts.{Cuts, no_item, whole_item};
 ghost use Rattle.session.specs.Dues.{Became, CanTell, due_of};
-ghost use Rattle.session.specs.Lacks.{LacksAt};
 ghost use Rattle.session.specs.Rooms.{FitsItsOp, IsTakenFor};
 ghost use Rattle.session.specs.declared.served.Stop.TheVariants as stop;
 ghost use Rattle.session.specs.Pushes.{Tells};
-ghost use Rattle.session.specs.Ledger.{world, Sends, ActEnds, Collected, ItemEnds, Stops};
+ghost use Rattle.session.specs.Ledger.{world, Sends, ActEnds, Collected, ItemEnds, LacksAt, Stops};
 
 use crate::act::{Act, Client, ItemError};
 use crate::answer::{Parted, Told, answer, part};
@@ -168,12 +167,16 @@ pub fn serve_act<D: Desk, K: Sink>(
     desk: &mut D,
     sink: &mut K,
 ) -> Result<u32, Fed>
-    requires { MayAnswer client.now act }
+    requires answers { MayAnswer client.now act }
+    requires taken { IsTakenFor client.now serial act room.old }
     ensures ends { ActEnds client.now result act serial
         (world (D.seated desk.old) (K.told sink.old) (K.faults sink.old))
         (world (D.seated desk.new) (K.told sink.new) (K.faults sink.new)) }
-    // Where the room was taken, there was memory for the frame of all but a READ and a READDIR.
-    ensures lacks { IsTakenFor act room.old → IfErr result (LacksAt act) }
+    // There was memory for the frame of all but a READ and a READDIR, and for an answer that tells
+    // a call little, where no signal rides ahead of it.
+    ensures lacks { IfErr result (LacksAt client.now act serial
+        (world (D.seated desk.old) (K.told sink.old) (K.faults sink.old))
+        (world (D.seated desk.new) (K.told sink.new) (K.faults sink.new))) }
     ensures goes { D.goes desk.old desk.new }
 {
     let Parted { request, due } = part(act);
@@ -210,7 +213,7 @@ fn serve_item<D: Desk, K: Sink>(
     match read_item(alloc, client, &mut stage.phase, item) {
         Ok(act) => {
             // Behind a change there has to be memory to tell it.
-            if room.take(&act).is_err() {
+            if room.take(alloc, client, &act, stage.serial).is_err() {
                 return Err(Fed::Memory);
             }
             match serve_act(alloc, client, act, stage.serial, room, desk, sink) {

@@ -1,5 +1,5 @@
-use Rattle.std.proofs.Common.{length, refl}
-use Rattle.add_calls.specs.Placing.{book_of}
+use Rattle.std.proofs.Common.{refl}
+use Rattle.add_calls.specs.Placing.{book_of, words_for}
 use Rattle.add_calls.proofs.Counts.{owns-hold}
 use Rattle.add_calls.proofs.PlacingLemmas.{all-placed, drew-none, numbers-for-all, room-for-all}
 use Rattle.add_calls.proofs.place.place_all.Goals as goal
@@ -14,7 +14,7 @@ pub place_from-requires-clause-numbers : goal.place_from-requires-clause-numbers
 place_from-requires-clause-numbers g c = numbers-for-all c.args.who.now c.args.plan.now c.args.documents.now c.args.applications.now c.requires.within
 
 pub returns-in-Err-clause-words : goal.returns-in-Err-clause-words
-returns-in-Err-clause-words g c = drew-none (length c.args.plan.now.items) (g.W.Words.told c.args.words.now) (g.W.Words.told c.args.words.now) refl
+returns-in-Err-clause-words g c = drew-none (words_for c.args.plan.now.items) (g.W.Words.told c.args.words.now) (g.W.Words.told c.args.words.now) refl
 
 pub returns-clause-ok : goal.returns-clause-ok
 returns-clause-ok g c =

@@ -3,7 +3,7 @@ use Rattle.add_calls.proofs.PlacingLemmas.{drew-none}
 use Rattle.add_calls.specs.Placing.{book_of}
 use Rattle.add_files.specs.declared.plan.PlanItem.{PlanItem}
 use Rattle.add_serving.proofs.AddSteps.{full-follow, kinds-follow, placed-follow, unseen-follows}
-use Rattle.add_serving.proofs.Bounded.{looks-few, was-asked, was-asked-none, words-few}
+use Rattle.add_serving.proofs.Bounded.{drew-for-made, drew-for-none, looks-few, was-asked, was-asked-none, words-few}
 use Rattle.add_serving.specs.Adds.{most_looks, most_words}
 use Rattle.add_serving.proofs.calls.add_planned.Goals as goal
 
@@ -45,3 +45,12 @@ returns-in-Err-place_kept-clause-tree g c =
 pub returns-in-Err-place_kept-clause-words : goal.returns-in-Err-place_kept-clause-words
 returns-in-Err-place_kept-clause-words g c =
     words-few c.args.add.now c.args.plan.now c.args.paths.now (g.W.Words.told c.args.words.now) (g.W.Words.told c.place_kept.new.words) c.requires.few c.requires.planned c.in-Err-place_kept.ensures.words
+
+pub returns-in-Err-clause-made : goal.returns-in-Err-clause-made
+returns-in-Err-clause-made g c =
+    drew-for-none c.args.add.now c.args.who.now c.args.paths.now (book_of c.args.documents.now c.args.grants.now c.args.applications.now) (g.T.HostTree.is c.args.tree.now).told (g.W.Words.told c.args.words.now)
+
+pub returns-in-Err-place_kept-clause-made : goal.returns-in-Err-place_kept-clause-made
+returns-in-Err-place_kept-clause-made g c =
+    drew-for-made c.args.add.now c.args.who.now c.args.paths.now (book_of c.args.documents.now c.args.grants.now c.args.applications.now) (g.T.HostTree.is c.args.tree.now).told c.args.plan.now (g.W.Words.told c.args.words.now) (g.W.Words.told c.place_kept.new.words)
+    c.requires.plan c.requires.call c.in-Err-place_kept.ensures.words

@@ -3,7 +3,7 @@ use Rattle.add_calls.specs.Placing.{book_of}
 use Rattle.add_serving.specs.Adds.{most_looks, most_words}
 use Rattle.add_serving.proofs.AddSteps.{plan-error}
 use Rattle.add_calls.proofs.PlacingLemmas.{drew-none}
-use Rattle.add_serving.proofs.Bounded.{on-err, was-asked-none}
+use Rattle.add_serving.proofs.Bounded.{drew-for-none, on-err, was-asked-none}
 use Rattle.add_serving.proofs.calls.add_presented.Goals as goal
 
 pub returns-in-Err-clause-ok : goal.returns-in-Err-clause-ok
@@ -16,3 +16,8 @@ returns-in-Err-clause-tree g c = on-err c.refused_plan.result (was-asked-none (m
 
 pub returns-in-Err-clause-words : goal.returns-in-Err-clause-words
 returns-in-Err-clause-words g c = on-err c.refused_plan.result (drew-none (most_words c.args.add.now) (g.W.Words.told c.args.words.now) (g.W.Words.told c.args.words.now) refl)
+
+pub returns-in-Err-clause-made : goal.returns-in-Err-clause-made
+returns-in-Err-clause-made g c =
+    on-err c.refused_plan.result
+    (drew-for-none c.args.add.now c.args.who.now c.args.paths.now (book_of c.args.documents.now c.args.grants.now c.args.applications.now) (g.T.HostTree.is c.args.tree.now).told (g.W.Words.told c.args.words.now))

@@ -12,7 +12,7 @@ use Rattle.portal_steps.specs.TreeCalls.{entry_calls}
 use Rattle.portal_steps.proofs.BusCalls.{add-calls, bus-moment, listed}
 use Rattle.portal_steps.proofs.NodeSteps.{alike-same}
 use Rattle.portal_steps.proofs.AskedCalls.{asked-keeps, was-asked-keeps}
-use Rattle.portal_steps.proofs.CallSteps.{comes_added, entry_with, failed_device, keeping_over, keeping_run, keeps_run, stands_over, stands_served, stays_told, stored_over, stored_served}
+use Rattle.portal_steps.proofs.CallSteps.{comes_added, drew_added, entry_with, failed_device, keeping_over, keeping_run, keeps_run, stands_over, stands_served, stays_told, stored_over, stored_served}
 use Rattle.portal_steps.proofs.Boxes.{taken-empty}
 use Rattle.portal_steps.proofs.Steps.{signals-now, stored_back}
 use Rattle.portal_steps.proofs.WentDevices.{spends-add, went-add}
@@ -141,8 +141,12 @@ returns-in-Ok-served-clause-failure g c =
 
 pub returns-in-Err-clause-err : goal.returns-in-Err-clause-err
 returns-in-Err-clause-err g c =
-    let kept = was-asked-keeps _ (g.T.HostTree.is c.self.inside.tree) (g.T.HostTree.is c.serve_add-served.new.tree) c.in-Err.ensures.tree in
-    spends-add _ _ _ _ _ _ _ c.args.add refl (rw (← c.self.view_is) c.in-Err.ensures.tree) (rw (← c.self.view_is) c.in-Err.ensures.keeper) (search rules) (rw (← c.self.view_is) c.in-Err.ensures.words) (rw (← c.self.view_is) kept.0) (search rules) (search rules)
+    let k = c.self.inside in
+    let tree = g.T.HostTree.is k.tree in
+    let served = c.serve_add-served.new in
+    let kept = was-asked-keeps _ tree (g.T.HostTree.is served.tree) c.in-Err.ensures.tree in
+    let made = drew_added tree.began k.opening k.history.entries k.history.limit k.documents k.rights k.applications k.connections k.handles k.namings tree.told c.self.invariant.0 c.args.seat c.args.add tree.told refl (g.W.Words.told k.words) (g.W.Words.told served.words) c.in-Err.ensures.made in
+    spends-add _ _ _ _ _ _ _ c.args.add refl (rw (← c.self.view_is) c.in-Err.ensures.tree) (rw (← c.self.view_is) c.in-Err.ensures.keeper) (search rules) (rw (← c.self.view_is) c.in-Err.ensures.words) (rw (← c.self.view_is) made) (rw (← c.self.view_is) kept.0) (search rules) (search rules)
 
 -- ---- memory that was taken ahead
 
