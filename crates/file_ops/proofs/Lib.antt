@@ -10,3 +10,4 @@ mod Numberings
 mod DoesBelow
 mod Numbers
 mod ChildWalks
+mod LowKinds

@@ -2,6 +2,7 @@
 use Rattle.std.proofs.Common.{◌≡◌, ◌+◌, ℕ, List, [], ◌∷◌, Bool, true, false, cond, Option, Some, None, refl, sym, ap, subst, ◌∙◌, IfSome, Result, Ok, Err, length, map, take, unwrap_or, not, nat_lt, ◌≤◌, arith, inl, inr}
 use Rattle.std.specs.Option.{option_map}
 use Rattle.std.proofs.lemmas.Bool.Decides.{nat_tests}
+use Rattle.std.proofs.lemmas.Result.{on_err_weaker}
 use Rattle.std.specs.List.{slice_set}
 use Rattle.std.specs.Result.{IfOk, OnErr}
 use Rattle.portal_base.specs.Calls.{FailsAsTold}
@@ -49,7 +50,7 @@ use Rattle.node_looks.specs.Opened.{IsAllowed, by_open_file, file_of}
 use Rattle.node_looks.specs.OpenHandles.{Handled}
 use Rattle.node_looks.proofs.DoneLemmas.{IsExact, done-in, handle-is, handles-stay, same-answer, walk-is}
 use Rattle.node_looks.specs.Sights.{sight_of}
-use Rattle.file_ops.specs.Wanting.{calls_in_vain}
+use Rattle.file_ops.specs.Wanting.{calls_by}
 use Rattle.file_ops.specs.Tries.{Goes, GoesBehind, ShowsAt, done_after, done_behind, done_of_ended, ended_by, fault_of_call, found_nothing, refuses, says, shown_behind, tree_done}
 use Rattle.node_looks.specs.declared.served.NodeDone.{NodeDone}
 use Rattle.node_looks.specs.declared.sight.SeenPlace.{SeenPlace}
@@ -332,15 +333,32 @@ once-wants : (table : HandleTable) (old new : TreeIs) → WasCalledOnce old new 
 once-wants table old new (inl e) = record { handles = λ s h. h; calls = ([], record { goes = e; fails = tt }, omega arith) }
 once-wants table old new (inr k) = record { handles = λ s h. h; calls = (k.0 ∷ [], k.1, omega arith) }
 
--- so often at most as requests of its kind call the tree
-pub wants-so : (op kind : NodeOp) (table : HandleTable) (old : TreeIs) (after : HandleTable) (new : TreeIs) → op ≡ kind → Wants (calls_in_vain kind) table old after new → Wants (calls_in_vain op) table old after new
-wants-so op kind table old after new e w = subst (λ (o : NodeOp). Wants (calls_in_vain o) table old after new) (sym e) w
+-- so often at most as requests of its kind call the tree at such a node
+pub wants-so : (below : Bool) (op kind : NodeOp) (table : HandleTable) (old : TreeIs) (after : HandleTable) (new : TreeIs) → op ≡ kind →
+    Wants (calls_by below kind) table old after new → Wants (calls_by below op) table old after new
+wants-so below op kind table old after new e w = subst (λ (o : NodeOp). Wants (calls_by below o) table old after new) (sym e) w
 
-pub called-so : (op kind : NodeOp) (table : HandleTable) (old new : TreeIs) → op ≡ kind → WasCalledUpTo (calls_in_vain kind) old new → Wants (calls_in_vain op) table old table new
-called-so op kind table old new e w = wants-so op kind table old table new e (record { handles = λ s h. h; calls = w })
+pub called-so : (below : Bool) (op kind : NodeOp) (table : HandleTable) (old new : TreeIs) → op ≡ kind →
+    WasCalledUpTo (calls_by below kind) old new → Wants (calls_by below op) table old table new
+called-so below op kind table old new e w = wants-so below op kind table old table new e (record { handles = λ s h. h; calls = w })
 
-pub once-so : (op kind : NodeOp) (table : HandleTable) (old new : TreeIs) → op ≡ kind → calls_in_vain kind ≡ 1 → WasCalledOnce old new → Wants (calls_in_vain op) table old table new
-once-so op kind table old new e one w = wants-so op kind table old table new e (subst (λ (n : ℕ). Wants n table old table new) (sym one) (once-wants table old new w))
+pub once-so : (below : Bool) (op kind : NodeOp) (table : HandleTable) (old new : TreeIs) → op ≡ kind → calls_by below kind ≡ 1 →
+    WasCalledOnce old new → Wants (calls_by below op) table old table new
+once-so below op kind table old new e one w = wants-so below op kind table old table new e (subst (λ (n : ℕ). Wants n table old table new) (sym one) (once-wants table old new w))
+
+-- the same, where at nodes below which nothing is the tree is called less often
+pub wants-there : {A : Type 0} (r : Result A WantOfMemory) (below : Bool) (op kind : NodeOp) (table : HandleTable) (old : TreeIs) (after : HandleTable) (new : TreeIs) → op ≡ kind →
+    OnErr r (Wants (calls_by true kind) table old after new) → (below ≡ false → OnErr r (Wants (calls_by false kind) table old after new)) →
+    OnErr r (Wants (calls_by below op) table old after new)
+wants-there r true op kind table old after new e far near = on_err_weaker r (wants-so true op kind table old after new e) far
+wants-there r false op kind table old after new e far near = on_err_weaker r (wants-so false op kind table old after new e) (near refl)
+
+-- a look-up below an exported folder, and one elsewhere, which leaves the tree as it is
+pub looked-there : {A : Type 0} (r : Result A WantOfMemory) (below : Bool) (op : NodeOp) (name : List ℕ) (table : HandleTable) (old new : TreeIs) → op ≡ NodeOp.Lookup name →
+    OnErr r (WasCalledUpTo 2 old new) → (below ≡ false → OnErr r (new ≡ old)) → OnErr r (Wants (calls_by below op) table old table new)
+looked-there r true op name table old new e far near = on_err_weaker r (called-so true op (NodeOp.Lookup name) table old new e) far
+looked-there r false op name table old new e far near =
+    on_err_weaker r (λ same. called-so false op (NodeOp.Lookup name) table old new e ([], record { goes = same; fails = tt }, omega arith)) (near refl)
 
 -- ---- parts of a walk
 

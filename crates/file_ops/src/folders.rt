@@ -1,6 +1,6 @@
 //! FUSE_OPENDIR: a folder, and the entries that it has then.
 
-ghost use Rattle.std.specs.Prelude.{◌≡◌, ℕ, ◌<◌, ◌^◌, [], ◌∷◌, IfOk, IsSome, IsSomeAnd, None, OnErr, Option, Some, false, length, option_copied, option_map};
+ghost use Rattle.std.specs.Prelude.{◌≡◌, ℕ, ◌<◌, ◌^◌, [], ◌∷◌, IfOk, IsSome, IsSomeAnd, None, OnErr, Option, Some, false, length, option_copied, option_map, true};
 ghost use Rattle.portal_base.specs.declared.files.Look.TheVariants as Look;
 ghost use Rattle.host_tree.specs.Trees.{is_look_fault};
 ghost use Rattle.open_handles.specs.Opened.{CanAdd, HandleTable, opened_on};
@@ -14,10 +14,11 @@ ghost use Rattle.portal_model.specs.Place.{Exported, node_of, sight_of_place};
 ghost use Rattle.portal_model.specs.State.{State};
 ghost use Rattle.portal_model.specs.Walk.{AtPath, Looks};
 ghost use Rattle.app_view.specs.Books.{Lends};
-ghost use Rattle.app_view.specs.Places.{IsFolder};
+ghost use Rattle.app_view.specs.Places.{IsFolder, is_folder_place};
 ghost use Rattle.app_view.specs.declared.book.ViewBook.{ViewBook};
 ghost use Rattle.node_looks.specs.Done.{DoesAt, DoneBy, Wants, done_with, room_in};
 ghost use Rattle.file_ops.specs.OpenedFolders.{ListedBelow, Lists, ListsBehind, OpensBelow, path_in};
+ghost use Rattle.file_ops.specs.Wanting.{may_be_below};
 ghost use Rattle.node_looks.specs.Sights.{sight_of};
 
 use app_view::{SeenBelow, ViewBook, listing, listing_below, place_of};
@@ -45,7 +46,8 @@ use std::alloc::Global;
 /// `naming` is what the connection has named by the number in the node. Room for the
 /// handle is taken first; a document's folder then takes one look at the tree. A folder
 /// that is a document, or lies below one, takes its look ahead of the room, and then the
-/// names in it are listed. No document is looked at in which the view's subject has no
+/// names in it are listed: so a request that wants memory has called the tree twice at most, and
+/// once at other nodes. No document is looked at in which the view's subject has no
 /// right: n documents or applications take about n log m steps, of m that there are.
 pub fn open_dir<T: HostTree>(
     alloc: Global,
@@ -62,6 +64,8 @@ pub fn open_dir<T: HostTree>(
     ensures unclocked { IfOk result (λ done. done.now ≡ None) }
     ensures err { OnErr result
         (Wants 2 handles.old (T.is tree.old) handles.new (T.is tree.new)) }
+    ensures plain_err { may_be_below call.now.request.now.node ≡ false → OnErr result
+        (Wants 1 handles.old (T.is tree.old) handles.new (T.is tree.new)) }
 {
     let room = room_for_look(alloc)?;
     match place_of(call.request.node) {
@@ -92,6 +96,8 @@ fn at_place<T: HostTree>(
     ensures unclocked { IfOk result (λ done. done.now ≡ None) }
     ensures err { OnErr result
         (Wants 2 handles.old (T.is tree.old) handles.new (T.is tree.new)) }
+    ensures plain_err { is_folder_place place ≡ true → OnErr result
+        (Wants 1 handles.old (T.is tree.old) handles.new (T.is tree.new)) }
 {
     match seen_at(book, call.who, place, naming) {
         None => Ok(done(room, unlooked(refusal(ENOENT)))),

@@ -41,8 +41,9 @@ use std::alloc::Global;
 /// The tree may have been called in vain by a SETATTR, OPEN, CREATE, READ, WRITE, FSYNC
 /// or OPENDIR, by a LOOKUP at a node of a document's file or of a name below a folder that
 /// is a document, and the clock read by a SETATTR, OPEN, CREATE or WRITE; no other request
-/// that wants memory has called the tree, and none reads the clock. So CREATE calls it
-/// three times at most, LOOKUP, SETATTR, OPEN and OPENDIR twice, and the others once. A
+/// that wants memory has called the tree, and none reads the clock. So CREATE, SETATTR and
+/// OPEN call it twice at most, and the others once; at a node of a document's file or of a
+/// name below such a folder LOOKUP and OPENDIR call it twice at most, and CREATE three times. A
 /// GETATTR or ACCESS wants no memory where there is one of `rooms`, of which it takes one
 /// at most, nor does a LOOKUP in a root, in the folder of all views or in a document's
 /// folder; a FLUSH, RELEASE, RELEASEDIR, FORGET or BATCH_FORGET never does.
@@ -61,7 +62,7 @@ pub fn serve_node<T: HostTree, C: Clock>(
     ensures ok { IfOk result (λ done. DoesNaming book.now call.now handles.old namings.old
         (T.is tree.old) done handles.new namings.new (T.is tree.new)) }
     ensures clock { IfOk result (λ done. Reads C.reads clock.old done.now clock.new) }
-    ensures err { OnErr result (Wants (calls_in_vain call.now.request.now.op) handles.old
+    ensures err { OnErr result (Wants (calls_in_vain call.now.request.now) handles.old
         (T.is tree.old) handles.new (T.is tree.new)) }
     ensures names_err { OnErr result (NamesKept namings.old namings.new) }
     ensures clock_err { OnErr result (MayRead C.reads clock.old clock.new) }
@@ -225,6 +226,8 @@ fn make_file<T: HostTree, C: Clock>(
     ensures clock { IfOk result (λ done. Reads C.reads clock.old done.now clock.new) }
     ensures err { OnErr result
         (Wants 3 handles.old (T.is tree.old) handles.new (T.is tree.new)) }
+    ensures plain_err { may_be_below call.now.request.now.node ≡ false → OnErr result
+        (Wants 2 handles.old (T.is tree.old) handles.new (T.is tree.new)) }
     ensures names_err { OnErr result (NamesKept namings.old namings.new) }
     ensures clock_err { OnErr result (MayRead C.reads clock.old clock.new) }
 {

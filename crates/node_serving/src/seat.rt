@@ -64,7 +64,7 @@ pub fn serve<T: HostTree, C: Clock>(
     ensures counts { IfOk result (λ done.
         Counts seat request.now done.answer counts.old.counts counts.new.counts) }
     ensures count { length connections.new ≡ length connections.old }
-    ensures err { OnErr result (Wants (calls_in_vain request.now.op) handles.old (T.is tree.old)
+    ensures err { OnErr result (Wants (calls_in_vain request.now) handles.old (T.is tree.old)
         handles.new (T.is tree.new)) }
     ensures names_err { OnErr result (NamesKept namings.old namings.new) }
     ensures clock_err { OnErr result (MayRead C.reads clock.old clock.new) }

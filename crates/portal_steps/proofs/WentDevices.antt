@@ -156,13 +156,13 @@ module _ {T K C W : Type 0} (tree_is : T → TreeIs) (keeper_is : K → KeeperIs
       }
 
   -- that of a request on a node, which may have asked the tree and the clock
-  pub spends-node : (r : NodeRequest) → request ≡ Request.Node r → (may_ask_tree_in_vain request ≡ false → new.tree ≡ old.tree) → (may_read_clock request ≡ false → new.clock ≡ old.clock) → WasCalledUpTo (calls_in_vain r.op) (tree_is old.tree) (tree_is new.tree) → new.keeper ≡ old.keeper → MayRead clock_reads old.clock new.clock → new.words ≡ old.words → new.story.began ≡ old.story.began → new.story.opening ≡ old.story.opening → new.story.history ≡ old.story.history →
+  pub spends-node : (r : NodeRequest) → request ≡ Request.Node r → (may_ask_tree_in_vain request ≡ false → new.tree ≡ old.tree) → (may_read_clock request ≡ false → new.clock ≡ old.clock) → WasCalledUpTo (calls_in_vain r) (tree_is old.tree) (tree_is new.tree) → new.keeper ≡ old.keeper → MayRead clock_reads old.clock new.clock → new.words ≡ old.words → new.story.began ≡ old.story.began → new.story.opening ≡ old.story.opening → new.story.history ≡ old.story.history →
       Spends tree_is keeper_is clock_reads words_told old request new
   spends-node r is asks reads t k c w b o h = record {
     tree = (t.0, t.1);
     few = λ q e.
         let same : r ≡ q = cc (sym is ∙ e) in
-        subst (λ (x : NodeRequest). WasCalledUpTo (calls_in_vain x.op) (tree_is old.tree) (tree_is new.tree)) same t;
+        subst (λ (x : NodeRequest). WasCalledUpTo (calls_in_vain x) (tree_is old.tree) (tree_is new.tree)) same t;
     looks = λ q e. let no : Request.Node r ≡ Request.Add q = sym is ∙ e in absurd (cc);
     keeper = inl (ap keeper_is k);
     clock = c;

@@ -56,18 +56,18 @@ DrewForMade s a old new = (new ≡ old)
 
 -- What a refusal does, which comes where memory is wanted: the keeper may have been asked once and
 -- have wanted memory too. Where the request may ask the tree in vain, that may have been asked, of
--- which no call failed, and else it is the same; a request on a node asks it three times in vain at
--- most, by its kind; an Add looks once at most at each of its files, of which it may have 16, or
+-- which no call failed, and else it is the same; a request on a node asks it so often at most as its
+-- kind and its node say; an Add looks once at most at each of its files, of which it may have 16, or
 -- twice where the file is named. Where the request may draw words, some may have been drawn, one
 -- for each file at most, and no more than documents would have been made, and else they are the
--- same; and where it may read the clock, that may have been read once, and else it is the same; and where it may
--- not change the records the keeper is the same. All else is as before.
+-- same; and where it may read the clock, that may have been read once, and else it is the same; and
+-- where it may not change the records the keeper is the same. All else is as before.
 pub record Spends {T K C W : Type 0} (tree_is : T → TreeIs) (keeper_is : K
     → KeeperIs) (clock_reads : C → ℕ → C → Type 0) (words_told : W → Option (List ℕ))
     (old : PortalIs T K C W) (request : Request) (new : PortalIs T K C W) : Type 0 where
   pub tree : WasCalled (tree_is old.tree) (tree_is new.tree)
   pub few : (r : NodeRequest) → request ≡ Request.Node r →
-      WasCalledUpTo (calls_in_vain r.op) (tree_is old.tree) (tree_is new.tree)
+      WasCalledUpTo (calls_in_vain r) (tree_is old.tree) (tree_is new.tree)
   pub looks : (a : AddRequest) → request ≡ Request.Add a →
       WasCalledUpTo (most_looks a) (tree_is old.tree) (tree_is new.tree)
   pub keeper : KeeperStays (keeper_is old.keeper) (keeper_is new.keeper)

@@ -2,6 +2,7 @@ use Rattle.std.proofs.Common.{◌∙◌, sym}
 use Rattle.std.specs.Option.{option_copied}
 use Rattle.std.proofs.lemmas.Result.{IfOk-weaker}
 use Rattle.file_ops.proofs.OpenedDirs.{open-dir-does, placed-dir}
+use Rattle.file_ops.proofs.LowKinds.{low-is-folder}
 use Rattle.file_ops.proofs.folders.open_dir.Goals as goal
 
 pub returns-in-Some-clause-ok : goal.returns-in-Some-clause-ok
@@ -10,3 +11,7 @@ returns-in-Some-clause-ok g c = λ op.
     (λ done h. open-dir-does (option_copied c.args.naming) c.args.book.now c.args.call.now c.args.handles.now _ done _ _ op
     (placed-dir (option_copied c.args.naming) c.args.call.now c.in-Some.place c.args.book.now.view c.args.handles.now _ done _ _ (sym c.in-Some.is ∙ c.place_of.ensures.place) h))
     c.at_place.ensures.ok
+
+pub returns-in-Some-clause-plain_err : goal.returns-in-Some-clause-plain_err
+returns-in-Some-clause-plain_err g c = λ plain.
+    c.at_place.ensures.plain_err (low-is-folder c.args.call.now.request.now.node c.in-Some.place (sym c.in-Some.is ∙ c.place_of.ensures.place) plain)

@@ -5,7 +5,8 @@ use Rattle.portal_model.specs.declared.request.NodeOp.TheVariants as NodeOp
 use Rattle.node_looks.specs.Done.{Forgets}
 use Rattle.node_looks.proofs.DoneLemmas.{IsExact, tells-does-at}
 use Rattle.file_ops.proofs.DoesNames.{at-other, does-other}
-use Rattle.file_ops.proofs.Tries.{called-so, once-so, wants-so}
+use Rattle.file_ops.specs.Wanting.{may_be_below}
+use Rattle.file_ops.proofs.Tries.{called-so, looked-there, once-so, wants-so, wants-there}
 use Rattle.file_ops.proofs.serve.serve_node.Goals as goal
 
 pub returns-in-Lookup-clause-ok : goal.returns-in-Lookup-clause-ok
@@ -80,32 +81,33 @@ returns-in-Create-clause-ok g c = c.make_file.ensures.ok (c.in-Create.is ∙ ap 
 
 pub returns-in-Lookup-clause-err : goal.returns-in-Lookup-clause-err
 returns-in-Lookup-clause-err g c =
-    on_err_weaker c.look_up.result (called-so _ _ c.args.handles.now _ _ c.in-Lookup.is) c.look_up.ensures.err
+    looked-there c.look_up.result (may_be_below c.args.call.now.request.now.node) _ _ c.args.handles.now _ _ c.in-Lookup.is c.look_up.ensures.err
+    (λ plain. on_err_weaker c.look_up.result (ap g.T.HostTree.is) (c.look_up.ensures.unasked plain))
 
 pub returns-in-Fsync-clause-err : goal.returns-in-Fsync-clause-err
 returns-in-Fsync-clause-err g c =
-    on_err_weaker c.fsync.result (once-so _ _ c.args.handles.now _ _ c.in-Fsync.is refl) c.fsync.ensures.err
+    on_err_weaker c.fsync.result (once-so (may_be_below c.args.call.now.request.now.node) _ _ c.args.handles.now _ _ c.in-Fsync.is refl) c.fsync.ensures.err
 
 pub returns-in-Read-clause-err : goal.returns-in-Read-clause-err
 returns-in-Read-clause-err g c =
-    on_err_weaker c.read.result (once-so _ _ c.args.handles.now _ _ c.in-Read.is refl) c.read.ensures.err
+    on_err_weaker c.read.result (once-so (may_be_below c.args.call.now.request.now.node) _ _ c.args.handles.now _ _ c.in-Read.is refl) c.read.ensures.err
 
 pub returns-in-SetAttr-clause-err : goal.returns-in-SetAttr-clause-err
 returns-in-SetAttr-clause-err g c =
-    on_err_weaker c.set_attr.result (called-so _ _ c.args.handles.now _ _ c.in-SetAttr.is) c.set_attr.ensures.err
+    on_err_weaker c.set_attr.result (called-so (may_be_below c.args.call.now.request.now.node) _ _ c.args.handles.now _ _ c.in-SetAttr.is) c.set_attr.ensures.err
 
 pub returns-in-Write-clause-err : goal.returns-in-Write-clause-err
 returns-in-Write-clause-err g c =
-    on_err_weaker c.write.result (called-so _ _ c.args.handles.now _ _ c.in-Write.is) c.write.ensures.err
+    on_err_weaker c.write.result (called-so (may_be_below c.args.call.now.request.now.node) _ _ c.args.handles.now _ _ c.in-Write.is) c.write.ensures.err
 
 pub returns-in-Open-clause-err : goal.returns-in-Open-clause-err
 returns-in-Open-clause-err g c =
-    on_err_weaker c.open.result (wants-so _ _ c.args.handles.now _ _ _ c.in-Open.is) c.open.ensures.err
+    on_err_weaker c.open.result (wants-so (may_be_below c.args.call.now.request.now.node) _ _ c.args.handles.now _ _ _ c.in-Open.is) c.open.ensures.err
 
 pub returns-in-Create-clause-err : goal.returns-in-Create-clause-err
 returns-in-Create-clause-err g c =
-    on_err_weaker c.make_file.result (wants-so _ _ c.args.handles.now _ _ _ c.in-Create.is) c.make_file.ensures.err
+    wants-there c.make_file.result (may_be_below c.args.call.now.request.now.node) _ _ c.args.handles.now _ _ _ c.in-Create.is c.make_file.ensures.err c.make_file.ensures.plain_err
 
 pub returns-in-OpenDir-clause-err : goal.returns-in-OpenDir-clause-err
 returns-in-OpenDir-clause-err g c =
-    on_err_weaker c.open_dir.result (wants-so _ _ c.args.handles.now _ _ _ c.in-OpenDir.is) c.open_dir.ensures.err
+    wants-there c.open_dir.result (may_be_below c.args.call.now.request.now.node) _ _ c.args.handles.now _ _ _ c.in-OpenDir.is c.open_dir.ensures.err c.open_dir.ensures.plain_err

@@ -68,7 +68,7 @@ invariant_of-self-in-Err g c =
     let tree = g.T.HostTree.is k.tree in
     let after = g.T.HostTree.is c.serve-served.new.tree in
     let room = rw (c.as_slice.ensures) at c.in_ok-make_room.ensures.room in
-    let kept = was-called-keeps (calls_in_vain c.args.request.op) tree after c.in-Err.ensures.err.calls in
+    let kept = was-called-keeps (calls_in_vain c.args.request) tree after c.in-Err.ensures.err.calls in
     let wanting = stands_wanting tree.began k.opening k.history.entries k.history.limit k.documents k.rights k.applications k.connections k.handles k.namings tree.told c.self.invariant.0 c.serve-served.new.handles c.serve-served.new.namings c.in-Err.ensures.err.handles c.in-Err.ensures.names_err in
     let both = stands_over tree.began after.began k.opening k.history.entries k.history.limit k.documents k.rights k.applications k.connections c.serve-served.new.handles c.serve-served.new.namings tree.told after.told (g.K.Keeper.is k.keeper).told kept.0 kept.1 wanting c.self.invariant.2 in
     rw (c.in-Err.ensures.connections, c.in_ok-make_room.ensures.entries, c.in_ok-make_room.ensures.limit) (
@@ -124,7 +124,7 @@ returns-in-Ok-clause-began g c =
 
 pub returns-in-Err-clause-began : goal.returns-in-Err-clause-began
 returns-in-Err-clause-began g c =
-    rw (← c.self.view_is) (was-called-keeps (calls_in_vain c.args.request.op) (g.T.HostTree.is c.self.inside.tree) (g.T.HostTree.is c.serve-served.new.tree) c.in-Err.ensures.err.calls).0
+    rw (← c.self.view_is) (was-called-keeps (calls_in_vain c.args.request) (g.T.HostTree.is c.self.inside.tree) (g.T.HostTree.is c.serve-served.new.tree) c.in-Err.ensures.err.calls).0
 
 pub returns-in-Ok-clause-fault : goal.returns-in-Ok-clause-fault
 returns-in-Ok-clause-fault g c =
@@ -144,12 +144,12 @@ returns-in-Ok-clause-failure g c =
 
 pub returns-in-Err-clause-err : goal.returns-in-Err-clause-err
 returns-in-Err-clause-err g c =
-    let kept = was-called-keeps (calls_in_vain c.args.request.op) (g.T.HostTree.is c.self.inside.tree) (g.T.HostTree.is c.serve-served.new.tree) c.in-Err.ensures.err.calls in
+    let kept = was-called-keeps (calls_in_vain c.args.request) (g.T.HostTree.is c.self.inside.tree) (g.T.HostTree.is c.serve-served.new.tree) c.in-Err.ensures.err.calls in
     spends-node _ _ _ _ _ _ _ c.args.request refl (λ h. rw (← c.self.view_is) (c.in-Err.ensures.unasked h)) (λ h. rw (← c.self.view_is) (c.serve-served.ensures.unread h)) (rw (← c.self.view_is) c.in-Err.ensures.err.calls) (search rules) (rw (← c.self.view_is) c.in-Err.ensures.clock_err) (search rules) (rw (← c.self.view_is) kept.0) (search rules) (search rules)
 
 pub returns-in-Err-clause-unasked : goal.returns-in-Err-clause-unasked
 returns-in-Err-clause-unasked g c = λ h.
-    let kept = was-called-keeps (calls_in_vain c.args.request.op) (g.T.HostTree.is c.self.inside.tree) (g.T.HostTree.is c.serve-served.new.tree) c.in-Err.ensures.err.calls in
+    let kept = was-called-keeps (calls_in_vain c.args.request) (g.T.HostTree.is c.self.inside.tree) (g.T.HostTree.is c.serve-served.new.tree) c.in-Err.ensures.err.calls in
     let k = c.self.inside in
     let served = c.serve-served.new in
     let story : Story = record { began = (g.T.HostTree.is served.tree).began; opening = k.opening; history = c.make_room.new.history.entries } in
