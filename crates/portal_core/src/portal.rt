@@ -314,10 +314,11 @@ impl<T: HostTree, K: Keeper, C: Clock, W: Words> Portal<T, K, C, W> {
     /// too; at a request on a node what is for one request may go. Such a refusal of a request that
     /// may change the records may have asked the keeper in vain; one of an Add may have asked the
     /// tree too, once for each of its files or twice where they are named, and have drawn no more
-    /// words than it would have made documents; one of a READ, WRITE or FSYNC may have asked the
-    /// tree once, one of a SETATTR, OPEN or OPENDIR twice, as one of a LOOKUP at the node of a
-    /// document's file or of a name below a document that is a folder, and one of a CREATE three
-    /// times; and of these SETATTR, OPEN, CREATE and WRITE may have read the clock.
+    /// words than it would have made documents; one of a READ, WRITE, FSYNC or OPENDIR may have
+    /// asked the tree once, and one of a SETATTR, OPEN or CREATE twice; at the node of a document's
+    /// file or of a name below a document that is a folder one of a LOOKUP or OPENDIR twice too, and
+    /// one of a CREATE three times; and of these SETATTR, OPEN, CREATE and WRITE may have read the
+    /// clock.
     ///
     /// A LOOKUP in a root, in the folder of all views or in a document's folder, a GETATTR,
     /// ACCESS, FLUSH, RELEASE, RELEASEDIR, FORGET or BATCH_FORGET finds memory where some was
