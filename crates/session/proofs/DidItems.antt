@@ -12,7 +12,8 @@ use Rattle.session.specs.Cuts.{next_phase}
 use Rattle.session.specs.Items.{AreItems, IsItem, joined, phase_after}
 use Rattle.session.specs.Answers.{Answers, AreOf, Gives, Outcome, pieces_of, serial_past}
 use Rattle.session.specs.Asked.{asked_by}
-use Rattle.session.specs.Ledger.{ActEnds, Began, Broke, BrokeUnsaid, Did, Grew, Grows, Sends, SendsPart, World, world}
+use Rattle.session.specs.Lacks.{MayLack}
+use Rattle.session.specs.Ledger.{ActEnds, Began, Broke, BrokeUnsaid, Did, Grew, Grows, LacksAt, Sends, SendsPart, World, world}
 use Rattle.session.proofs.Grew.{grows_none, grows_on, onto_none}
 
 -- ---- items
@@ -89,6 +90,11 @@ module _ (c : Client) (act : Act) (serial : ℕ) (os : List Outcome) (v w : Seat
   act_halted Memory ps last gives h = (record { outcomes = os; pieces = ps; written = []; last = last; gives = gives; grows = record { desk = grew; told = h.0 ∙ onto_none o; faults = let same = h.1 in omega arith }; short = tt }, refl, h.1)
   act_halted More ps last gives h = absurd h
   act_halted (Over ending) ps last gives h = absurd h
+
+  -- there was no memory for what isn't sure of it
+  pub act_lacked : (ps : List (List ℕ)) (last : ℕ) → Gives c act serial os ps last → SendsPart ps Memory o a n b → MayLack act os → LacksAt c act serial (world v o a) (world w n b) Memory
+  unfolding act_halted
+  act_lacked ps last gives h lack = (act_halted Memory ps last gives h, lack)
 
   -- how pieces that are told ended, and the last serial
   pub act_ends : (r : Result ℕ Fed) (ps : List (List ℕ)) → AreOf (asked_by act) os → ps ≡ pieces_of c act serial os → Sends ps r o a n b → IfOk r (λ last. last ≡ serial_past c act serial os) → ActEnds c r act serial (world v o a) (world w n b)

@@ -25,7 +25,7 @@ use Rattle.session.specs.Asked.{MayAnswer, asked_by, collect_requests}
 use Rattle.session.specs.Dues.{Became, CanTell, CanTellTo, TellsLittle, due_of, frames_due, said_of, signals_told, told_by}
 use Rattle.session.specs.Lacks.{MayLack}
 use Rattle.session.specs.Ledger.{ActEnds, LacksAt, Sends, world}
-use Rattle.session.proofs.DidItems.{act_ends, act_halted}
+use Rattle.session.proofs.DidItems.{act_ends, act_halted, act_lacked}
 use Rattle.session.proofs.Grew.{asked_err, asked_ok, grew_none}
 use Rattle.session.proofs.ServeCall.{reply_little, reply_sound, reply_told}
 
@@ -158,5 +158,6 @@ module _ (c : Client) (act : Act) (serial : ℕ) (request : Option Request) (d :
 
   -- which it isn't sure of
   pub answer_lacks : (o : Option (List (List ℕ))) (a : ℕ) → MayLack act became.outcomes → LacksAt c act serial (world v o a) (world w o a) Memory
-  unfolding answer_unsaid act_halted
-  answer_lacks o a lack = (answer_unsaid o a, lack)
+  answer_lacks o a lack =
+      act_lacked c act serial became.outcomes v w became.grew o o a a (pieces_of c act serial became.outcomes) (serial_past c act serial became.outcomes)
+      (record { asked = each; said = refl; serial_is = refl }) (refl, refl) lack

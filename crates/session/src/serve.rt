@@ -158,7 +158,7 @@ fn ask<D: Desk>(alloc: Global, request: Option<Request>, desk: &mut D) -> Told
 
 /// Asks what an item asks and answers it, behind this serial. Answers the last
 /// serial.
-pub fn serve_act<D: Desk, K: Sink>(
+fn serve_act<D: Desk, K: Sink>(
     alloc: Global,
     client: &Client,
     act: Act,

@@ -41,6 +41,6 @@ returns-in_err-put_text-clause-room c h =
 -- behind the last nothing is to come
 pub returns-clause-items : goal.returns-clause-items
 returns-clause-items c =
-    let none = drop_all c.args.texts.now c.loop-text.text-index (omega arith) in
+    let none = drop_all c.loop-text.text-index c.args.texts.now (omega arith) in
     sym (append-nil c.loop-text.out.items)
     ∙ (ap (λ (l : List (List ℕ)). c.loop-text.out.items ++ texts_at (length c.loop-text.out.items) l) (sym none) ∙ c.loop-text.invariant.items)
