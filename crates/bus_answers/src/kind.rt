@@ -1,6 +1,7 @@
 //! What calls return.
 
 ghost use Rattle.std.specs.Prelude.{◌≡◌};
+ghost use Rattle.std.specs.List.{list_all};
 ghost use Rattle.bus_answers.specs.Little.{are_few, are_few_ids, is_done, is_little, is_place, is_short, kind_of};
 
 use dbus_calls::method::Method;
@@ -91,7 +92,13 @@ fn are_few_ids(answer: &Answer) -> bool
 fn are_few(ids: &[Text]) -> bool
     ensures { result ≡ are_few ids.now }
 {
-    ids.len() <= FILES_LIMIT && ids.iter().all(|id| is_short(id))
+    ids.len() <= FILES_LIMIT && are_short(ids)
+}
+
+fn are_short(ids: &[Text]) -> bool
+    ensures { result ≡ list_all is_short ids.now }
+{
+    ids.iter().all(|id| is_short(id))
 }
 
 fn is_short(id: &Text) -> bool
