@@ -1,5 +1,5 @@
 -- The mount point under its key, wherever it stands, and what calls return with it.
-use Rattle.std.proofs.Common.{◌≡◌, ℕ, ◌+◌, ◌*◌, ◌%◌, ◌≤◌, true, List, [], ◌∷◌, ◌++◌, drop, length, map, replicate, take, refl, sym, ap, subst, ◌∙◌, arith}
+use Rattle.std.proofs.Common.{◌≡◌, ℕ, ◌+◌, ◌*◌, ◌%◌, ◌≤◌, true, List, [], ◌∷◌, ◌++◌, drop, length, map, replicate, take, sym, ap, ◌∙◌, arith}
 use Rattle.std.specs.Int.{w32}
 use Rattle.std.specs.List.{list_all}
 use Rattle.std.specs.Prelude.{codes}
@@ -11,7 +11,7 @@ use Rattle.dbus_types.specs.declared.types.Value.{Value}
 use Rattle.dbus_types.specs.declared.types.Value.TheVariants as V
 use Rattle.dbus_types.specs.Types.{alignment}
 use Rattle.dbus_values.specs.Spells.{gap, number}
-use Rattle.dbus_values.specs.Spelling.{Spelled, aligned, array_body, in_row, spelled, spelling, spellings}
+use Rattle.dbus_values.specs.Spelling.{Spelled, aligned, array_body, spelled, spelling, spellings}
 use Rattle.dbus_values.proofs.OneSpelling.{roll_array}
 use Rattle.dbus_marshal.proofs.SpellingsMove.{spellings_move}
 use Rattle.dbus_marshal.proofs.TakenFronts.{four, number_len}

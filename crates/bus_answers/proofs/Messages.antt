@@ -1,10 +1,9 @@
 -- The message that a body behind a front is.
-use Rattle.std.proofs.Common.{◌≡◌, ℕ, ◌+◌, ◌*◌, ◌%◌, ◌≤◌, Bool, true, false, List, [], ◌∷◌, ◌++◌, drop, length, map, take, Option, None, Ok, Err, refl, sym, ap, subst, ◌∙◌, arith}
-use Rattle.std.specs.Prelude.{nat_le, if◌then◌else◌, ◌&&◌}
+use Rattle.std.proofs.Common.{◌≡◌, ℕ, ◌+◌, ◌*◌, ◌%◌, ◌≤◌, Bool, true, List, [], ◌∷◌, ◌++◌, length, map, None, Ok, Err, refl, sym, ap, subst, ◌∙◌, arith}
+use Rattle.std.specs.Prelude.{nat_le, if◌then◌else◌}
 use Rattle.std.specs.Int.{w32}
 use Rattle.std.specs.List.{list_all}
 use Rattle.std.proofs.lemmas.Bool.{le-leb}
-use Rattle.std.proofs.lemmas.List.{append-nil}
 use Rattle.dbus_calls.specs.Calls.{found}
 use Rattle.dbus_calls.specs.Errors.{error_to}
 use Rattle.dbus_calls.specs.declared.error_name.ErrorName.{ErrorName}
@@ -13,10 +12,10 @@ use Rattle.dbus_calls.specs.declared.method.Method.{Method}
 use Rattle.dbus_calls.specs.declared.method.Method.TheVariants as M
 use Rattle.dbus_dispatch.proofs.Bodies.{type_array, type_str, type_u32}
 use Rattle.dbus_dispatch.specs.Asks.{returned}
-use Rattle.dbus_dispatch.specs.Replies.{body_of, each_text, error_in, extra, identifiers, reply_by, reply_of, return_length, return_or_limit, told}
+use Rattle.dbus_dispatch.specs.Replies.{body_of, each_text, error_in, extra, identifiers, reply_by, reply_of, return_length, told}
 use Rattle.dbus_dispatch.specs.Writable.{IsTold}
 use Rattle.dbus_message.specs.Fields.{field_type, return_kind}
-use Rattle.dbus_message.specs.Written.{field, front_bytes, laid, message_bytes, return_fields}
+use Rattle.dbus_message.specs.Written.{field, laid, message_bytes, return_fields}
 use Rattle.dbus_message.proofs.WriteMessage.{body_laid, whole_len}
 use Rattle.dbus_types.specs.Types.{types_text}
 use Rattle.dbus_types.specs.declared.message.Message.{Message}
@@ -38,7 +37,7 @@ use Rattle.portal_model.specs.declared.reply.Answer.TheVariants as A
 use Rattle.bus_answers.specs.declared.begun.Begun.{Begun}
 use Rattle.bus_answers.specs.declared.kind.ReturnKind.{ReturnKind}
 use Rattle.bus_answers.specs.declared.kind.ReturnKind.TheVariants.{Nothing, Place, Ids, Data}
-use Rattle.bus_answers.specs.Begun.{IsBegun, TellsData, extra_bytes, full_at, has_extra, ids_at, longest_front, named_at, sample, sample_of, texts_at, with_body}
+use Rattle.bus_answers.specs.Begun.{IsBegun, TellsData, extra_bytes, full_at, has_extra, ids_at, named_at, sample, sample_of, with_body}
 use Rattle.bus_answers.specs.Little.{are_few, is_little, is_little_of, is_short, kind_of}
 use Rattle.bus_answers.proofs.Extras.{full_is, full_length, named_is, named_length}
 use Rattle.bus_answers.proofs.Texts.{both_of, place_is, texts_length, within}

@@ -1,5 +1,5 @@
 -- Identifiers, one after another.
-use Rattle.std.proofs.Common.{◌≡◌, ℕ, zero, suc, ◌+◌, ◌*◌, ◌<◌, ◌≤◌, Bool, true, false, List, [], ◌∷◌, ◌++◌, drop, get_or, length, map, sym, ap, subst, ◌∙◌, arith}
+use Rattle.std.proofs.Common.{◌≡◌, ℕ, zero, suc, ◌+◌, ◌*◌, ◌<◌, ◌≤◌, Bool, true, false, List, [], ◌∷◌, ◌++◌, drop, get_or, length, sym, ap, subst, ◌∙◌, arith}
 use Rattle.std.specs.Prelude.{nat_le, ◌&&◌}
 use Rattle.std.specs.Int.{w32}
 use Rattle.std.specs.List.{list_all}
@@ -8,9 +8,8 @@ use Rattle.std.proofs.lemmas.List.{append-nil, append_assoc, drop_more, length-a
 use Rattle.dbus_types.specs.declared.types.Endian.TheVariants.{Little}
 use Rattle.dbus_types.specs.declared.types.Value.{Value}
 use Rattle.dbus_types.specs.declared.types.Value.TheVariants as V
-use Rattle.dbus_types.specs.declared.types.Value.TheOpen.{Value-F}
-use Rattle.dbus_values.specs.Spells.{gap, number}
-use Rattle.dbus_values.specs.Spelling.{Spelled, aligned, spell_step, spelling, spellings, text_body}
+use Rattle.dbus_values.specs.Spells.{number}
+use Rattle.dbus_values.specs.Spelling.{Spelled, aligned, spelling, spellings, text_body}
 use Rattle.dbus_values.proofs.OneSpelling.{roll_str, roll_u32}
 use Rattle.dbus_dispatch.specs.Replies.{each_text}
 use Rattle.dbus_dispatch.proofs.Lengths.{below_str}

@@ -1,4 +1,4 @@
-use Rattle.std.proofs.Common.{◌≡◌, ◌∙◌, length, ap, arith}
+use Rattle.std.proofs.Common.{◌∙◌, length, ap, arith}
 use Rattle.std.proofs.lemmas.Result.{IfOk-weaker}
 use Rattle.bus_answers.proofs.Messages.{few_ids, ids_spelled, place_spelled}
 use Rattle.bus_answers.proofs.begun.finish.Goals as goal

@@ -1,4 +1,4 @@
-use Rattle.std.proofs.Common.{◌≡◌, ℕ, List, ◌+◌, ◌-◌, ◌≤◌, ◌++◌, ◌∙◌, ap, drop, take, length, length-append, append_assoc, sym, arith}
+use Rattle.std.proofs.Common.{◌≡◌, ℕ, List, ◌+◌, ◌-◌, ◌++◌, ◌∙◌, ap, drop, take, length, length-append, append_assoc, sym, arith}
 use Rattle.std.specs.Int.{w32}
 use Rattle.std.proofs.lemmas.List.{drop_at, take_at}
 use Rattle.dbus_types.specs.declared.types.Endian.TheVariants.{Little}

@@ -1,4 +1,4 @@
-use Rattle.std.proofs.Common.{◌≡◌, ℕ, ◌+◌, ◌*◌, ◌≤◌, List, ◌∷◌, ◌++◌, drop, length, subst, sym, ap, ◌∙◌, append-nil, arith, false, true}
+use Rattle.std.proofs.Common.{◌≡◌, ℕ, ◌+◌, ◌≤◌, List, ◌∷◌, ◌++◌, drop, length, subst, sym, ap, ◌∙◌, append-nil, arith, false, true}
 use Rattle.std.proofs.lemmas.List.{drop_all}
 use Rattle.bus_answers.specs.Begun.{texts_at}
 use Rattle.bus_answers.specs.Rooms.{HasRoom}
