@@ -19,9 +19,9 @@ pub where_err : {X E P : Type 0} (r : Result X E) → P → OnErr r P
 where_err (Ok x) p = tt
 where_err (Err e) p = p
 
-pub none_err : {X E P : Type 0} (r : Result X E) → IsOk r → OnErr r P
-none_err (Ok x) h = tt
-none_err (Err e) h = let no : false ≡ true = h in absurd (cc)
+pub none_err : {X E : Type 0} (P : Type 0) (r : Result X E) → IsOk r → OnErr r P
+none_err P (Ok x) h = tt
+none_err P (Err e) h = let no : false ≡ true = h in absurd (cc)
 
 pub nil_of : {X : Type 0} (xs : List X) → length xs ≡ 0 → xs ≡ []
 nil_of [] e = refl

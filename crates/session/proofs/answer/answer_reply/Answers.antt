@@ -37,7 +37,7 @@ returns-in-Some-clause-serial c =
     (c.say_begun.ensures.serial path is)
 
 pub returns-in-Some-clause-lacks : goal.returns-in-Some-clause-lacks
-returns-in-Some-clause-lacks c = none_err c.say_begun.result (c.say_begun.ensures.room c.requires.taken.0)
+returns-in-Some-clause-lacks c = none_err _ c.say_begun.result (c.say_begun.ensures.room c.requires.taken.0)
 
 -- it tells more
 pub returns-in-None-clause-lacks : goal.returns-in-None-clause-lacks
