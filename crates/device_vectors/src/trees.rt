@@ -72,8 +72,11 @@ fn put_step<T: HostTree>(
     path: &str,
     rest: &str,
 ) -> Result<(), VectorError> {
+    let (path, generation) = match path.split_once('#') {
+        Some((path, generation)) => (path, number(generation)?),
+        None => (path, u64::from(kind == "later")),
+    };
     let path = given(alloc, HostPath::read(alloc, path.as_bytes()))?;
-    let generation = u64::from(kind == "later");
     let file = FileName { path, generation };
     let put = put_answer(alloc, out, tree, kind, &file, rest);
     drop(file);
@@ -82,7 +85,8 @@ fn put_step<T: HostTree>(
 
 /// `look PATH`, `list PATH`, `create PATH NOW`, `settle PATH`; and of the file of a path
 /// `attr PATH`, `read PATH OFFSET SIZE`, `write PATH OFFSET NOW BYTES`, `len PATH SIZE NOW`,
-/// `sync PATH`, `later PATH`, which asks for its generation 1.
+/// `sync PATH`, `fresh PATH NOW`, `turn PATH`, `later PATH`, which asks for its generation 1.
+/// Behind a path `#` and a number name a generation.
 fn put_answer<T: HostTree>(
     alloc: Global,
     out: &mut String,
@@ -181,6 +185,8 @@ fn put_change<T: HostTree>(
         ),
         "len" => tree.set_len(file, number(first)?, number(second)?),
         "sync" => tree.sync(file),
+        "fresh" => tree.fresh(file, number(first)?),
+        "turn" => tree.turn(file),
         _ => return bad(),
     };
     Ok(write!(out, "{answer:?}")?)
