@@ -1,5 +1,6 @@
 //! Keepers of records in memory.
 
+use crate::lists::{Worded, list_of, put_shown};
 use portal_base::list::List;
 use portal_base::text::Text;
 use portal_model::records::{DocRecord, EntryRecord, GrantRecord, RecordChange, Records};
@@ -41,16 +42,35 @@ fn put_steps<K: Keeper>(
     steps: &str,
 ) -> Result<(), VectorError> {
     for step in steps.split('|') {
-        let step = step.trim();
-        if step == "load" {
-            put_load(alloc, out, keeper)?;
-        } else {
-            let answer = keeper.apply(&changes(alloc, step)?);
-            write!(out, "{answer:?}")?;
-        }
+        put_step(alloc, out, keeper, step.trim())?;
         out.push_str("; ")?;
     }
     Ok(())
+}
+
+fn put_step<K: Keeper>(
+    alloc: Global,
+    out: &mut String,
+    keeper: &mut K,
+    step: &str,
+) -> Result<(), VectorError> {
+    if step == "load" {
+        return put_load(alloc, out, keeper);
+    }
+    put_applied(alloc, out, keeper, step)
+}
+
+/// What changes answer, which are let go here alone.
+fn put_applied<K: Keeper>(
+    alloc: Global,
+    out: &mut String,
+    keeper: &mut K,
+    step: &str,
+) -> Result<(), VectorError> {
+    let changes = list_of(alloc, step, ',')?;
+    let answer = keeper.apply(&changes);
+    drop(changes);
+    put_shown(out, &answer)
 }
 
 /// What a load answers.
@@ -66,39 +86,52 @@ fn put_load<K: Keeper>(alloc: Global, out: &mut String, keeper: &mut K) -> Resul
 fn put_loaded(alloc: Global, out: &mut String, loaded: &KeeperLoad) -> Result<(), VectorError> {
     match loaded {
         KeeperLoad::Got(records) => put_records(alloc, out, records),
-        answer => Ok(write!(out, "{answer:?}")?),
+        answer => put_shown(out, answer),
     }
 }
 
 fn put_records(alloc: Global, out: &mut String, records: &Records) -> Result<(), VectorError> {
     out.push_str("Got")?;
-    let version = records.version;
-    if version != 1 {
-        write!(out, " version={version}")?;
-    }
+    put_version(out, records.version)?;
     for document in records.documents.iter() {
-        let number = document.number;
-        write!(out, " {number}")?;
-        for grant in document.grants.iter() {
-            let rights = grant.rights;
-            write!(out, "={rights}")?;
-        }
+        put_document(out, document)?;
     }
     for entry in records.entries.iter() {
-        let (table, id) = (entry.table.as_str(), entry.id.as_str());
-        write!(out, " {table}/{id}=")?;
-        out.push_str(digits(alloc, entry.datum.as_slice())?.as_str())?;
+        put_entry(alloc, out, entry)?;
     }
     Ok(())
 }
 
-fn changes(alloc: Global, step: &str) -> Result<List<RecordChange>, VectorError> {
-    let mut changes = List::new(alloc);
-    for part in step.split(',') {
-        let (kind, rest) = cut(part.trim());
-        changes.push(change(alloc, kind, rest)?)?;
+fn put_version(out: &mut String, version: u32) -> Result<(), VectorError> {
+    if version == 1 {
+        return Ok(());
     }
-    Ok(changes)
+    write!(out, " version={version}")?;
+    Ok(())
+}
+
+fn put_document(out: &mut String, document: &DocRecord) -> Result<(), VectorError> {
+    let number = document.number;
+    write!(out, " {number}")?;
+    for grant in document.grants.iter() {
+        let rights = grant.rights;
+        write!(out, "={rights}")?;
+    }
+    Ok(())
+}
+
+fn put_entry(alloc: Global, out: &mut String, entry: &EntryRecord) -> Result<(), VectorError> {
+    let (table, id) = (entry.table.as_str(), entry.id.as_str());
+    write!(out, " {table}/{id}=")?;
+    out.push_str(digits(alloc, entry.datum.as_slice())?.as_str())?;
+    Ok(())
+}
+
+impl Worded for RecordChange {
+    fn of(alloc: Global, part: &str) -> Result<RecordChange, VectorError> {
+        let (kind, rest) = cut(part.trim());
+        change(alloc, kind, rest)
+    }
 }
 
 /// `add NUMBER`, `remove NUMBER`, `grants NUMBER RIGHTS`, `set TABLE ID DATUM`,
@@ -126,15 +159,16 @@ fn change(alloc: Global, kind: &str, rest: &str) -> Result<RecordChange, VectorE
 }
 
 fn grants(alloc: Global, rights: &str) -> Result<List<GrantRecord>, VectorError> {
+    let rights = rights_of(rights)?;
+    let app = List::copied(alloc, b"org.ed".as_slice())?;
     let mut grants = List::new(alloc);
-    let rights = rights
-        .parse::<u8>()
-        .map_err(|_| VectorError::Line(LineError::BadLine))?;
-    grants.push(GrantRecord {
-        app: List::copied(alloc, b"org.ed".as_slice())?,
-        rights,
-    })?;
+    grants.push(GrantRecord { app, rights })?;
     Ok(grants)
+}
+
+/// A number of eight bits in decimal digits.
+pub fn rights_of(word: &str) -> Result<u8, LineError> {
+    word.parse::<u8>().map_err(|_| LineError::BadLine)
 }
 
 fn entry_change(

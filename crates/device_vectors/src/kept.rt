@@ -1,14 +1,13 @@
 //! Kept records, and what is wrong with them.
 
-use crate::keepers::no_records;
+use crate::keepers::{no_records, rights_of};
+use crate::lists::{Worded, list_of, put_shown};
 use portal_base::limits::Limits;
-use portal_base::list::List;
 use portal_base::text::Text;
 use portal_model::records::{DocRecord, EntryRecord, GrantRecord, Records, Row};
 use record_keeper::records_fault;
 use std::alloc::Global;
-use std::fmt::Write;
-use vector_lines::error::{LineError, VectorError, bad};
+use vector_lines::error::{VectorError, bad};
 use vector_lines::notation::{bytes, cut, number, small_number, text};
 
 /// `records LIVE MADE | RECORD | RECORD ..`: what is wrong with the records under
@@ -38,8 +37,7 @@ fn put_fault(
         put(alloc, records, part.trim())?;
     }
     let fault = records_fault(alloc, records, limits)?;
-    write!(out, "{fault:?}")?;
-    Ok(())
+    put_shown(out, &fault)
 }
 
 fn limits(words: &str) -> Result<Limits, VectorError> {
@@ -57,95 +55,78 @@ fn limits(words: &str) -> Result<Limits, VectorError> {
 fn put(alloc: Global, records: &mut Records, part: &str) -> Result<(), VectorError> {
     let (kind, rest) = cut(part);
     match kind {
-        "version" => records.version = small_number(rest)?,
-        "doc" => records.documents.push(document(alloc, false, rest)?)?,
-        "strict" => records.documents.push(document(alloc, true, rest)?)?,
-        "entry" => records.entries.push(entry(alloc, rest)?)?,
-        "" => (),
-        _ => return bad(),
+        "version" => put_version(records, rest),
+        "doc" => put_document(alloc, records, false, rest),
+        "strict" => put_document(alloc, records, true, rest),
+        "entry" => Ok(records.entries.push(entry(alloc, rest)?)?),
+        "" => Ok(()),
+        _ => bad(),
     }
+}
+
+fn put_version(records: &mut Records, version: &str) -> Result<(), VectorError> {
+    records.version = small_number(version)?;
     Ok(())
 }
 
-fn document(alloc: Global, strict: bool, rest: &str) -> Result<DocRecord, VectorError> {
+fn put_document(
+    alloc: Global,
+    records: &mut Records,
+    strict: bool,
+    rest: &str,
+) -> Result<(), VectorError> {
     let (number, rest) = cut(rest);
     let (path, words) = cut(rest);
-    Ok(DocRecord {
+    let document = DocRecord {
         number: small_number(number)?,
         path: text(alloc, path)?,
         reusable: false,
         strict,
-        grants: grants(alloc, words)?,
-    })
+        grants: list_of(alloc, words, ',')?,
+    };
+    records.documents.push(document)?;
+    Ok(())
 }
 
-fn grants(alloc: Global, words: &str) -> Result<List<GrantRecord>, VectorError> {
-    let mut grants = List::new(alloc);
-    if words == "-" {
-        return Ok(grants);
+impl Worded for GrantRecord {
+    fn of(alloc: Global, word: &str) -> Result<GrantRecord, VectorError> {
+        let (app, rights) = word.split_once('=').unwrap_or((word, ""));
+        let rights = rights_of(rights)?;
+        Ok(GrantRecord {
+            app: text(alloc, app)?,
+            rights,
+        })
     }
-    for word in words.split(',') {
-        grants.push(grant(alloc, word)?)?;
-    }
-    Ok(grants)
-}
-
-fn grant(alloc: Global, word: &str) -> Result<GrantRecord, VectorError> {
-    let (app, rights) = word.split_once('=').unwrap_or((word, ""));
-    let rights = rights
-        .parse::<u8>()
-        .map_err(|_| VectorError::Line(LineError::BadLine))?;
-    Ok(GrantRecord {
-        app: text(alloc, app)?,
-        rights,
-    })
 }
 
 fn entry(alloc: Global, rest: &str) -> Result<EntryRecord, VectorError> {
     let (table, rest) = cut(rest);
     let (id, rest) = cut(rest);
     let (datum, words) = cut(rest);
+    let datum = if datum == "-" { "" } else { datum };
     Ok(EntryRecord {
-        table: text_of(alloc, table)?,
-        id: text_of(alloc, id)?,
-        datum: bytes(alloc, if datum == "-" { "" } else { datum })?,
-        rows: rows(alloc, words)?,
+        table: Text::of(alloc, table)?,
+        id: Text::of(alloc, id)?,
+        datum: bytes(alloc, datum)?,
+        rows: list_of(alloc, words, ',')?,
     })
 }
 
-fn rows(alloc: Global, words: &str) -> Result<List<Row>, VectorError> {
-    let mut rows = List::new(alloc);
-    if words == "-" {
-        return Ok(rows);
+impl Worded for Row {
+    fn of(alloc: Global, word: &str) -> Result<Row, VectorError> {
+        let (app, words) = word.split_once('=').unwrap_or((word, ""));
+        Ok(Row {
+            app: Text::of(alloc, app)?,
+            names: list_of(alloc, words, '+')?,
+        })
     }
-    for word in words.split(',') {
-        rows.push(row(alloc, word)?)?;
-    }
-    Ok(rows)
-}
-
-fn row(alloc: Global, word: &str) -> Result<Row, VectorError> {
-    let (app, words) = word.split_once('=').unwrap_or((word, ""));
-    Ok(Row {
-        app: text_of(alloc, app)?,
-        names: names(alloc, words)?,
-    })
-}
-
-fn names(alloc: Global, words: &str) -> Result<List<Text>, VectorError> {
-    let mut names = List::new(alloc);
-    if words.is_empty() {
-        return Ok(names);
-    }
-    for word in words.split('+') {
-        names.push(text_of(alloc, word)?)?;
-    }
-    Ok(names)
 }
 
 /// A text, in which `\xNN` is a byte by its digits.
-fn text_of(alloc: Global, word: &str) -> Result<Text, VectorError> {
-    let bytes = text(alloc, word)?;
-    let string = String::from_utf8_lossy(alloc, bytes.as_slice())?;
-    Ok(Text::from_string(string))
+impl Worded for Text {
+    fn of(alloc: Global, word: &str) -> Result<Text, VectorError> {
+        let bytes = text(alloc, word)?;
+        let string = String::from_utf8_lossy(alloc, bytes.as_slice())?;
+        Ok(Text::from_string(string))
+    }
 }

@@ -10,6 +10,7 @@
 mod devices;
 mod keepers;
 mod kept;
+mod lists;
 mod readings;
 mod scripted;
 mod shown;
@@ -39,17 +40,24 @@ fn answer(alloc: Global, line: &str) -> Result<String, VectorError> {
 fn put_answer(alloc: Global, out: &mut String, line: &str) -> Result<(), VectorError> {
     let (kind, rest) = cut(line);
     match kind {
+        "tree" => trees::tree(alloc, out, rest),
+        "quiet" => trees::quiet(alloc, out, rest),
+        "keeper" => keepers::keeper(alloc, out, rest),
+        "records" => kept::records(alloc, out, rest),
+        "store" => store::store(alloc, out, rest),
+        _ => put_device(alloc, out, kind, rest),
+    }
+}
+
+/// The answer of a device.
+fn put_device(alloc: Global, out: &mut String, kind: &str, rest: &str) -> Result<(), VectorError> {
+    match kind {
         "source" => devices::source(alloc, out, rest),
         "sink" => devices::sink(alloc, out, rest),
         "memory-source" => devices::memory_source(alloc, out, rest),
         "memory-sink" => devices::memory_sink(alloc, out, rest),
         "clock" => devices::clock(out, rest),
         "words" => devices::words(alloc, out, rest),
-        "tree" => trees::tree(alloc, out, rest),
-        "quiet" => trees::quiet(alloc, out, rest),
-        "keeper" => keepers::keeper(alloc, out, rest),
-        "records" => kept::records(alloc, out, rest),
-        "store" => store::store(alloc, out, rest),
         _ => bad(),
     }
 }

@@ -4,6 +4,7 @@ ghost use Rattle.std.specs.Prelude.{◌≡◌, true};
 ghost use Rattle.permission_table.specs.Tables.{have_texts};
 ghost use Rattle.portal_model.specs.Valid.{is_text};
 
+use crate::lists::put_between;
 use crate::readings::{datum, names, rows, text};
 use crate::shown::put_told;
 use permission_table::Tables;
@@ -31,16 +32,23 @@ fn put_calls(
     calls: &str,
 ) -> Result<(), VectorError> {
     for (index, call) in calls.split(", ").enumerate() {
-        if index > 0 {
-            out.push_str("; ")?;
-        }
-        let (word, rest) = cut(call);
-        match word {
-            "try" => put_attempt(alloc, out, tables, rest)?,
-            _ => put_call(alloc, out, tables, word, rest)?,
-        }
+        put_between(out, index, "; ")?;
+        put_one(alloc, out, tables, call)?;
     }
     Ok(())
+}
+
+fn put_one(
+    alloc: Global,
+    out: &mut String,
+    tables: &mut Tables,
+    call: &str,
+) -> Result<(), VectorError> {
+    let (word, rest) = cut(call);
+    match word {
+        "try" => put_attempt(alloc, out, tables, rest),
+        _ => put_call(alloc, out, tables, word, rest),
+    }
 }
 
 /// `try CALL`: what the call answers, which is then taken back.
@@ -109,13 +117,13 @@ fn put_call_of(
     requires id { is_text id.now ≡ true }
 {
     let create = word.ends_with('+');
-    match word {
-        "lookup" => Ok(put_told(alloc, out, tables.lookup(table, id))?),
-        "delete" => Ok(put_told(alloc, out, tables.delete(table, id))?),
-        "list" => Ok(put_told(alloc, out, tables.list(table))?),
-        "set" | "set+" => set(alloc, out, tables, create, table, id, rest),
-        "value" | "value+" => set_value(alloc, out, tables, create, table, id, rest),
-        "permit" | "permit+" => permit(alloc, out, tables, create, table, id, rest),
+    match word.strip_suffix("+").unwrap_or(word) {
+        "lookup" => put_told(alloc, out, tables.lookup(table, id)),
+        "delete" => put_told(alloc, out, tables.delete(table, id)),
+        "list" => put_told(alloc, out, tables.list(table)),
+        "set" => set(alloc, out, tables, create, table, id, rest),
+        "value" => set_value(alloc, out, tables, create, table, id, rest),
+        "permit" => permit(alloc, out, tables, create, table, id, rest),
         "forbid" | "get" => put_row(alloc, out, tables, word, table, id, rest),
         _ => bad(),
     }
@@ -141,7 +149,7 @@ fn put_row(
         tables.get_permission(table, id, &app)
     };
     drop(app);
-    Ok(put_told(alloc, out, told)?)
+    put_told(alloc, out, told)
 }
 
 fn set(
@@ -180,7 +188,7 @@ fn set_rows(
     let datum = datum(alloc, data)?;
     let told = tables.set(table, create, id, rows, &datum);
     drop(datum);
-    Ok(put_told(alloc, out, told)?)
+    put_told(alloc, out, told)
 }
 
 fn set_value(
@@ -198,7 +206,7 @@ fn set_value(
     let datum = datum(alloc, data)?;
     let told = tables.set_value(table, create, id, &datum);
     drop(datum);
-    Ok(put_told(alloc, out, told)?)
+    put_told(alloc, out, told)
 }
 
 fn permit(
@@ -219,5 +227,5 @@ fn permit(
     let told = tables.set_permission(table, create, id, &app, &names);
     drop(app);
     drop(names);
-    Ok(put_told(alloc, out, told)?)
+    put_told(alloc, out, told)
 }

@@ -3,8 +3,10 @@
 ghost use Rattle.std.specs.Prelude.{◌≡◌, ◌≢◌};
 ghost use Rattle.portal_base.specs.Names.{root};
 
+use crate::lists::{put_between, put_shown, put_word};
 use host_tree::{HostTree, ListAnswer, MemoryTree, QuietTree, TreeRead};
-use portal_base::files::FileName;
+use portal_base::files::{ChildName, FileName};
+use portal_base::list::List;
 use portal_base::names::HostPath;
 use std::alloc::Global;
 use std::fmt::Write;
@@ -93,22 +95,9 @@ fn put_answer<T: HostTree>(
 ) -> Result<(), VectorError> {
     let (first, rest) = cut(rest);
     match kind {
-        "look" => {
-            let answer = tree.look(&file.path);
-            Ok(write!(out, "{answer:?}")?)
-        }
-        "create" => {
-            let answer = tree.create(&file.path, number(first)?);
-            Ok(write!(out, "{answer:?}")?)
-        }
-        "attr" | "later" => {
-            let answer = tree.attr(file);
-            Ok(write!(out, "{answer:?}")?)
-        }
-        "settle" => {
-            let answer = tree.settle();
-            Ok(write!(out, "{answer:?}")?)
-        }
+        "look" => put_shown(out, &tree.look(&file.path)),
+        "attr" | "later" => put_shown(out, &tree.attr(file)),
+        "settle" => put_shown(out, &tree.settle()),
         "list" => put_list(alloc, out, tree, &file.path),
         "read" => put_read(alloc, out, tree, file, first, rest),
         _ => put_change(alloc, out, tree, kind, file, first, rest),
@@ -122,25 +111,34 @@ fn put_list<T: HostTree>(
     tree: &mut T,
     path: &HostPath,
 ) -> Result<(), VectorError> {
-    match tree.list(path) {
-        ListAnswer::Names(names) => {
-            out.push_str("Names(")?;
-            for (index, child) in names.iter().enumerate() {
-                if index > 0 {
-                    out.push(' ')?;
-                }
-                out.push_str(String::from_utf8_lossy(alloc, child.name.as_slice())?.as_str())?;
-                if child.folder {
-                    out.push('/')?;
-                }
-            }
-            out.push(')')?;
-        }
-        ListAnswer::NotFolder => out.push_str("NotFolder")?,
-        ListAnswer::Failed => out.push_str("Failed")?,
-        ListAnswer::Memory => out.push_str("Memory")?,
+    let answer = tree.list(path);
+    let put = put_listed(alloc, out, &answer);
+    drop(answer);
+    put
+}
+
+fn put_listed(alloc: Global, out: &mut String, answer: &ListAnswer) -> Result<(), VectorError> {
+    match answer {
+        ListAnswer::Names(names) => put_names(alloc, out, names),
+        ListAnswer::NotFolder => put_word(out, "NotFolder"),
+        ListAnswer::Failed => put_word(out, "Failed"),
+        ListAnswer::Memory => put_word(out, "Memory"),
     }
+}
+
+fn put_names(alloc: Global, out: &mut String, names: &List<ChildName>) -> Result<(), VectorError> {
+    out.push_str("Names(")?;
+    for (index, child) in names.iter().enumerate() {
+        put_between(out, index, " ")?;
+        put_name(alloc, out, child)?;
+    }
+    out.push(')')?;
     Ok(())
+}
+
+fn put_name(alloc: Global, out: &mut String, child: &ChildName) -> Result<(), VectorError> {
+    out.push_str(String::from_utf8_lossy(alloc, child.name.as_slice())?.as_str())?;
+    put_word(out, if child.folder { "/" } else { "" })
 }
 
 /// The bytes that are read, as digits, or why none came.
@@ -152,13 +150,23 @@ fn put_read<T: HostTree>(
     offset: &str,
     size: &str,
 ) -> Result<(), VectorError> {
-    match tree.read(file, number(offset)?, small_number(size)?) {
-        TreeRead::Got(bytes) => {
-            let text = digits(alloc, bytes.as_slice())?;
-            Ok(write!(out, "Got({text})")?)
-        }
-        answer => Ok(write!(out, "{answer:?}")?),
+    let answer = tree.read(file, number(offset)?, small_number(size)?);
+    let put = put_found(alloc, out, &answer);
+    drop(answer);
+    put
+}
+
+fn put_found(alloc: Global, out: &mut String, answer: &TreeRead) -> Result<(), VectorError> {
+    match answer {
+        TreeRead::Got(bytes) => put_got(alloc, out, bytes.as_slice()),
+        answer => put_shown(out, answer),
     }
+}
+
+fn put_got(alloc: Global, out: &mut String, bytes: &[u8]) -> Result<(), VectorError> {
+    let text = digits(alloc, bytes)?;
+    write!(out, "Got({text})")?;
+    Ok(())
 }
 
 /// What a change answers.
@@ -172,16 +180,26 @@ fn put_change<T: HostTree>(
     rest: &str,
 ) -> Result<(), VectorError> {
     let (second, content) = cut(rest);
-    let answer = match kind {
-        "write" => tree.write(
-            file,
-            number(first)?,
-            bytes(alloc, content)?.as_slice(),
-            number(second)?,
-        ),
-        "len" => tree.set_len(file, number(first)?, number(second)?),
-        "sync" => tree.sync(file),
-        _ => return bad(),
-    };
-    Ok(write!(out, "{answer:?}")?)
+    match kind {
+        "create" => put_shown(out, &tree.create(&file.path, number(first)?)),
+        "write" => put_write(alloc, out, tree, file, first, second, content),
+        "len" => put_shown(out, &tree.set_len(file, number(first)?, number(second)?)),
+        "sync" => put_shown(out, &tree.sync(file)),
+        _ => bad(),
+    }
+}
+
+/// What a write answers.
+fn put_write<T: HostTree>(
+    alloc: Global,
+    out: &mut String,
+    tree: &mut T,
+    file: &FileName,
+    offset: &str,
+    now: &str,
+    content: &str,
+) -> Result<(), VectorError> {
+    let (offset, now) = (number(offset)?, number(now)?);
+    let content = bytes(alloc, content)?;
+    put_shown(out, &tree.write(file, offset, content.as_slice(), now))
 }

@@ -17,10 +17,20 @@ pub(crate) fn make_all<S: Alter>(
     changes: &[RecordChange],
 ) -> Result<(), DatabaseFault> {
     let mut transaction = begin(conn)?;
-    for change in changes {
-        make(alloc, &mut transaction, change)?;
-    }
+    make_each(alloc, &mut transaction, changes)?;
     transaction.commit()?;
+    Ok(())
+}
+
+/// Makes the changes one after another.
+fn make_each<S: Alter>(
+    alloc: Global,
+    transaction: &mut Transaction<'_, S>,
+    changes: &[RecordChange],
+) -> Result<(), DatabaseFault> {
+    for change in changes {
+        make(alloc, transaction, change)?;
+    }
     Ok(())
 }
 

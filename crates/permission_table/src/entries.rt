@@ -60,10 +60,8 @@ fn is_in_table(entry: &StoredEntry, table: &Text) -> bool
 pub(crate) fn answer_of(alloc: Global, entry: &StoredEntry) -> Result<StoreAnswer, WantOfMemory>
     ensures { IfOk result (λ answer. answer ≡ Entry entry.now.rows entry.now.datum) }
 {
-    Ok(StoreAnswer::Entry {
-        rows: entry.rows.replica(alloc)?,
-        datum: entry.datum.replica(alloc)?,
-    })
+    let TableEntry { rows, datum } = content_of(alloc, entry)?;
+    Ok(StoreAnswer::Entry { rows, datum })
 }
 
 /// A copy of the entry that was found for a call that sets something: with
@@ -105,9 +103,17 @@ fn new_entry(alloc: Global, table: &Text, id: &Text) -> Result<StoredEntry, Want
 pub(crate) fn with_content(entry: StoredEntry, rows: List<Row>, datum: Datum) -> StoredEntry
     ensures { result ≡ record entry { rows = rows; datum = datum } }
 {
+    let StoredEntry {
+        table,
+        id,
+        datum: former,
+        rows: others,
+    } = entry;
+    drop(former);
+    drop(others);
     StoredEntry {
-        table: entry.table,
-        id: entry.id,
+        table,
+        id,
         datum,
         rows,
     }
@@ -117,11 +123,18 @@ pub(crate) fn with_content(entry: StoredEntry, rows: List<Row>, datum: Datum) ->
 pub(crate) fn with_datum(entry: StoredEntry, datum: Datum) -> StoredEntry
     ensures { result ≡ record entry { datum = datum } }
 {
+    let StoredEntry {
+        table,
+        id,
+        datum: former,
+        rows,
+    } = entry;
+    drop(former);
     StoredEntry {
-        table: entry.table,
-        id: entry.id,
+        table,
+        id,
         datum,
-        rows: entry.rows,
+        rows,
     }
 }
 
@@ -162,11 +175,17 @@ pub(crate) fn without_permissions(
 ) -> Result<StoredEntry, WantOfMemory>
     ensures { IfOk result (λ left. left ≡ without_permissions app.now entry.now) }
 {
+    let StoredEntry {
+        table,
+        id,
+        datum,
+        rows,
+    } = entry.replica(alloc)?;
     Ok(StoredEntry {
-        table: entry.table.replica(alloc)?,
-        id: entry.id.replica(alloc)?,
-        datum: entry.datum.replica(alloc)?,
-        rows: without_row(entry.rows.replica(alloc)?, app),
+        table,
+        id,
+        datum,
+        rows: without_row(rows, app),
     })
 }
 
@@ -174,10 +193,14 @@ pub(crate) fn without_permissions(
 pub(crate) fn content_of(alloc: Global, entry: &StoredEntry) -> Result<TableEntry, WantOfMemory>
     ensures { IfOk result (λ content. content ≡ content_of entry.now) }
 {
-    Ok(TableEntry {
-        rows: entry.rows.replica(alloc)?,
-        datum: entry.datum.replica(alloc)?,
-    })
+    let rows = entry.rows.replica(alloc)?;
+    match entry.datum.replica(alloc) {
+        Ok(datum) => Ok(TableEntry { rows, datum }),
+        Err(error) => {
+            drop(rows);
+            Err(error)
+        }
+    }
 }
 
 /// What the signal tells of an entry that is gone, or is now so.

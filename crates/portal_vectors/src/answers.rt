@@ -2,100 +2,163 @@
 
 use portal_base::text::Text;
 use portal_model::records::Row;
-use portal_model::reply::{Answer, DirName, ListedDocument, NodeAnswer, Refused, Reply};
+use portal_model::reply::{Answer, Code, DirName, ListedDocument, NodeAnswer, Refused, Reply};
 use std::alloc::Global;
+use std::fmt::{Debug, Write};
 use vector_lines::error::{VectorError, bad};
-use vector_lines::notation::debug;
 
 /// What a request is answered.
-pub fn shown(alloc: Global, reply: &Result<Reply, Refused>) -> Result<String, VectorError> {
+pub fn put_reply(
+    alloc: Global,
+    out: &mut String,
+    reply: &Result<Reply, Refused>,
+) -> Result<(), VectorError> {
     match reply {
-        Ok(reply) => answer(alloc, &reply.answer),
-        Err(refused) => Ok(debug(alloc, refused)?),
+        Ok(reply) => put_answer(alloc, out, &reply.answer),
+        Err(refused) => put_shown(out, refused),
     }
 }
 
 /// An answer.
-pub fn answer(alloc: Global, answer: &Answer) -> Result<String, VectorError> {
+pub fn put_answer(alloc: Global, out: &mut String, answer: &Answer) -> Result<(), VectorError> {
     match answer {
-        Answer::Done => Ok(String::from_str(alloc, "Done")?),
-        Answer::Refused(code) => Ok(format!(in alloc; "Refused({code:?})")?),
-        Answer::Place(place) => Ok(format!(in alloc; "Place({place})")?),
-        Answer::Ids(ids) => identifiers(alloc, ids.as_slice()),
-        Answer::Info { path, rights } => information(alloc, path.as_slice(), rights.as_slice()),
-        Answer::Listed(documents) => listed(alloc, documents.as_slice()),
-        Answer::Node(answer) => of_node(alloc, answer),
+        Answer::Done => put_word(out, "Done"),
+        Answer::Refused(code) => put_code(out, code),
+        Answer::Place(place) => put_place(out, *place),
+        Answer::Ids(ids) => put_identifiers(out, ids.as_slice()),
+        Answer::Info { path, rights } => {
+            put_information(alloc, out, path.as_slice(), rights.as_slice())
+        }
+        Answer::Listed(documents) => put_documents(alloc, out, documents.as_slice()),
+        Answer::Node(answer) => put_of_node(alloc, out, answer),
         Answer::Entry { .. } | Answer::Names(_) => bad(),
     }
 }
 
+/// A word as it is.
+pub fn put_word(out: &mut String, word: &str) -> Result<(), VectorError> {
+    out.push_str(word)?;
+    Ok(())
+}
+
+/// A value as a programmer sees it.
+pub fn put_shown<T: Debug>(out: &mut String, value: &T) -> Result<(), VectorError> {
+    write!(out, "{value:?}")?;
+    Ok(())
+}
+
+/// What stands ahead of each item of a list but the first.
+pub fn put_between(out: &mut String, index: usize, between: &str) -> Result<(), VectorError> {
+    if index == 0 {
+        return Ok(());
+    }
+    put_word(out, between)
+}
+
+/// Bytes that stand for a text.
+pub fn put_bytes(alloc: Global, out: &mut String, bytes: &[u8]) -> Result<(), VectorError> {
+    out.push_str(String::from_utf8_lossy(alloc, bytes)?.as_str())?;
+    Ok(())
+}
+
+fn put_code(out: &mut String, code: &Code) -> Result<(), VectorError> {
+    write!(out, "Refused({code:?})")?;
+    Ok(())
+}
+
+fn put_place(out: &mut String, place: u32) -> Result<(), VectorError> {
+    write!(out, "Place({place})")?;
+    Ok(())
+}
+
 /// The answer of a request on a node.
-fn of_node(alloc: Global, answer: &NodeAnswer) -> Result<String, VectorError> {
+fn put_of_node(alloc: Global, out: &mut String, answer: &NodeAnswer) -> Result<(), VectorError> {
     match answer {
-        NodeAnswer::Content(content) => {
-            let content = String::from_utf8_lossy(alloc, content.as_slice())?;
-            Ok(format!(in alloc; "Content {content}")?)
-        }
+        NodeAnswer::Content(content) => put_content(alloc, out, content.as_slice()),
         NodeAnswer::Names {
             names,
             offset,
             size,
-        } => entries(alloc, names.as_slice(), *offset, *size),
-        _ => Ok(format!(in alloc; "Node({answer:?})")?),
+        } => put_entries(alloc, out, names.as_slice(), *offset, *size),
+        answer => put_other(out, answer),
     }
+}
+
+fn put_content(alloc: Global, out: &mut String, content: &[u8]) -> Result<(), VectorError> {
+    out.push_str("Content ")?;
+    put_bytes(alloc, out, content)
+}
+
+fn put_other(out: &mut String, answer: &NodeAnswer) -> Result<(), VectorError> {
+    write!(out, "Node({answer:?})")?;
+    Ok(())
 }
 
 /// Entries, each by its number and its name, with a `/` behind that of a folder; and which part
 /// of them is asked for.
-fn entries(
+fn put_entries(
     alloc: Global,
+    out: &mut String,
     names: &[DirName],
     offset: u64,
     size: u32,
-) -> Result<String, VectorError> {
-    let mut out = format!(in alloc; "Names {offset} {size} ")?;
+) -> Result<(), VectorError> {
+    write!(out, "Names {offset} {size} ")?;
     for entry in names {
-        let node = entry.node;
-        let name = String::from_utf8_lossy(alloc, entry.name.as_slice())?;
-        let mark = if entry.folder { "/" } else { "" };
-        out.push_str(format!(in alloc; "[{node} {name}{mark}]")?.as_str())?;
+        put_entry(alloc, out, entry)?;
     }
-    Ok(out)
+    Ok(())
 }
 
-fn identifiers(alloc: Global, ids: &[Text]) -> Result<String, VectorError> {
-    let mut out = String::from_str(alloc, "Ids")?;
+fn put_entry(alloc: Global, out: &mut String, entry: &DirName) -> Result<(), VectorError> {
+    let node = entry.node;
+    write!(out, "[{node} ")?;
+    put_bytes(alloc, out, entry.name.as_slice())?;
+    put_word(out, if entry.folder { "/]" } else { "]" })
+}
+
+fn put_identifiers(out: &mut String, ids: &[Text]) -> Result<(), VectorError> {
+    out.push_str("Ids")?;
     for id in ids {
         out.push_str(if id.as_str().is_empty() { " -" } else { " " })?;
         out.push_str(id.as_str())?;
     }
-    Ok(out)
+    Ok(())
 }
 
-fn listed(alloc: Global, documents: &[ListedDocument]) -> Result<String, VectorError> {
-    let mut out = String::from_str(alloc, "Listed")?;
+fn put_documents(
+    alloc: Global,
+    out: &mut String,
+    documents: &[ListedDocument],
+) -> Result<(), VectorError> {
+    out.push_str("Listed")?;
     for document in documents {
         let id = document.id.number;
-        let path = String::from_utf8_lossy(alloc, document.path.as_slice())?;
-        out.push_str(format!(in alloc; " {id:08x} {path}")?.as_str())?;
+        write!(out, " {id:08x} ")?;
+        put_bytes(alloc, out, document.path.as_slice())?;
     }
-    Ok(out)
+    Ok(())
 }
 
 /// A path, and rows as `APP=NAME,NAME`.
-fn information(alloc: Global, path: &[u8], rows: &[Row]) -> Result<String, VectorError> {
-    let path = String::from_utf8_lossy(alloc, path)?;
-    let mut out = format!(in alloc; "Info {path}")?;
+fn put_information(
+    alloc: Global,
+    out: &mut String,
+    path: &[u8],
+    rows: &[Row],
+) -> Result<(), VectorError> {
+    out.push_str("Info ")?;
+    put_bytes(alloc, out, path)?;
     for row in rows {
-        out.push(' ')?;
-        out.push_str(row.app.as_str())?;
-        put_names(row.names.as_slice(), &mut out)?;
+        put_row(out, row)?;
     }
-    Ok(out)
+    Ok(())
 }
 
-fn put_names(names: &[Text], out: &mut String) -> Result<(), VectorError> {
-    for (index, name) in names.iter().enumerate() {
+fn put_row(out: &mut String, row: &Row) -> Result<(), VectorError> {
+    out.push(' ')?;
+    out.push_str(row.app.as_str())?;
+    for (index, name) in row.names.iter().enumerate() {
         out.push(if index == 0 { '=' } else { ',' })?;
         out.push_str(name.as_str())?;
     }

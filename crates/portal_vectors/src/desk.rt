@@ -1,64 +1,67 @@
 //! Requests of one desk of a seat.
 
-use crate::answers::shown;
+use crate::answers::{put_between, put_reply};
 use crate::requests::request_of;
 use portal_core::local_desk::LocalDesk;
 use portal_desk::Desk;
 use portal_lines::ScriptPortal;
 use portal_model::reply::{Refused, Reply};
 use std::alloc::Global;
+use std::fmt::Write;
 use vector_lines::error::{VectorError, bad};
 use vector_lines::notation::{cut, small_number};
 
 /// `SEAT REQUEST, REQUEST ..`: what each request is answered, and how many the desk refused
 /// by then.
-pub fn asked_at_desk(
+pub fn put_asked_at_desk(
     alloc: Global,
+    out: &mut String,
     portal: &mut ScriptPortal,
     rest: &str,
-) -> Result<String, VectorError> {
+) -> Result<(), VectorError> {
     let (seat, requests) = cut(rest);
     let seat = small_number(seat)?;
     if seat == 0 {
         return bad();
     }
     let mut desk = LocalDesk::new(portal, seat);
-    asked_each(alloc, &mut desk, requests)
+    put_each(alloc, out, &mut desk, requests)
 }
 
-fn asked_each(
+fn put_each(
     alloc: Global,
+    out: &mut String,
     desk: &mut LocalDesk<ScriptPortal>,
     requests: &str,
-) -> Result<String, VectorError> {
-    let mut out = String::new(alloc);
+) -> Result<(), VectorError> {
     for (index, words) in requests.split(", ").enumerate() {
-        if index > 0 {
-            out.push_str(", ")?;
-        }
-        out.push_str(asked_once(alloc, desk, words)?.as_str())?;
+        put_between(out, index, ", ")?;
+        put_asked(alloc, out, desk, words)?;
     }
-    Ok(out)
+    Ok(())
 }
 
 /// What one request of a desk is answered.
-fn asked_once(
+fn put_asked(
     alloc: Global,
+    out: &mut String,
     desk: &mut LocalDesk<ScriptPortal>,
     words: &str,
-) -> Result<String, VectorError> {
+) -> Result<(), VectorError> {
     let request = request_of(alloc, words)?;
     let reply = desk.ask(alloc, request);
-    let shown = shown_by_desk(alloc, &reply, desk.refusals());
+    let put = put_told(alloc, out, &reply, desk.refusals());
     drop(reply);
-    shown
+    put
 }
 
-fn shown_by_desk(
+fn put_told(
     alloc: Global,
+    out: &mut String,
     reply: &Result<Reply, Refused>,
     refusals: u64,
-) -> Result<String, VectorError> {
-    let shown = shown(alloc, reply)?;
-    Ok(format!(in alloc; "{shown} refused {refusals}")?)
+) -> Result<(), VectorError> {
+    put_reply(alloc, out, reply)?;
+    write!(out, " refused {refusals}")?;
+    Ok(())
 }

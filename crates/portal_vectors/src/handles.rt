@@ -1,39 +1,43 @@
 //! Room for handles.
 
+use crate::answers::{put_between, put_shown};
 use open_handles::{Handle, Handles};
 use portal_base::limits::Limits;
 use portal_base::list::List;
 use std::alloc::Global;
 use vector_lines::error::{VectorError, bad};
-use vector_lines::notation::{cut, debug, number};
+use vector_lines::notation::{cut, number};
 
 /// The seat of the one connection.
 const SEAT: u32 = 1;
 
 /// `handles LIMIT STEP STEP ..`: what each step is answered on a connection that may have so
 /// many handles open.
-pub fn handles(alloc: Global, rest: &str) -> Result<String, VectorError> {
+pub fn handles(alloc: Global, out: &mut String, rest: &str) -> Result<(), VectorError> {
     let (limit, steps) = cut(rest);
-    let mut handles = Handles::new(alloc, &limits(number(limit)?));
-    let answers = answers(alloc, &mut handles, steps);
+    let limits = limits(number(limit)?);
+    let mut handles = Handles::new(alloc, &limits);
+    let put = put_answers(alloc, out, &mut handles, steps);
     drop(handles);
-    answers
+    put
 }
 
 /// What each step is answered, on a connection that is entered first.
-fn answers(alloc: Global, handles: &mut Handles, steps: &str) -> Result<String, VectorError> {
+fn put_answers(
+    alloc: Global,
+    out: &mut String,
+    handles: &mut Handles,
+    steps: &str,
+) -> Result<(), VectorError> {
     if handles.is_entered(SEAT) {
         return bad();
     }
     handles.enter(SEAT)?;
-    let mut out = String::new(alloc);
     for (index, step) in steps.split(' ').enumerate() {
-        if index > 0 {
-            out.push(' ')?;
-        }
-        out.push_str(answer(alloc, handles, step)?.as_str())?;
+        put_between(out, index, " ")?;
+        put_answer(alloc, out, handles, step)?;
     }
-    Ok(out)
+    Ok(())
 }
 
 /// Limits of which that of handles counts.
@@ -49,13 +53,18 @@ fn limits(handles: u64) -> Limits {
 }
 
 /// `reserve`, for room for the next handle; and `add`, for a folder's.
-fn answer(alloc: Global, handles: &mut Handles, step: &str) -> Result<String, VectorError> {
+fn put_answer(
+    alloc: Global,
+    out: &mut String,
+    handles: &mut Handles,
+    step: &str,
+) -> Result<(), VectorError> {
     if !handles.is_entered(SEAT) {
         return bad();
     }
     match step {
-        "reserve" => Ok(debug(alloc, &handles.reserve(SEAT))?),
-        "add" => Ok(debug(alloc, &handles.add(SEAT, folder(alloc)))?),
+        "reserve" => put_shown(out, &handles.reserve(SEAT)),
+        "add" => put_shown(out, &handles.add(SEAT, folder(alloc))),
         _ => bad(),
     }
 }

@@ -2,49 +2,74 @@
 
 use inode_table::InodeTable;
 use std::alloc::Global;
+use std::fmt::Write;
 use vector_lines::error::{VectorError, bad};
 use vector_lines::notation::{cut, number, small_number};
 
 /// `inodes STEP, STEP ..`: what each step that looks answers, over no counts at
 /// first.
-pub fn inodes(alloc: Global, rest: &str) -> Result<String, VectorError> {
+pub fn inodes(alloc: Global, out: &mut String, rest: &str) -> Result<(), VectorError> {
     let mut inodes = InodeTable::new(alloc);
-    let answers = answers(alloc, &mut inodes, rest);
+    let put = put_answers(out, &mut inodes, rest);
     drop(inodes);
-    answers
+    put
 }
 
-fn answers(alloc: Global, inodes: &mut InodeTable, rest: &str) -> Result<String, VectorError> {
-    let mut out = String::new(alloc);
+fn put_answers(out: &mut String, inodes: &mut InodeTable, rest: &str) -> Result<(), VectorError> {
     for step in rest.split(", ") {
         let (word, rest) = cut(step);
-        out.push_str(answer(alloc, inodes, word, rest)?.as_str())?;
+        put_answer(out, inodes, word, rest)?;
     }
-    Ok(out)
+    Ok(())
 }
 
 /// `reserve COUNT`, `remember SEAT NODE`, `forget SEAT NODE COUNT`, `leave SEAT`; and
 /// `get SEAT NODE` and `len`, which look.
-fn answer(
-    alloc: Global,
+fn put_answer(
+    out: &mut String,
     inodes: &mut InodeTable,
     word: &str,
     rest: &str,
-) -> Result<String, VectorError> {
-    let (first, rest) = cut(rest);
-    let (second, third) = cut(rest);
-    match word {
-        "reserve" => inodes.reserve(small_number(first)?)?,
-        "remember" => inodes.remember(small_number(first)?, number(second)?)?,
-        "forget" => inodes.forget(small_number(first)?, number(second)?, number(third)?),
-        "leave" => inodes.leave(small_number(first)?),
-        "get" => return told(alloc, inodes.get(small_number(first)?, number(second)?)),
-        "len" => return told(alloc, inodes.len() as u64),
-        _ => return bad(),
+) -> Result<(), VectorError> {
+    if word == "len" {
+        return put_number(out, inodes.len() as u64);
     }
-    Ok(String::new(alloc))
+    let (first, rest) = cut(rest);
+    let first = small_number(first)?;
+    match word {
+        "reserve" => Ok(inodes.reserve(first)?),
+        "leave" => {
+            inodes.leave(first);
+            Ok(())
+        }
+        _ => put_of_node(out, inodes, word, first, rest),
+    }
 }
 
-fn told(alloc: Global, number: u64) -> Result<String, VectorError> {
-    Ok(format!(in alloc; "[{number}]")?)
+/// What a step is answered of a seat and a node.
+fn put_of_node(
+    out: &mut String,
+    inodes: &mut InodeTable,
+    word: &str,
+    seat: u32,
+    rest: &str,
+) -> Result<(), VectorError> {
+    let (node, count) = cut(rest);
+    let node = number(node)?;
+    match word {
+        "remember" => Ok(inodes.remember(seat, node)?),
+        "forget" => forget(inodes, seat, node, count),
+        "get" => put_number(out, inodes.get(seat, node)),
+        _ => bad(),
+    }
+}
+
+fn forget(inodes: &mut InodeTable, seat: u32, node: u64, count: &str) -> Result<(), VectorError> {
+    inodes.forget(seat, node, number(count)?);
+    Ok(())
+}
+
+fn put_number(out: &mut String, number: u64) -> Result<(), VectorError> {
+    write!(out, "[{number}]")?;
+    Ok(())
 }

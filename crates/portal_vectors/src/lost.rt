@@ -1,6 +1,6 @@
 //! Requests by a handle whose file is gone.
 
-use crate::answers::answer;
+use crate::answers::put_answer;
 use crate::given::{put_fault, put_seen};
 use crate::nodes::node_request;
 use app_view::ViewBook;
@@ -37,28 +37,37 @@ const LIMITS: Limits = Limits {
 /// `lost REQUEST`: what a request on a node is answered, and what the outside gave to it, on a
 /// connection of the host that has the file of node 8589934602 open by the number 1, to read and
 /// to write, where the tree has no file. A file may have 100 bytes.
-pub fn lost(alloc: Global, rest: &str) -> Result<String, VectorError> {
+pub fn lost(alloc: Global, out: &mut String, rest: &str) -> Result<(), VectorError> {
     let (word, rest) = cut(rest);
     let request = node_request(alloc, word, rest)?;
-    let shown = asked(alloc, &request);
+    let put = put_asked(alloc, out, &request);
     drop(request);
-    shown
+    put
 }
 
-fn asked(alloc: Global, request: &NodeRequest) -> Result<String, VectorError> {
+fn put_asked(alloc: Global, out: &mut String, request: &NodeRequest) -> Result<(), VectorError> {
     let mut handles = Handles::new(alloc, &LIMITS);
     let mut namings = Namings::new(alloc);
-    let shown = match put_file(alloc, &mut handles, &mut namings) {
-        Ok(()) => asked_by(alloc, &mut handles, &mut namings, request),
-        Err(error) => Err(error),
-    };
+    let put = put_asked_of(alloc, out, &mut handles, &mut namings, request);
     drop(namings);
     drop(handles);
-    shown
+    put
+}
+
+/// What is answered once a file is open.
+fn put_asked_of(
+    alloc: Global,
+    out: &mut String,
+    handles: &mut Handles,
+    namings: &mut Namings,
+    request: &NodeRequest,
+) -> Result<(), VectorError> {
+    open_file(alloc, handles, namings)?;
+    put_asked_by(alloc, out, handles, namings, request)
 }
 
 /// A connection that has a file open which the tree has not.
-fn put_file(
+fn open_file(
     alloc: Global,
     handles: &mut Handles,
     namings: &mut Namings,
@@ -77,12 +86,13 @@ fn put_file(
 }
 
 /// What is answered on that connection.
-fn asked_by(
+fn put_asked_by(
     alloc: Global,
+    out: &mut String,
     handles: &mut Handles,
     namings: &mut Namings,
     request: &NodeRequest,
-) -> Result<String, VectorError> {
+) -> Result<(), VectorError> {
     let documents = Documents::new(alloc, &LIMITS);
     let grants = Grants::new(alloc);
     let applications = Applications::new(alloc);
@@ -94,16 +104,17 @@ fn asked_by(
         },
         file_limit: LIMITS.file_bytes,
     };
-    served(alloc, &book, handles, namings, request)
+    put_served(alloc, out, &book, handles, namings, request)
 }
 
-fn served(
+fn put_served(
     alloc: Global,
+    out: &mut String,
     book: &FileBook,
     handles: &mut Handles,
     namings: &mut Namings,
     request: &NodeRequest,
-) -> Result<String, VectorError> {
+) -> Result<(), VectorError> {
     if !handles.is_entered(SEAT) || !namings.is_entered(SEAT) {
         return bad();
     }
@@ -120,15 +131,19 @@ fn served(
     );
     drop(rooms);
     drop(tree);
-    told(alloc, done)
+    put_told(alloc, out, done)
 }
 
 /// What was done, where there was memory.
-fn told(alloc: Global, done: Result<NodeDone, WantOfMemory>) -> Result<String, VectorError> {
+fn put_told(
+    alloc: Global,
+    out: &mut String,
+    done: Result<NodeDone, WantOfMemory>,
+) -> Result<(), VectorError> {
     let done = done?;
-    let shown = shown(alloc, &done);
+    let put = put_done(alloc, out, &done);
     drop(done);
-    shown
+    put
 }
 
 /// A handle that reads and writes a file.
@@ -146,9 +161,8 @@ fn file(alloc: Global) -> Result<Handle, VectorError> {
     })
 }
 
-fn shown(alloc: Global, done: &NodeDone) -> Result<String, VectorError> {
-    let mut out = answer(alloc, &done.answer)?;
-    put_seen(alloc, done.looks.len(), done.now, &mut out)?;
-    put_fault(done.fault, &mut out)?;
-    Ok(out)
+fn put_done(alloc: Global, out: &mut String, done: &NodeDone) -> Result<(), VectorError> {
+    put_answer(alloc, out, &done.answer)?;
+    put_seen(out, done.looks.len(), done.now)?;
+    put_fault(out, done.fault)
 }

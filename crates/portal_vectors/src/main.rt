@@ -35,15 +35,24 @@ fn main(rt: HostRuntime) -> io::Result<()> {
 
 /// The answer of a line.
 fn answer(alloc: Global, line: &str) -> Result<String, VectorError> {
+    let mut out = String::new(alloc);
+    match put_answer(alloc, &mut out, line) {
+        Ok(()) => Ok(out),
+        Err(error) => Err(error),
+    }
+}
+
+/// The answer by the first word of the line.
+fn put_answer(alloc: Global, out: &mut String, line: &str) -> Result<(), VectorError> {
     let (kind, rest) = cut(line);
     match kind {
-        "portal" => portal::portal(alloc, rest, false),
-        "given" => portal::portal(alloc, rest, true),
-        "start" => start::start(alloc, rest),
-        "inodes" => inodes::inodes(alloc, rest),
-        "handles" => handles::handles(alloc, rest),
-        "lost" => lost::lost(alloc, rest),
-        "place" => places::place(alloc, rest),
+        "portal" => portal::portal(alloc, out, rest, false),
+        "given" => portal::portal(alloc, out, rest, true),
+        "start" => start::start(alloc, out, rest),
+        "inodes" => inodes::inodes(alloc, out, rest),
+        "handles" => handles::handles(alloc, out, rest),
+        "lost" => lost::lost(alloc, out, rest),
+        "place" => places::place(out, rest),
         _ => bad(),
     }
 }

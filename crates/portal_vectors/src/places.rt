@@ -1,25 +1,27 @@
 //! The numbers of nodes.
 
+use crate::answers::put_word;
 use app_view::{node_of, place_of};
 use portal_model::place::Place;
-use std::alloc::Global;
+use std::fmt::Write;
 use vector_lines::error::VectorError;
-use vector_lines::notation::{debug, number};
+use vector_lines::notation::number;
 
 /// More than any view.
 const VIEWS: u32 = 0x1000_0000;
 
 /// `place NODE`: the place that a number names, and the number of that place.
-pub fn place(alloc: Global, rest: &str) -> Result<String, VectorError> {
+pub fn place(out: &mut String, rest: &str) -> Result<(), VectorError> {
     match place_of(number(rest)?) {
-        Some(place) => there_and_back(alloc, place),
-        None => Ok(String::from_str(alloc, "none")?),
+        Some(place) => put_there_and_back(out, place),
+        None => put_word(out, "none"),
     }
 }
 
-fn there_and_back(alloc: Global, place: Place) -> Result<String, VectorError> {
+fn put_there_and_back(out: &mut String, place: Place) -> Result<(), VectorError> {
     let node = numbered(place);
-    Ok(format!(in alloc; "{place:?} {node:?}")?)
+    write!(out, "{place:?} {node:?}")?;
+    Ok(())
 }
 
 /// The number of a place, where there is such a view.

@@ -1,5 +1,6 @@
 //! Starts of a portal that are refused.
 
+use crate::answers::{put_shown, put_word};
 use host_tree::MemoryTree;
 use portal_base::list::List;
 use portal_base::outside::{Clock, ListWords, SetClock, Words};
@@ -9,8 +10,9 @@ use portal_model::records::{DocRecord, GrantRecord, Records};
 use portal_start::start::StartRefusal;
 use record_keeper::{Keeper, KeeperLoad, MemoryKeeper};
 use std::alloc::Global;
+use std::fmt::Write;
 use vector_lines::error::{LineError, VectorError};
-use vector_lines::notation::{cut, debug, numbers, small_number};
+use vector_lines::notation::{cut, numbers, small_number};
 
 /// The devices of a portal that lines start.
 type Refusal = StartRefusal<MemoryTree, MemoryKeeper, SetClock, ListWords>;
@@ -20,22 +22,27 @@ type Refusal = StartRefusal<MemoryTree, MemoryKeeper, SetClock, ListWords>;
 /// as `APP=RIGHTS,..`; and what the devices give that come back: the clock, which shows 5, the
 /// words, of which the first is 7, and how many documents of which version the keeper
 /// loads. `started` where one starts.
-pub fn start(alloc: Global, rest: &str) -> Result<String, VectorError> {
+pub fn start(alloc: Global, out: &mut String, rest: &str) -> Result<(), VectorError> {
     let words = ListWords::new(List::copied(alloc, [7].as_slice())?);
     let keeper = keeper(alloc, rest)?;
-    started(alloc, keeper, words)
+    put_started(alloc, out, keeper, words)
 }
 
 /// What a portal starts with over a keeper.
-fn started(alloc: Global, keeper: MemoryKeeper, words: ListWords) -> Result<String, VectorError> {
+fn put_started(
+    alloc: Global,
+    out: &mut String,
+    keeper: MemoryKeeper,
+    words: ListWords,
+) -> Result<(), VectorError> {
     let tree = MemoryTree::new(alloc, List::new(alloc));
     let clock = SetClock::new(5);
     match Portal::start(alloc, tree, keeper, clock, words, limits(DOCUMENTS, PLENTY)) {
         Ok(portal) => {
             drop(portal);
-            Ok(String::from_str(alloc, "started")?)
+            put_word(out, "started")
         }
-        Err(refusal) => handed_back(alloc, refusal),
+        Err(refusal) => put_handed_back(out, refusal),
     }
 }
 
@@ -68,58 +75,68 @@ fn documents(alloc: Global, rest: &str) -> Result<List<DocRecord>, VectorError> 
 fn document(alloc: Global, part: &str) -> Result<DocRecord, VectorError> {
     let (number, rest) = cut(part);
     let (path, rights) = cut(rest);
+    let number = small_number(number)?;
+    let grants = grants(alloc, rights)?;
     Ok(DocRecord {
-        number: small_number(number)?,
+        number,
         path: List::copied(alloc, path.as_bytes())?,
         reusable: false,
         strict: false,
-        grants: grants(alloc, rights)?,
+        grants,
     })
 }
 
 fn grants(alloc: Global, words: &str) -> Result<List<GrantRecord>, VectorError> {
     let mut grants = List::new(alloc);
     for word in words.split_terminator(',') {
-        let (app, rights) = word.split_once('=').unwrap_or((word, ""));
-        grants.push(GrantRecord {
-            app: List::copied(alloc, app.as_bytes())?,
-            rights: rights.parse::<u8>().map_err(|_| LineError::BadLine)?,
-        })?;
+        grants.push(grant(alloc, word)?)?;
     }
     Ok(grants)
 }
 
-/// Why no portal starts, and what the devices give then.
-fn handed_back(alloc: Global, refusal: Refusal) -> Result<String, VectorError> {
-    let mut refusal = refusal;
-    let shown = shown_refusal(alloc, &mut refusal);
-    drop(refusal);
-    shown
+fn grant(alloc: Global, word: &str) -> Result<GrantRecord, VectorError> {
+    let (app, rights) = word.split_once('=').unwrap_or((word, ""));
+    let rights = rights.parse::<u8>().map_err(|_| LineError::BadLine)?;
+    Ok(GrantRecord {
+        app: List::copied(alloc, app.as_bytes())?,
+        rights,
+    })
 }
 
-fn shown_refusal(alloc: Global, refusal: &mut Refusal) -> Result<String, VectorError> {
+/// Why no portal starts, and what the devices give then.
+fn put_handed_back(out: &mut String, refusal: Refusal) -> Result<(), VectorError> {
+    let mut refusal = refusal;
+    let put = put_refusal(out, &mut refusal);
+    drop(refusal);
+    put
+}
+
+fn put_refusal(out: &mut String, refusal: &mut Refusal) -> Result<(), VectorError> {
     let moment = refusal.clock.now();
     let word = refusal.words.next();
-    let load = loaded(alloc, &mut refusal.keeper)?;
     let error = &refusal.error;
-    Ok(format!(in alloc; "{error:?}; clock {moment}, word {word}, keeper {load}")?)
+    write!(out, "{error:?}; clock {moment}, word {word}, keeper ")?;
+    put_load(out, &mut refusal.keeper)
 }
 
 /// How many documents a keeper loads, of which version.
-fn loaded(alloc: Global, keeper: &mut MemoryKeeper) -> Result<String, VectorError> {
+fn put_load(out: &mut String, keeper: &mut MemoryKeeper) -> Result<(), VectorError> {
     let load = keeper.load();
-    let shown = shown_load(alloc, &load);
+    let put = put_loaded(out, &load);
     drop(load);
-    shown
+    put
 }
 
-fn shown_load(alloc: Global, load: &KeeperLoad) -> Result<String, VectorError> {
+fn put_loaded(out: &mut String, load: &KeeperLoad) -> Result<(), VectorError> {
     match load {
-        KeeperLoad::Got(records) => {
-            let documents = records.documents.len();
-            let version = records.version;
-            Ok(format!(in alloc; "{documents} of version {version}")?)
-        }
-        load => Ok(debug(alloc, load)?),
+        KeeperLoad::Got(records) => put_count(out, records),
+        load => put_shown(out, load),
     }
+}
+
+fn put_count(out: &mut String, records: &Records) -> Result<(), VectorError> {
+    let documents = records.documents.len();
+    let version = records.version;
+    write!(out, "{documents} of version {version}")?;
+    Ok(())
 }

@@ -1,6 +1,6 @@
 //! Applications that get numbers.
 
-use crate::names::{app_of, put_bytes};
+use crate::names::{app_of, put_bytes, put_word};
 use document_records::Applications;
 use portal_model::state::APPLICATIONS_LIMIT;
 use std::alloc::Global;
@@ -42,25 +42,56 @@ fn put_step(
     step: &str,
 ) -> Result<(), VectorError> {
     let (word, rest) = cut(step);
-    let count = applications.len();
     match word {
-        "number" if count < APPLICATIONS_LIMIT => {
-            let number = applications.number(&app_of(alloc, rest)?)?;
-            write!(out, "{number}")?;
-        }
-        "of" => {
-            let number = applications.of(&app_of(alloc, rest)?);
-            write!(out, "{number:?}")?;
-        }
-        "name" => match applications.name(small_number(rest)?) {
-            Some(app) => put_bytes(alloc, out, app.as_bytes())?,
-            None => out.push_str("none")?,
-        },
-        "back" if count > 0 => {
-            applications.take_back();
-            out.push_str("back")?;
-        }
-        _ => return bad(),
+        "number" => put_number(alloc, out, applications, rest),
+        "of" => put_known(alloc, out, applications, rest),
+        "name" => put_name(alloc, out, applications, rest),
+        "back" => take_back(out, applications),
+        _ => bad(),
     }
+}
+
+fn put_number(
+    alloc: Global,
+    out: &mut String,
+    applications: &mut Applications,
+    name: &str,
+) -> Result<(), VectorError> {
+    if applications.len() >= APPLICATIONS_LIMIT {
+        return bad();
+    }
+    let number = applications.number(&app_of(alloc, name)?)?;
+    write!(out, "{number}")?;
     Ok(())
+}
+
+fn put_known(
+    alloc: Global,
+    out: &mut String,
+    applications: &Applications,
+    name: &str,
+) -> Result<(), VectorError> {
+    let number = applications.of(&app_of(alloc, name)?);
+    write!(out, "{number:?}")?;
+    Ok(())
+}
+
+fn put_name(
+    alloc: Global,
+    out: &mut String,
+    applications: &Applications,
+    number: &str,
+) -> Result<(), VectorError> {
+    match applications.name(small_number(number)?) {
+        Some(app) => put_bytes(alloc, out, app.as_bytes()),
+        None => put_word(out, "none"),
+    }
+}
+
+fn take_back(out: &mut String, applications: &mut Applications) -> Result<(), VectorError> {
+    if applications.len() == 0 {
+        return bad();
+    }
+    applications.take_back();
+    put_word(out, "back")
 }

@@ -1,5 +1,6 @@
 //! Copies: a copy is its original by its contract; lines show that it is made.
 
+use crate::names::put_word;
 use portal_base::boxed::Boxed;
 use portal_base::files::{File, FileName, Look};
 use portal_base::limits::{Limits, Settings};
@@ -18,22 +19,26 @@ use vector_lines::error::{LineError, VectorError, bad, given};
 
 /// `copy KIND`: `copied`, once a value of each type of the kind was.
 pub fn copy(alloc: Global, out: &mut String, kind: &str) -> Result<(), VectorError> {
+    copied_kind(alloc, kind)?;
+    put_word(out, "copied")
+}
+
+/// Makes a copy of a value of each type of the kind.
+fn copied_kind(alloc: Global, kind: &str) -> Result<(), VectorError> {
     match kind {
-        "numbers" => numbers(alloc)?,
-        "texts" => texts(alloc)?,
-        "owners" => owners(alloc)?,
-        "names" => names(alloc)?,
-        "callers" => callers(alloc)?,
-        "files" => files(alloc)?,
-        "settings" => settings(alloc)?,
-        "records" => records(alloc)?,
-        "entries" => entries(alloc)?,
-        "documents" => documents(alloc)?,
-        "requests" => requests(alloc)?,
-        _ => return bad(),
+        "numbers" => numbers(alloc),
+        "texts" => texts(alloc),
+        "owners" => owners(alloc),
+        "names" => names(alloc),
+        "callers" => callers(alloc),
+        "files" => files(alloc),
+        "settings" => settings(alloc),
+        "records" => records(alloc),
+        "entries" => entries(alloc),
+        "documents" => documents(alloc),
+        "requests" => requests(alloc),
+        _ => bad(),
     }
-    out.push_str("copied")?;
-    Ok(())
 }
 
 /// Makes a copy, and lets it and its original go here alone.

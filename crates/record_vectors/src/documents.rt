@@ -2,9 +2,9 @@
 
 ghost use Rattle.std.specs.Prelude.{◌≡◌, IfOk};
 
-use crate::names::put_bytes;
-use crate::rights::{document_id, put_found};
-use document_records::{Document, Documents};
+use crate::names::{put_bytes, put_word};
+use crate::rights::{document_id, put_found, put_ids};
+use document_records::{DocError, Document, Documents};
 use portal_base::limits::Limits;
 use portal_base::names::{DocId, HostPath};
 use std::alloc::Global;
@@ -51,11 +51,7 @@ fn put_steps(
         out.push_str("; ")?;
     }
     out.push_str("live")?;
-    for id in documents.ids()?.iter() {
-        out.push(' ')?;
-        put_found(alloc, out, Some(*id))?;
-    }
-    Ok(())
+    put_ids(alloc, out, &documents.ids()?)
 }
 
 fn put_step(
@@ -67,38 +63,84 @@ fn put_step(
 ) -> Result<(), VectorError> {
     let (first, second) = cut(rest);
     match word {
-        "add" | "try" => add(alloc, out, documents, word == "try", first, second),
-        "remove" => match documents.remove(document_id(first)?) {
-            Some(document) => put_bytes(alloc, out, document.path.as_bytes()),
-            None => Ok(out.push_str("none")?),
-        },
-        "find" => match documents.find(document_id(first)?) {
-            Some(document) => put_bytes(alloc, out, document.path.as_bytes()),
-            None => Ok(out.push_str("none")?),
-        },
-        "reusable" => {
-            let path = path_of(alloc, second)?;
-            put_found(
-                alloc,
-                out,
-                documents.reusable(
-                    &path,
-                    first.contains('p'),
-                    first.contains('s'),
-                    first.contains('f'),
-                ),
-            )
-        }
-        "first" => {
-            let path = path_of(alloc, first)?;
-            put_found(alloc, out, documents.first_of(&path))
-        }
-        "room" => {
-            let room = documents.room();
-            Ok(write!(out, "{room}")?)
-        }
+        "add" => add(alloc, out, documents, first, second),
+        "try" => add_and_take_back(alloc, out, documents, first, second),
+        "remove" => remove(alloc, out, documents, first),
+        "find" => find(alloc, out, documents, first),
+        "reusable" => put_reusable(alloc, out, documents, first, second),
+        "first" => put_first(alloc, out, documents, first),
+        "room" => put_room(out, documents),
         _ => bad(),
     }
+}
+
+fn remove(
+    alloc: Global,
+    out: &mut String,
+    documents: &mut Documents,
+    id: &str,
+) -> Result<(), VectorError> {
+    let removed = documents.remove(document_id(id)?);
+    let put = put_path(alloc, out, removed.as_ref());
+    drop(removed);
+    put
+}
+
+fn find(
+    alloc: Global,
+    out: &mut String,
+    documents: &Documents,
+    id: &str,
+) -> Result<(), VectorError> {
+    put_path(alloc, out, documents.find(document_id(id)?))
+}
+
+/// The path of a document, which may be missing.
+fn put_path(
+    alloc: Global,
+    out: &mut String,
+    document: Option<&Document>,
+) -> Result<(), VectorError> {
+    match document {
+        Some(document) => put_bytes(alloc, out, document.path.as_bytes()),
+        None => put_word(out, "none"),
+    }
+}
+
+fn put_reusable(
+    alloc: Global,
+    out: &mut String,
+    documents: &Documents,
+    flags: &str,
+    path: &str,
+) -> Result<(), VectorError> {
+    let (persistent, strict, folder) = (
+        flags.contains('p'),
+        flags.contains('s'),
+        flags.contains('f'),
+    );
+    let path = path_of(alloc, path)?;
+    let found = documents.reusable(&path, persistent, strict, folder);
+    drop(path);
+    put_found(alloc, out, found)
+}
+
+fn put_first(
+    alloc: Global,
+    out: &mut String,
+    documents: &Documents,
+    path: &str,
+) -> Result<(), VectorError> {
+    let path = path_of(alloc, path)?;
+    let found = documents.first_of(&path);
+    drop(path);
+    put_found(alloc, out, found)
+}
+
+fn put_room(out: &mut String, documents: &Documents) -> Result<(), VectorError> {
+    let room = documents.room();
+    write!(out, "{room}")?;
+    Ok(())
 }
 
 fn path_of(alloc: Global, path: &str) -> Result<HostPath, VectorError> {
@@ -108,23 +150,38 @@ fn path_of(alloc: Global, path: &str) -> Result<HostPath, VectorError> {
 /// `add WORD FLAGS PATH`: the number of a document that is added with the first
 /// unused number from the word on; a flag `r` is for reuse, `p` for persistent,
 /// `s` for strict.
-/// `try WORD FLAGS PATH`: the same, and the addition is taken back.
 fn add(
     alloc: Global,
     out: &mut String,
     documents: &mut Documents,
-    is_taken_back: bool,
     word: &str,
     rest: &str,
 ) -> Result<(), VectorError> {
     let id = documents.unused_from(document_id(word)?.number);
     let document = document_of(alloc, id, rest)?;
-    if is_taken_back {
-        given(alloc, documents.add(document))?;
-        documents.take_back(id);
-    } else if let Err(error) = documents.add(document) {
-        return Ok(write!(out, "{error:?}")?);
+    match documents.add(document) {
+        Ok(()) => put_found(alloc, out, Some(id)),
+        Err(error) => put_refused(out, error),
     }
+}
+
+fn put_refused(out: &mut String, error: DocError) -> Result<(), VectorError> {
+    write!(out, "{error:?}")?;
+    Ok(())
+}
+
+/// `try WORD FLAGS PATH`: the same, and the addition is taken back.
+fn add_and_take_back(
+    alloc: Global,
+    out: &mut String,
+    documents: &mut Documents,
+    word: &str,
+    rest: &str,
+) -> Result<(), VectorError> {
+    let id = documents.unused_from(document_id(word)?.number);
+    let document = document_of(alloc, id, rest)?;
+    given(alloc, documents.add(document))?;
+    documents.take_back(id);
     put_found(alloc, out, Some(id))
 }
 

@@ -1,10 +1,9 @@
 //! Rights that are added, taken away and forgotten.
 
 use crate::names::app_of;
-use crate::rights::{document_id, put_found, put_rights, rights};
+use crate::rights::{document_id, put_ids, put_rights, rights};
 use document_records::Grants;
-use portal_base::list::List;
-use portal_base::names::DocId;
+use portal_base::names::AppId;
 use std::alloc::Global;
 use vector_lines::error::{VectorError, bad};
 use vector_lines::notation::cut;
@@ -47,26 +46,43 @@ fn put_step(
     }
     let app = app_of(alloc, first)?;
     if word == "documents" {
-        return put_documents(alloc, out, &grants.documents_of(&app)?);
+        return put_documents(alloc, out, grants, &app);
     }
-    let (id, names) = cut(rest);
-    let id = document_id(id)?;
-    match word {
-        "add" => grants.add(&app, id, rights(alloc, names)?)?,
-        "remove" => grants.remove(&app, id, rights(alloc, names)?),
-        "rights" => put_rights(alloc, out, grants.rights(&app, id))?,
-        _ => return bad(),
-    }
-    Ok(())
+    put_step_of(alloc, out, grants, word, &app, rest)
 }
 
-/// Identifiers, each behind a space, between brackets.
-fn put_documents(alloc: Global, out: &mut String, ids: &List<DocId>) -> Result<(), VectorError> {
-    out.push('[')?;
-    for id in ids.iter() {
-        out.push(' ')?;
-        put_found(alloc, out, Some(*id))?;
+/// What a step does or finds with an application's rights in a document.
+fn put_step_of(
+    alloc: Global,
+    out: &mut String,
+    grants: &mut Grants,
+    word: &str,
+    app: &AppId,
+    rest: &str,
+) -> Result<(), VectorError> {
+    let (id, names) = cut(rest);
+    let id = document_id(id)?;
+    let rights = rights(alloc, names)?;
+    match word {
+        "add" => Ok(grants.add(app, id, rights)?),
+        "remove" => {
+            grants.remove(app, id, rights);
+            Ok(())
+        }
+        "rights" => put_rights(alloc, out, grants.rights(app, id)),
+        _ => bad(),
     }
+}
+
+/// The documents of an application, between brackets.
+fn put_documents(
+    alloc: Global,
+    out: &mut String,
+    grants: &Grants,
+    app: &AppId,
+) -> Result<(), VectorError> {
+    out.push('[')?;
+    put_ids(alloc, out, &grants.documents_of(app)?)?;
     out.push_str(" ]")?;
     Ok(())
 }

@@ -29,19 +29,26 @@ fn put_step(
     word: &str,
     rest: &str,
 ) -> Result<(), VectorError> {
-    let found = match word {
-        "first" => list.first().copied(),
-        "last" => list.last().copied(),
-        "get" => list.get(place(rest)?).copied(),
-        "greatest" => list.iter().copied().max(),
-        "pop" => list.pop(),
-        "length" => return put_length(out, list),
-        "copy" => return put_copies(out, list),
-        "remove" => return put_removed(out, list, place(rest)?),
-        _ => return change(alloc, list, word, rest),
-    };
-    write!(out, "{found:?}; ")?;
+    match word {
+        "first" => put_item(out, list.first().copied()),
+        "last" => put_item(out, list.last().copied()),
+        "get" => put_at(out, list, rest),
+        "greatest" => put_item(out, list.iter().copied().max()),
+        "pop" => put_item(out, list.pop()),
+        "length" => put_length(out, list),
+        "copy" => put_copies(out, list),
+        "remove" => put_removed(out, list, rest),
+        _ => change(alloc, list, word, rest),
+    }
+}
+
+fn put_item(out: &mut String, item: Option<u64>) -> Result<(), VectorError> {
+    write!(out, "{item:?}; ")?;
     Ok(())
+}
+
+fn put_at(out: &mut String, list: &List<u64>, at: &str) -> Result<(), VectorError> {
+    put_item(out, list.get(place(at)?).copied())
 }
 
 fn put_length(out: &mut String, list: &List<u64>) -> Result<(), VectorError> {
@@ -61,7 +68,8 @@ fn put_copies(out: &mut String, list: &List<u64>) -> Result<(), VectorError> {
     Ok(())
 }
 
-fn put_removed(out: &mut String, list: &mut List<u64>, at: usize) -> Result<(), VectorError> {
+fn put_removed(out: &mut String, list: &mut List<u64>, at: &str) -> Result<(), VectorError> {
+    let at = place(at)?;
     if at >= list.len() {
         return bad();
     }
@@ -73,14 +81,33 @@ fn put_removed(out: &mut String, list: &mut List<u64>, at: usize) -> Result<(), 
 /// A change that gives nothing.
 fn change(alloc: Global, list: &mut List<u64>, word: &str, rest: &str) -> Result<(), VectorError> {
     match word {
-        "push" => list.push(number(rest)?)?,
-        "extend" => list.extend_from_slice(numbers(alloc, rest)?.as_slice())?,
-        "append" => list.append(numbers(alloc, rest)?)?,
-        "truncate" => list.truncate(place(rest)?),
-        "set" => set(list, rest)?,
-        "overwrite" => overwrite(alloc, list, rest)?,
-        _ => return bad(),
+        "push" => push(list, rest),
+        "extend" => extend(alloc, list, rest),
+        "append" => append(alloc, list, rest),
+        "truncate" => truncate(list, rest),
+        "set" => set(list, rest),
+        "overwrite" => overwrite(alloc, list, rest),
+        _ => bad(),
     }
+}
+
+fn push(list: &mut List<u64>, item: &str) -> Result<(), VectorError> {
+    list.push(number(item)?)?;
+    Ok(())
+}
+
+fn extend(alloc: Global, list: &mut List<u64>, items: &str) -> Result<(), VectorError> {
+    list.extend_from_slice(numbers(alloc, items)?.as_slice())?;
+    Ok(())
+}
+
+fn append(alloc: Global, list: &mut List<u64>, items: &str) -> Result<(), VectorError> {
+    list.append(numbers(alloc, items)?)?;
+    Ok(())
+}
+
+fn truncate(list: &mut List<u64>, len: &str) -> Result<(), VectorError> {
+    list.truncate(place(len)?);
     Ok(())
 }
 
@@ -116,8 +143,12 @@ pub fn text(alloc: Global, out: &mut String, rest: &str) -> Result<(), VectorErr
     for part in rest.split('|') {
         text.push_str(part)?;
     }
+    put_text(out, &text)
+}
+
+fn put_text(out: &mut String, text: &Text) -> Result<(), VectorError> {
     let copy = text.clone()?;
-    let same = copy == text;
+    let same = copy == *text;
     let length = text.len();
     let bytes = text.as_bytes().len();
     let again = Text::from_string(copy.into_string());

@@ -12,6 +12,12 @@ pub fn put_bytes(alloc: Global, out: &mut String, bytes: &[u8]) -> Result<(), Ve
     Ok(())
 }
 
+/// A word as it is.
+pub fn put_word(out: &mut String, word: &str) -> Result<(), VectorError> {
+    out.push_str(word)?;
+    Ok(())
+}
+
 /// The application of a name.
 pub fn app_of(alloc: Global, name: &str) -> Result<AppId, VectorError> {
     given(alloc, AppId::read(alloc, name.as_bytes()))
@@ -27,13 +33,15 @@ pub fn application(alloc: Global, out: &mut String, rest: &str) -> Result<(), Ve
 /// `document TEXT`: the number of a document's identifier, and its text again.
 pub fn document(alloc: Global, out: &mut String, rest: &str) -> Result<(), VectorError> {
     match DocId::read(rest.as_bytes()) {
-        Some(id) => {
-            let number = id.number;
-            write!(out, "{number} ")?;
-            put_bytes(alloc, out, id.text().as_slice())
-        }
-        None => Ok(out.push_str("none")?),
+        Some(id) => put_id(alloc, out, id),
+        None => put_word(out, "none"),
     }
+}
+
+fn put_id(alloc: Global, out: &mut String, id: DocId) -> Result<(), VectorError> {
+    let number = id.number;
+    write!(out, "{number} ")?;
+    put_bytes(alloc, out, id.text().as_slice())
 }
 
 /// The path of a file:
@@ -50,15 +58,24 @@ pub fn path(alloc: Global, out: &mut String, kind: &str, rest: &str) -> Result<(
         "own" => second,
         _ => rest,
     };
-    let text = notation::text(alloc, text)?;
-    let path = given(alloc, HostPath::read(alloc, text.as_slice()))?;
+    let path = path_of(alloc, text)?;
     match kind {
         "path" => put_bytes(alloc, out, path.as_bytes()),
-        "parent" => put_bytes(alloc, out, path.parent(alloc)?.as_bytes()),
+        "parent" => put_parent(alloc, out, &path),
         "last" => put_last(alloc, out, &path),
         "child" => put_child(alloc, out, &path, second),
         _ => put_own(alloc, out, &path, first),
     }
+}
+
+fn path_of(alloc: Global, text: &str) -> Result<HostPath, VectorError> {
+    let text = notation::text(alloc, text)?;
+    given(alloc, HostPath::read(alloc, text.as_slice()))
+}
+
+fn put_parent(alloc: Global, out: &mut String, path: &HostPath) -> Result<(), VectorError> {
+    let parent = path.parent(alloc)?;
+    put_bytes(alloc, out, parent.as_bytes())
 }
 
 fn put_last(alloc: Global, out: &mut String, path: &HostPath) -> Result<(), VectorError> {

@@ -1,6 +1,6 @@
 //! Sets of rights; and how lines write identifiers and names of rights.
 
-use crate::names::put_bytes;
+use crate::names::{put_bytes, put_word};
 use portal_base::list::List;
 use portal_base::names::DocId;
 use portal_base::text::Text;
@@ -16,12 +16,11 @@ pub fn rights_named(
     kind: &str,
     rest: &str,
 ) -> Result<(), VectorError> {
-    let rights = match kind {
-        "all" => Rights::all(),
-        "none" => Rights::empty(),
-        _ => rights(alloc, rest)?,
-    };
-    put_rights(alloc, out, rights)
+    match kind {
+        "all" => put_rights(alloc, out, Rights::all()),
+        "none" => put_rights(alloc, out, Rights::empty()),
+        _ => put_rights(alloc, out, rights(alloc, rest)?),
+    }
 }
 
 /// A document's identifier.
@@ -49,10 +48,19 @@ pub fn put_rights(alloc: Global, out: &mut String, rights: Rights) -> Result<(),
     Ok(())
 }
 
+/// Identifiers, each behind a space.
+pub fn put_ids(alloc: Global, out: &mut String, ids: &List<DocId>) -> Result<(), VectorError> {
+    for id in ids.iter() {
+        out.push(' ')?;
+        put_found(alloc, out, Some(*id))?;
+    }
+    Ok(())
+}
+
 /// The eight digits of an identifier, which may be missing.
 pub fn put_found(alloc: Global, out: &mut String, id: Option<DocId>) -> Result<(), VectorError> {
     match id {
         Some(id) => put_bytes(alloc, out, id.text().as_slice()),
-        None => Ok(out.push_str("none")?),
+        None => put_word(out, "none"),
     }
 }

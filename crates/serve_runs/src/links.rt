@@ -101,21 +101,28 @@ pub fn links<'a>(
     second: &str,
 ) -> Result<Links<'a>, VectorError> {
     let mut coming = List::new(alloc);
-    let mut put = Ok(());
-    for _ in 0..count {
-        put = put_link(alloc, &mut coming, answered, first, second);
-        if put.is_err() {
-            break;
-        }
-    }
-    let listener = MemoryListener::new(alloc, coming);
-    match put {
-        Ok(()) => Ok(listener),
+    match put_links(alloc, &mut coming, answered, count, first, second) {
+        Ok(()) => Ok(MemoryListener::new(alloc, coming)),
         Err(error) => {
-            drop(listener);
+            drop(coming);
             Err(error)
         }
     }
+}
+
+/// Puts so many links behind others.
+fn put_links<'a>(
+    alloc: Global,
+    coming: &mut List<Link<PieceSource<'a>, HeardSink<'a>>>,
+    answered: &'a Steps,
+    count: u32,
+    first: &str,
+    second: &str,
+) -> Result<(), VectorError> {
+    for _ in 0..count {
+        put_link(alloc, coming, answered, first, second)?;
+    }
+    Ok(())
 }
 
 /// Puts a link behind others.

@@ -35,14 +35,24 @@ pub fn put_posts<'a>(
     answered: &'a Steps,
     hold: Hold,
 ) -> Result<(), VectorError> {
-    let (of_host, of_app) = match hold {
+    match hold {
         Hold::Nobody => {
             let bus = links(alloc, answered, 1, HANDSHAKE, PING);
-            return put(posts, bus, Who::Host, Kind::Bus);
+            put(posts, bus, Who::Host, Kind::Bus)
         }
-        Hold::NobodyInRounds => (3, 0),
-        Hold::AtFirst | Hold::AtSecond { worker: _ } => (1, 1),
-    };
+        Hold::NobodyInRounds => put_mounts(alloc, posts, answered, 3, 0),
+        Hold::AtFirst | Hold::AtSecond { worker: _ } => put_mounts(alloc, posts, answered, 1, 1),
+    }
+}
+
+/// Puts a mount of the host behind others and one of an application, with so many links.
+fn put_mounts<'a>(
+    alloc: Global,
+    posts: &mut Posts<'a>,
+    answered: &'a Steps,
+    of_host: u32,
+    of_app: u32,
+) -> Result<(), VectorError> {
     let app = given(alloc, AppId::read(alloc, b"org.ed"))?;
     put(
         posts,

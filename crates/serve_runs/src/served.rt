@@ -28,15 +28,30 @@ pub fn served<R: Threads + Wait + Clock + Sync>(
     let settings = settings(alloc, history_of(hold))?;
     let answered = Steps::new();
     let gate = HoldGate::new(rt, hold);
+    let told = served_with(rt, alloc, hold, &answered, &settings, &gate);
+    with_end(alloc, told, gate.ran_out())
+}
+
+/// The same, whose links tell of the handshake.
+fn served_with<R: Threads + Wait + Clock + Sync>(
+    rt: &R,
+    alloc: Global,
+    hold: Hold,
+    answered: &Steps,
+    settings: &Settings,
+    gate: &HoldGate<'_, R>,
+) -> Result<String, VectorError>
+    requires made { settings.now.limits.made < 2 ^ 32 }
+    requires queued { settings.now.limits.queued < 2 ^ 32 }
+{
     let mut posts = List::new(alloc);
-    let told = match put_posts(alloc, &mut posts, &answered, hold) {
-        Ok(()) => served_at(rt, alloc, posts, &settings, &gate),
+    match put_posts(alloc, &mut posts, answered, hold) {
+        Ok(()) => served_at(rt, alloc, posts, settings, gate),
         Err(error) => {
             drop(posts);
             Err(error)
         }
-    };
-    with_end(alloc, told, gate.ran_out())
+    }
 }
 
 /// What the history of a service may cost: in rounds an Enter and a GETATTR of the host, and no

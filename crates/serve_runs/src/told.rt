@@ -5,6 +5,7 @@ use host_tree::HostTree;
 use portal_base::list::ByteList;
 use portal_base::outside::{Clock, Words};
 use portal_history::History;
+use portal_model::entry::Entry;
 use record_keeper::Keeper;
 use serve_posts::status::ServeStatus;
 use std::alloc::Global;
@@ -45,18 +46,40 @@ fn tell_all(
     rounds: u64,
 ) -> Result<String, VectorError> {
     let mut text = String::new(alloc);
+    match tell_workers(alloc, &mut text, posts, ends, history) {
+        Ok(()) => with_count(text, history.len(), rounds),
+        Err(error) => Err(error),
+    }
+}
+
+fn with_count(text: String, count: u64, rounds: u64) -> Result<String, VectorError> {
+    let mut text = text;
+    write!(text, "{count} entries, round {rounds}")?;
+    Ok(text)
+}
+
+fn tell_workers(
+    alloc: Global,
+    text: &mut String,
+    posts: &[Post<Links<'_>>],
+    ends: &[WorkEnd],
+    history: &History,
+) -> Result<(), VectorError> {
     let mut worker = 0u32;
     for (post, end) in posts.iter().zip(ends) {
         worker = worker.saturating_add(1);
         writeln!(text, "worker {worker}: {end:?}")?;
-        for link in post.listener.back() {
-            tell_pieces(alloc, &mut text, link.sink.pieces())?;
-        }
-        tell_entries(&mut text, worker, history)?;
+        tell_links(alloc, text, &post.listener)?;
+        tell_entries(text, worker, history)?;
     }
-    let count = history.len();
-    write!(text, "{count} entries, round {rounds}")?;
-    Ok(text)
+    Ok(())
+}
+
+fn tell_links(alloc: Global, text: &mut String, listener: &Links<'_>) -> Result<(), VectorError> {
+    for link in listener.back() {
+        tell_pieces(alloc, text, link.sink.pieces())?;
+    }
+    Ok(())
 }
 
 /// A line for each piece that was written.
@@ -71,12 +94,17 @@ fn tell_pieces(alloc: Global, text: &mut String, pieces: &[ByteList]) -> Result<
 /// A line for each request of a seat in the history.
 fn tell_entries(text: &mut String, seat: u32, history: &History) -> Result<(), VectorError> {
     for place in 0..history.len() {
-        if let Some(entry) = history.entry(place)
-            && entry.seat == seat
-        {
-            let request = &entry.request;
-            writeln!(text, "asked {request:?}")?;
-        }
+        tell_entry(text, seat, history.entry(place))?;
     }
     Ok(())
+}
+
+fn tell_entry(text: &mut String, seat: u32, entry: Option<&Entry>) -> Result<(), VectorError> {
+    match entry {
+        Some(entry) if entry.seat == seat => {
+            let request = &entry.request;
+            Ok(writeln!(text, "asked {request:?}")?)
+        }
+        _ => Ok(()),
+    }
 }

@@ -27,11 +27,11 @@ pub fn turns<R: Threads + Clock + Sync>(
     run: TurnRun,
 ) -> Result<String, VectorError> {
     let meeting = Meeting::new();
-    let portal = match run {
-        TurnRun::Held => held_portal(rt, alloc, SCRIPT, &meeting, true),
-        TurnRun::Crowd => held_portal(rt, alloc, b"", &meeting, false),
+    let (script, held) = match run {
+        TurnRun::Held => (SCRIPT, true),
+        TurnRun::Crowd => (b"".as_slice(), false),
     };
-    match portal {
+    match held_portal(rt, alloc, script, &meeting, held) {
         Ok(portal) => turns_over(rt, alloc, &meeting, run, portal),
         Err(error) => Err(error),
     }

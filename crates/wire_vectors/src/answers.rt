@@ -1,6 +1,7 @@
 //! Answers of the portal, and the messages that tell of them.
 
 use crate::calls::put_made;
+use crate::lists::{Worded, list_of, put_word};
 use dbus_dispatch::error_name::ErrorName;
 use dbus_dispatch::signal::signal_message;
 use dbus_types::message::OutMessage;
@@ -25,14 +26,14 @@ pub fn answer_of(alloc: Global, words: &str) -> Result<Answer, LineError> {
     match kind {
         "done" => Ok(Answer::Done),
         "place" => Ok(Answer::Place(small_number(rest)?)),
-        "ids" => Ok(Answer::Ids(texts(alloc, rest, ' ')?)),
+        "ids" => Ok(Answer::Ids(list_of(alloc, rest, ' ')?)),
         "info" => info(alloc, rest),
-        "listed" => listed(alloc, rest),
+        "listed" => Ok(Answer::Listed(list_of(alloc, rest.trim(), ' ')?)),
         "entry" => Ok(Answer::Entry {
             rows: rows(alloc, rest)?,
             datum: Datum::zero(),
         }),
-        "names" => Ok(Answer::Names(texts(alloc, rest, ' ')?)),
+        "names" => Ok(Answer::Names(list_of(alloc, rest, ' ')?)),
         "refused" => Ok(Answer::Refused(code(rest)?)),
         _ => Err(LineError::BadLine),
     }
@@ -51,20 +52,12 @@ fn code(word: &str) -> Result<Code, LineError> {
     }
 }
 
-fn text(alloc: Global, word: &str) -> Result<Text, LineError> {
-    let text = if word == "-" { "" } else { word };
-    Ok(Text::copied(alloc, text)?)
-}
-
-/// Texts with this letter between them; none where there is no word.
-fn texts(alloc: Global, words: &str, between: char) -> Result<List<Text>, LineError> {
-    let mut texts = List::new(alloc);
-    if !words.is_empty() {
-        for word in words.split(between) {
-            texts.push(text(alloc, word)?)?;
-        }
+/// A text; `-` is the empty one.
+impl Worded for Text {
+    fn of(alloc: Global, word: &str) -> Result<Text, LineError> {
+        let text = if word == "-" { "" } else { word };
+        Ok(Text::copied(alloc, text)?)
     }
-    Ok(texts)
 }
 
 fn path_of(alloc: Global, path: &str) -> Result<ByteList, LineError> {
@@ -80,40 +73,35 @@ fn info(alloc: Global, words: &str) -> Result<Answer, LineError> {
 }
 
 fn rows(alloc: Global, words: &str) -> Result<List<Row>, LineError> {
-    let mut rows = List::new(alloc);
-    for word in words.split_whitespace() {
-        let (app, names) = word.split_once('=').ok_or(LineError::BadLine)?;
-        rows.push(Row {
-            app: text(alloc, app)?,
-            names: texts(alloc, names, '+')?,
-        })?;
-    }
-    Ok(rows)
+    list_of(alloc, words.trim(), ' ')
 }
 
-fn listed(alloc: Global, words: &str) -> Result<Answer, LineError> {
-    let mut documents = List::new(alloc);
-    for word in words.split_whitespace() {
+impl Worded for Row {
+    fn of(alloc: Global, word: &str) -> Result<Row, LineError> {
+        let (app, names) = word.split_once('=').ok_or(LineError::BadLine)?;
+        Ok(Row {
+            app: Text::of(alloc, app)?,
+            names: list_of(alloc, names, '+')?,
+        })
+    }
+}
+
+impl Worded for ListedDocument {
+    fn of(alloc: Global, word: &str) -> Result<ListedDocument, LineError> {
         let (id, path) = word.split_once('=').ok_or(LineError::BadLine)?;
-        documents.push(ListedDocument {
+        Ok(ListedDocument {
             id: DocId::read(id.as_bytes()).ok_or(LineError::BadLine)?,
             path: path_of(alloc, path)?,
-        })?;
+        })
     }
-    Ok(Answer::Listed(documents))
 }
 
 /// So many letters.
 pub fn letters(alloc: Global, count: u32) -> Result<String, LineError> {
     let many = repeated(alloc, "<4096 a>")?;
-    let mut letters = String::new(alloc);
-    for _ in 0..count / 4096 {
-        letters.push_str(many.as_str())?;
-    }
-    for _ in 0..count % 4096 {
-        letters.push('a')?;
-    }
-    Ok(letters)
+    let (whole, rest) = (count / 4096, count % 4096);
+    let line = format!(in alloc; "<{whole} {many}><{rest} a>")?;
+    repeated(alloc, line.as_str())
 }
 
 /// `signal TABLE ID GONE APP=NAME+NAME ..`: what a host is told of an entry with
@@ -123,8 +111,8 @@ pub fn signal(alloc: Global, out: &mut String, rest: &str) -> Result<(), LineErr
     let (id, rest) = cut(rest);
     let (gone, rest) = cut(rest);
     let change = Change {
-        table: text(alloc, table)?,
-        id: text(alloc, id)?,
+        table: Text::of(alloc, table)?,
+        id: Text::of(alloc, id)?,
         deleted: gone == "true",
         rows: rows(alloc, rest)?,
         datum: Datum::zero(),
@@ -139,7 +127,7 @@ pub fn signal(alloc: Global, out: &mut String, rest: &str) -> Result<(), LineErr
 pub fn put_message(alloc: Global, out: &mut String, message: &OutMessage) -> Result<(), LineError> {
     match message {
         OutMessage::Return { to: 7, body } => put_values(alloc, out, "returns", body),
-        OutMessage::Error { to: 7, name } => Ok(out.push_str(name.as_str())?),
+        OutMessage::Error { to: 7, name } => put_word(out, name.as_str()),
         OutMessage::Signal {
             path,
             interface,
@@ -151,7 +139,7 @@ pub fn put_message(alloc: Global, out: &mut String, message: &OutMessage) -> Res
             write!(out, "{path} {interface} ")?;
             put_values(alloc, out, member, body)
         }
-        _ => Ok(out.push_str("another message")?),
+        _ => put_word(out, "another message"),
     }
 }
 

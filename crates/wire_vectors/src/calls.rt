@@ -4,6 +4,7 @@ ghost use Rattle.std.specs.Prelude.{◌≢◌};
 ghost use Rattle.dbus_dispatch.specs.Writable.{CanBeAnswered};
 
 use crate::answers::{answer_of, letters, put_message};
+use crate::lists::{Worded, put_word};
 use crate::requests::put_request;
 use crate::stack::byte;
 use dbus_dispatch::ask::{Ask, expects_reply, request_of};
@@ -71,35 +72,38 @@ fn put_by_kind(
     call: &mut Message,
     rest: &str,
 ) -> Result<(), LineError> {
-    let (first, words) = cut(rest);
     match kind {
-        "call" => {
-            fill(alloc, call, rest)?;
-            put_asked(alloc, out, call, None)
-        }
-        "reply" => {
-            fill(alloc, call, words)?;
-            put_asked(alloc, out, call, Some(small_number(first)?))
-        }
-        "ping" => {
-            fill(alloc, call, "/ org.freedesktop.DBus.Peer Ping -")?;
-            put_ping(alloc, out, call, byte(first)?, byte(words)?)
-        }
-        "told" => {
-            let (member, words) = cut(words);
-            call.path = field(alloc, first)?;
-            call.member = field(alloc, member)?;
-            put_told(alloc, out, call, words)
-        }
-        "long" => {
-            fill(alloc, call, "/org/freedesktop/portal/documents - Lookup -")?;
-            put_long(alloc, out, call, small_number(first)?)
-        }
-        _ => {
-            fill(alloc, call, "/ - Add hbb")?;
-            put_refused(alloc, out, call, rest)
-        }
+        "call" => put_call(alloc, out, call, rest),
+        "reply" => put_answer(alloc, out, call, rest),
+        "ping" => put_ping(alloc, out, call, rest),
+        "told" => put_told(alloc, out, call, rest),
+        "long" => put_long(alloc, out, call, rest),
+        _ => put_refused(alloc, out, call, rest),
     }
+}
+
+/// What a call asks, or is answered without the portal.
+fn put_call(
+    alloc: Global,
+    out: &mut String,
+    call: &mut Message,
+    words: &str,
+) -> Result<(), LineError> {
+    fill(alloc, call, words)?;
+    put_asked(alloc, out, call, None)
+}
+
+/// The same with a serial, in bytes.
+fn put_answer(
+    alloc: Global,
+    out: &mut String,
+    call: &mut Message,
+    words: &str,
+) -> Result<(), LineError> {
+    let (serial, words) = cut(words);
+    let serial = small_number(serial)?;
+    fill(alloc, call, words)?;
+    put_asked(alloc, out, call, Some(serial))
 }
 
 /// Gives a call what the words of a line name.
@@ -111,15 +115,20 @@ fn fill(alloc: Global, call: &mut Message, words: &str) -> Result<(), LineError>
     call.path = field(alloc, path)?;
     call.interface = field(alloc, interface)?;
     call.member = field(alloc, member)?;
-    if signature != "-" {
-        call.signature
-            .append(read_signature(alloc, signature.as_bytes())?)?;
-    }
+    put_kinds(alloc, &mut call.signature, signature)?;
     if arguments == "*" {
-        put_blanks(alloc, &mut call.body, call.signature.as_slice())
-    } else {
-        put_texts(alloc, &mut call.body, arguments)
+        return put_blanks(alloc, &mut call.body, call.signature.as_slice());
     }
+    put_texts(alloc, &mut call.body, arguments)
+}
+
+/// The types of a signature; `-` is none.
+fn put_kinds(alloc: Global, kinds: &mut List<WireType>, text: &str) -> Result<(), LineError> {
+    if text == "-" {
+        return Ok(());
+    }
+    kinds.append(read_signature(alloc, text.as_bytes())?)?;
+    Ok(())
 }
 
 /// A text, or nothing for `-`.
@@ -133,8 +142,7 @@ fn field(alloc: Global, word: &str) -> Result<Option<Text>, LineError> {
 /// Texts with spaces between them as values; `-` is the empty text.
 fn put_texts(alloc: Global, values: &mut List<Value>, words: &str) -> Result<(), LineError> {
     for word in words.split_whitespace() {
-        let text = if word == "-" { "" } else { word };
-        values.push(Value::Str(Text::copied(alloc, text)?))?;
+        values.push(Value::Str(Text::of(alloc, word)?))?;
     }
     Ok(())
 }
@@ -238,7 +246,7 @@ fn put_answered(alloc: Global, out: &mut String, ask: &Ask, serial: u32) -> Resu
 fn put_shown(alloc: Global, out: &mut String, ask: &Ask) -> Result<(), LineError> {
     match ask {
         Ask::Local(message) => put_message(alloc, out, message),
-        Ask::Ignore => Ok(out.push_str("ignored")?),
+        Ask::Ignore => put_word(out, "ignored"),
         Ask::Portal(request) => put_request(alloc, out, request),
     }
 }
@@ -248,19 +256,29 @@ fn put_ping(
     alloc: Global,
     out: &mut String,
     message: &mut Message,
-    kind: u8,
-    flags: u8,
+    words: &str,
 ) -> Result<(), LineError> {
-    message.kind = kind;
-    message.flags = flags;
+    let (kind, flags) = cut(words);
+    fill(alloc, message, "/ org.freedesktop.DBus.Peer Ping -")?;
+    message.kind = byte(kind)?;
+    message.flags = byte(flags)?;
     put_asked(alloc, out, message, None)?;
     let written = expects_reply(message);
     write!(out, " {written}")?;
     Ok(())
 }
 
-/// What a call is told with this answer.
-fn put_told(alloc: Global, out: &mut String, call: &Message, words: &str) -> Result<(), LineError> {
+/// What a call of a path and a member is told with this answer.
+fn put_told(
+    alloc: Global,
+    out: &mut String,
+    call: &mut Message,
+    words: &str,
+) -> Result<(), LineError> {
+    let (path, words) = cut(words);
+    let (member, words) = cut(words);
+    call.path = field(alloc, path)?;
+    call.member = field(alloc, member)?;
     let answer = answer_of(alloc, words)?;
     let put = put_reply(alloc, out, call, &answer, false);
     drop(answer);
@@ -268,9 +286,16 @@ fn put_told(alloc: Global, out: &mut String, call: &Message, words: &str) -> Res
 }
 
 /// What a call is told with an identifier of so many letters.
-fn put_long(alloc: Global, out: &mut String, call: &Message, count: u32) -> Result<(), LineError> {
+fn put_long(
+    alloc: Global,
+    out: &mut String,
+    call: &mut Message,
+    count: &str,
+) -> Result<(), LineError> {
+    fill(alloc, call, "/org/freedesktop/portal/documents - Lookup -")?;
+    let id = Text::from_string(letters(alloc, small_number(count)?)?);
     let mut ids = List::new(alloc);
-    ids.push(Text::from_string(letters(alloc, count)?))?;
+    ids.push(id)?;
     let answer = Answer::Ids(ids);
     let put = put_reply(alloc, out, call, &answer, true);
     drop(answer);
@@ -297,18 +322,23 @@ fn put_reply(
 fn put_refused(
     alloc: Global,
     out: &mut String,
-    call: &Message,
+    call: &mut Message,
     word: &str,
 ) -> Result<(), LineError> {
-    let refused = match word {
-        "memory" => Refused::Memory,
-        "full" => Refused::Full {
+    fill(alloc, call, "/ - Add hbb")?;
+    let refused = refused_of(word)?;
+    put_made(alloc, out, refused_message(alloc, &refused, call), false)
+}
+
+fn refused_of(word: &str) -> Result<Refused, LineError> {
+    match word {
+        "memory" => Ok(Refused::Memory),
+        "full" => Ok(Refused::Full {
             cost: 262,
             limit: 262,
-        },
-        _ => return Err(LineError::BadLine),
-    };
-    put_made(alloc, out, refused_message(alloc, &refused, call), false)
+        }),
+        _ => Err(LineError::BadLine),
+    }
 }
 
 /// A message that was made, which is let go here alone; of a brief one no
@@ -321,11 +351,7 @@ pub fn put_made(
 ) -> Result<(), LineError> {
     match made {
         Ok(message) => {
-            let put = if is_brief {
-                put_briefly(alloc, out, &message)
-            } else {
-                put_message(alloc, out, &message)
-            };
+            let put = put_one(alloc, out, &message, is_brief);
             drop(message);
             put
         }
@@ -333,9 +359,14 @@ pub fn put_made(
     }
 }
 
-fn put_briefly(alloc: Global, out: &mut String, message: &OutMessage) -> Result<(), LineError> {
+fn put_one(
+    alloc: Global,
+    out: &mut String,
+    message: &OutMessage,
+    is_brief: bool,
+) -> Result<(), LineError> {
     match message {
-        OutMessage::Return { .. } => Ok(out.push_str("returns")?),
+        OutMessage::Return { .. } if is_brief => put_word(out, "returns"),
         message => put_message(alloc, out, message),
     }
 }

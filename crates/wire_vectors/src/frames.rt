@@ -1,5 +1,10 @@
 //! Frames of FUSE, read and written.
 
+ghost use Rattle.std.specs.Prelude.{◌≡◌, ◌≤◌, length};
+ghost use Rattle.fuse_wire.specs.Frames.{header_len, split_of};
+ghost use Rattle.portal_base.specs.declared.split.Split.TheVariants.{Whole};
+
+use crate::lists::{Worded, list_of, put_word};
 use fuse_reply::dirent::fill_dirents;
 use fuse_reply::reply::write_reply;
 use fuse_wire::frame::{split, unique_of};
@@ -9,6 +14,7 @@ use portal_base::split::Split;
 use portal_model::reply::{Attr, DirName, NodeAnswer};
 use std::alloc::Global;
 use std::fmt::Write;
+use std::str::SplitWhitespace;
 use vector_lines::error::LineError;
 use vector_lines::notation::{bytes, cut, digits, number, small_number};
 
@@ -19,15 +25,23 @@ pub fn frame(alloc: Global, out: &mut String, kind: &str, rest: &str) -> Result<
     let bytes = bytes(alloc, rest)?;
     let bytes = bytes.as_slice();
     match split(bytes) {
-        Split::Whole { len } if len == bytes.len() => match read_request(alloc, bytes) {
-            Ok(ask) => {
-                let put = put_ask(alloc, out, kind, unique_of(bytes), &ask);
-                drop(ask);
-                put
-            }
-            Err(_) => Err(LineError::Memory),
-        },
+        Split::Whole { len } if len == bytes.len() => put_read(alloc, out, kind, bytes),
         found => Ok(write!(out, "{found:?}")?),
+    }
+}
+
+/// What a whole frame asks, which is let go here alone.
+fn put_read(alloc: Global, out: &mut String, kind: &str, bytes: &[u8]) -> Result<(), LineError>
+    requires whole { split_of bytes.now ≡ Whole (length bytes.now) }
+    requires header { header_len ≤ length bytes.now }
+{
+    match read_request(alloc, bytes) {
+        Ok(ask) => {
+            let put = put_ask(alloc, out, kind, unique_of(bytes), &ask);
+            drop(ask);
+            put
+        }
+        Err(_) => Err(LineError::Memory),
     }
 }
 
@@ -58,17 +72,11 @@ fn put_ask(
 /// - `answer UNIQUE WORD`: an answer without a part: `empty`, `quiet` or `statfs`.
 pub fn answer(alloc: Global, out: &mut String, kind: &str, rest: &str) -> Result<(), LineError> {
     let (unique, rest) = cut(rest);
-    match answer_of(alloc, kind, rest) {
-        Ok(answer) => {
-            let put = match number(unique) {
-                Ok(unique) => put_reply(alloc, out, unique, &answer),
-                Err(error) => Err(error),
-            };
-            drop(answer);
-            put
-        }
-        Err(error) => Err(error),
-    }
+    let unique = number(unique)?;
+    let answer = answer_of(alloc, kind, rest)?;
+    let put = put_reply(alloc, out, unique, &answer);
+    drop(answer);
+    put
 }
 
 fn answer_of(alloc: Global, kind: &str, rest: &str) -> Result<NodeAnswer, LineError> {
@@ -81,22 +89,30 @@ fn answer_of(alloc: Global, kind: &str, rest: &str) -> Result<NodeAnswer, LineEr
             fh: number(first)?,
         }),
         "opened" => Ok(NodeAnswer::Opened { fh: number(rest)? }),
-        "content" => Ok(NodeAnswer::Content(bytes(alloc, rest)?)),
         "written" => Ok(NodeAnswer::Written {
             size: small_number(rest)?,
         }),
-        "names" => {
-            let (size, entries) = cut(behind);
-            Ok(NodeAnswer::Names {
-                offset: number(first)?,
-                size: small_number(size)?,
-                names: names(alloc, entries)?,
-            })
-        }
         "errno" => Ok(NodeAnswer::Error {
             errno: small_number(rest)?,
         }),
         "answer" => part(rest),
+        _ => long_answer_of(alloc, kind, rest),
+    }
+}
+
+/// An answer that holds bytes or names.
+fn long_answer_of(alloc: Global, kind: &str, rest: &str) -> Result<NodeAnswer, LineError> {
+    match kind {
+        "content" => Ok(NodeAnswer::Content(bytes(alloc, rest)?)),
+        "names" => {
+            let (offset, rest) = cut(rest);
+            let (size, entries) = cut(rest);
+            Ok(NodeAnswer::Names {
+                offset: number(offset)?,
+                size: small_number(size)?,
+                names: names(alloc, entries)?,
+            })
+        }
         _ => Err(LineError::BadLine),
     }
 }
@@ -130,39 +146,69 @@ fn put_filled(
     size: &str,
 ) -> Result<(), LineError> {
     let filled = fill_dirents(alloc, names, number(offset)?, small_number(size)?)?;
-    out.push_str(digits(alloc, filled.as_slice())?.as_str())?;
-    Ok(())
+    put_digits(alloc, out, filled.as_slice())
 }
 
 /// Entries of a folder: each is `NODE/d/NAME` of a folder, and `NODE/f/NAME` of
 /// a file.
 fn names(alloc: Global, entries: &str) -> Result<List<DirName>, LineError> {
-    let mut names = List::new(alloc);
-    for entry in entries.split_whitespace() {
-        let mut parts = entry.split('/');
-        let node = number(parts.next().unwrap_or(""))?;
-        let folder = parts.next().unwrap_or("") == "d";
-        let name = List::copied(alloc, parts.next().unwrap_or("").as_bytes())?;
-        names.push(DirName { node, name, folder })?;
+    list_of(alloc, entries.trim(), ' ')
+}
+
+impl Worded for DirName {
+    fn of(alloc: Global, entry: &str) -> Result<DirName, LineError> {
+        let (node, rest) = entry.split_once('/').unwrap_or((entry, ""));
+        let (kind, name) = rest.split_once('/').unwrap_or((rest, ""));
+        Ok(DirName {
+            node: number(node)?,
+            name: List::copied(alloc, name.as_bytes())?,
+            folder: kind == "d",
+        })
     }
-    Ok(names)
 }
 
 /// `NODE SIZE BLOCKS MOMENT MODE LINKS UID GID BLOCK_SIZE`, with MODE in octal
 /// digits.
 fn attr(words: &str) -> Result<Attr, LineError> {
     let mut words = words.split_whitespace();
+    let (node, size, blocks, moment) = four_numbers(&mut words)?;
+    let mode = octal(words.next().unwrap_or(""))?;
+    let (links, uid, gid, block_size) = four_small_numbers(&mut words)?;
     Ok(Attr {
-        node: number(words.next().unwrap_or(""))?,
-        size: number(words.next().unwrap_or(""))?,
-        blocks: number(words.next().unwrap_or(""))?,
-        moment: number(words.next().unwrap_or(""))?,
-        mode: octal(words.next().unwrap_or(""))?,
-        links: small_number(words.next().unwrap_or(""))?,
-        uid: small_number(words.next().unwrap_or(""))?,
-        gid: small_number(words.next().unwrap_or(""))?,
-        block_size: small_number(words.next().unwrap_or(""))?,
+        node,
+        size,
+        blocks,
+        moment,
+        mode,
+        links,
+        uid,
+        gid,
+        block_size,
     })
+}
+
+fn four_numbers(words: &mut SplitWhitespace<'_>) -> Result<(u64, u64, u64, u64), LineError> {
+    let first = next_number(words)?;
+    let second = next_number(words)?;
+    let third = next_number(words)?;
+    let fourth = next_number(words)?;
+    Ok((first, second, third, fourth))
+}
+
+fn next_number(words: &mut SplitWhitespace<'_>) -> Result<u64, LineError> {
+    number(words.next().unwrap_or(""))
+}
+
+fn four_small_numbers(words: &mut SplitWhitespace<'_>) -> Result<(u32, u32, u32, u32), LineError> {
+    let first = next_small_number(words)?;
+    let second = next_small_number(words)?;
+    let third = next_small_number(words)?;
+    let fourth = next_small_number(words)?;
+    Ok((first, second, third, fourth))
+}
+
+fn next_small_number(words: &mut SplitWhitespace<'_>) -> Result<u32, LineError> {
+    small_number(words.next().unwrap_or(""))
 }
 
 fn octal(word: &str) -> Result<u32, LineError> {
@@ -176,8 +222,11 @@ fn put_reply(
     answer: &NodeAnswer,
 ) -> Result<(), LineError> {
     match write_reply(alloc, unique, answer)? {
-        Some(frame) => out.push_str(digits(alloc, frame.as_slice())?.as_str())?,
-        None => out.push_str("quiet")?,
+        Some(frame) => put_digits(alloc, out, frame.as_slice()),
+        None => put_word(out, "quiet"),
     }
-    Ok(())
+}
+
+fn put_digits(alloc: Global, out: &mut String, bytes: &[u8]) -> Result<(), LineError> {
+    put_word(out, digits(alloc, bytes)?.as_str())
 }

@@ -1,5 +1,6 @@
 //! The handshake of a bus connection.
 
+use crate::lists::{put_between, put_word};
 use dbus_auth::{Auth, AuthAnswer};
 use std::alloc::Global;
 use vector_lines::error::LineError;
@@ -30,29 +31,37 @@ pub fn cell(alloc: Global, out: &mut String, rest: &str) -> Result<(), LineError
 /// early behind OK alone, and then DATA, which is answered OK during the wait
 /// for it alone.
 fn put_cell(alloc: Global, out: &mut String, former: &str, line: &[u8]) -> Result<(), LineError> {
-    let mut auth = Auth::new(&GUID);
-    if !former.is_empty() {
-        said(alloc, &mut auth, former.as_bytes())?;
-    }
+    let mut auth = begun(alloc, former)?;
     out.push_str(said(alloc, &mut auth, line)?.as_str())?;
-    let begins = said(alloc, &mut auth, b"BEGIN")?.as_str() == "(messages follow)";
-    let waits = said(alloc, &mut auth, b"DATA")?.as_str().starts_with("OK");
-    let state = match (begins, waits) {
-        (true, _) => ", after",
-        (false, true) => ", wait",
-        (false, false) => ", before",
-    };
-    out.push_str(state)?;
-    Ok(())
+    put_word(out, state(alloc, &mut auth)?)
+}
+
+/// The handshake behind a line, if there is one.
+fn begun(alloc: Global, line: &str) -> Result<Auth, LineError> {
+    let mut auth = Auth::new(&GUID);
+    if line.is_empty() {
+        return Ok(auth);
+    }
+    said(alloc, &mut auth, line.as_bytes())?;
+    Ok(auth)
+}
+
+/// The state of a handshake.
+fn state(alloc: Global, auth: &mut Auth) -> Result<&'static str, LineError> {
+    let begins = said(alloc, auth, b"BEGIN")?.as_str() == "(messages follow)";
+    let waits = said(alloc, auth, b"DATA")?.as_str().starts_with("OK");
+    match (begins, waits) {
+        (true, _) => Ok(", after"),
+        (false, true) => Ok(", wait"),
+        (false, false) => Ok(", before"),
+    }
 }
 
 /// `talk LINE | LINE ..`: what each line of a client is answered.
 pub fn talk(alloc: Global, out: &mut String, rest: &str) -> Result<(), LineError> {
     let mut auth = Auth::new(&GUID);
     for (index, line) in rest.split('|').enumerate() {
-        if index > 0 {
-            out.push_str(" | ")?;
-        }
+        put_between(out, index, " | ")?;
         out.push_str(said(alloc, &mut auth, line.trim().as_bytes())?.as_str())?;
     }
     Ok(())
@@ -64,12 +73,19 @@ fn said(alloc: Global, auth: &mut Auth, line: &[u8]) -> Result<String, LineError
         return Err(LineError::BadLine);
     }
     match auth.step(alloc, line)? {
-        AuthAnswer::Say(reply) => {
-            let reply = String::from_utf8_lossy(alloc, reply.as_slice())?;
-            let line = reply.as_str().strip_suffix("\r\n");
-            Ok(String::from_str(alloc, line.unwrap_or("(no line)"))?)
-        }
-        AuthAnswer::Begin => Ok(String::from_str(alloc, "(messages follow)")?),
-        AuthAnswer::Early => Ok(String::from_str(alloc, "(too early)")?),
+        AuthAnswer::Say(reply) => line_of(alloc, reply.as_slice()),
+        AuthAnswer::Begin => copied(alloc, "(messages follow)"),
+        AuthAnswer::Early => copied(alloc, "(too early)"),
     }
+}
+
+/// A reply without its CR LF.
+fn line_of(alloc: Global, reply: &[u8]) -> Result<String, LineError> {
+    let reply = String::from_utf8_lossy(alloc, reply)?;
+    let line = reply.as_str().strip_suffix("\r\n");
+    copied(alloc, line.unwrap_or("(no line)"))
+}
+
+fn copied(alloc: Global, text: &str) -> Result<String, LineError> {
+    Ok(String::from_str(alloc, text)?)
 }

@@ -11,6 +11,7 @@ mod answers;
 mod calls;
 mod frames;
 mod handshake;
+mod lists;
 mod messages;
 mod names;
 mod requests;

@@ -78,31 +78,47 @@ fn put_asks(alloc: Global, out: &mut String, bytes: &[u8]) -> Result<(), LineErr
 /// The parts of a message: the order of its bytes, its type, flags and serial,
 /// the fields that it has by their names, and its body.
 fn put_message(alloc: Global, out: &mut String, message: &Message) -> Result<(), VectorError> {
-    let order = match message.endian {
-        Endian::Little => "l",
-        Endian::Big => "B",
-    };
+    let order = order_of(message.endian);
     let (kind, flags, serial) = (message.kind, message.flags, message.serial);
     write!(out, "{order} type {kind} flags {flags} serial {serial}")?;
     put_text(out, " path ", &message.path)?;
     put_text(out, " interface ", &message.interface)?;
     put_text(out, " member ", &message.member)?;
     put_text(out, " error ", &message.error)?;
-    if let Some(serial) = message.reply_serial {
-        write!(out, " reply to {serial}")?;
-    }
-    let fds = message.fds;
-    if fds != 0 {
-        write!(out, " fds {fds}")?;
-    }
+    put_reply_serial(out, message.reply_serial)?;
+    put_fds(out, message.fds)?;
     put_body(alloc, out, message)
 }
 
-fn put_text(out: &mut String, name: &str, field: &Option<Text>) -> Result<(), VectorError> {
-    if let Some(text) = field {
-        out.push_str(name)?;
-        out.push_str(text.as_str())?;
+fn order_of(endian: Endian) -> &'static str {
+    match endian {
+        Endian::Little => "l",
+        Endian::Big => "B",
     }
+}
+
+fn put_reply_serial(out: &mut String, serial: Option<u32>) -> Result<(), VectorError> {
+    let Some(serial) = serial else {
+        return Ok(());
+    };
+    write!(out, " reply to {serial}")?;
+    Ok(())
+}
+
+fn put_fds(out: &mut String, fds: u32) -> Result<(), VectorError> {
+    if fds == 0 {
+        return Ok(());
+    }
+    write!(out, " fds {fds}")?;
+    Ok(())
+}
+
+fn put_text(out: &mut String, name: &str, field: &Option<Text>) -> Result<(), VectorError> {
+    let Some(text) = field else {
+        return Ok(());
+    };
+    out.push_str(name)?;
+    out.push_str(text.as_str())?;
     Ok(())
 }
 

@@ -1,5 +1,6 @@
 //! Names and signatures.
 
+use crate::lists::put_word;
 use dbus_types::names::{is_interface, is_member, is_object_path};
 use dbus_types::signature::{check_signature, read_signature};
 use dbus_types::types::WireType;
@@ -14,19 +15,19 @@ use vector_lines::notation;
 pub fn name(alloc: Global, out: &mut String, rest: &str) -> Result<(), LineError> {
     let text = notation::text(alloc, rest)?;
     let text = text.as_slice();
-    if is_object_path(text) {
-        out.push_str("path")?;
+    put_where(out, is_object_path(text), "path")?;
+    put_where(out, is_interface(text), "interface")?;
+    put_where(out, is_member(text), "member")?;
+    let nothing = out.is_empty();
+    put_where(out, nothing, "nothing")
+}
+
+/// A word, where it holds.
+fn put_where(out: &mut String, holds: bool, word: &str) -> Result<(), LineError> {
+    if !holds {
+        return Ok(());
     }
-    if is_interface(text) {
-        out.push_str("interface")?;
-    }
-    if is_member(text) {
-        out.push_str("member")?;
-    }
-    if out.is_empty() {
-        out.push_str("nothing")?;
-    }
-    Ok(())
+    put_word(out, word)
 }
 
 /// `signature TEXT`: how many types it has, and their text; or where it breaks.

@@ -1,6 +1,7 @@
 //! Requests, with their names: byte lists by their digits, texts of documents
 //! as they are, and those of the permission store between quotes.
 
+use crate::lists::{put_between, put_word};
 use dbus_types::types::Value;
 use portal_base::list::List;
 use portal_base::text::Text;
@@ -27,20 +28,13 @@ pub fn put_request(alloc: Global, out: &mut String, request: &Request) -> Result
         Request::Info { doc } => put_named(alloc, out, "Info", doc.as_slice()),
         Request::ListDocuments { app } => put_named(alloc, out, "ListDocuments", app.as_slice()),
         Request::Store(call) => put_store(alloc, out, call),
-        _ => Ok(out.push_str("another request")?),
+        _ => put_word(out, "another request"),
     }
 }
 
-fn put_digits(alloc: Global, out: &mut String, bytes: &[u8]) -> Result<(), LineError> {
-    out.push_str(digits(alloc, bytes)?.as_str())?;
-    Ok(())
-}
-
 fn put_named(alloc: Global, out: &mut String, name: &str, bytes: &[u8]) -> Result<(), LineError> {
-    out.push_str(name)?;
-    out.push('(')?;
-    put_digits(alloc, out, bytes)?;
-    out.push(')')?;
+    let bytes = digits(alloc, bytes)?;
+    write!(out, "{name}({bytes})")?;
     Ok(())
 }
 
@@ -50,12 +44,9 @@ fn put_rights(
     name: &str,
     call: &RightsCall,
 ) -> Result<(), LineError> {
-    out.push_str(name)?;
-    out.push('(')?;
-    put_digits(alloc, out, call.doc.as_slice())?;
-    out.push(' ')?;
-    put_digits(alloc, out, call.app.as_slice())?;
-    out.push(' ')?;
+    let doc = digits(alloc, call.doc.as_slice())?;
+    let app = digits(alloc, call.app.as_slice())?;
+    write!(out, "{name}({doc} {app} ")?;
     put_texts(out, &call.names)?;
     out.push(')')?;
     Ok(())
@@ -66,14 +57,13 @@ fn put_rights(
 fn put_add(alloc: Global, out: &mut String, add: &AddRequest) -> Result<(), LineError> {
     let (named, full, fds, flags) = (add.named, add.full, add.fds, add.flags);
     let handles = add.handles.as_slice();
+    let name = digits(alloc, add.name.as_slice())?;
+    let app = digits(alloc, add.app.as_slice())?;
     write!(
         out,
-        "Add(named {named}, full {full}, handles {handles:?}, fds {fds}, name ["
+        "Add(named {named}, full {full}, handles {handles:?}, fds {fds}, name [{name}], \
+         flags {flags}, app [{app}], names "
     )?;
-    put_digits(alloc, out, add.name.as_slice())?;
-    write!(out, "], flags {flags}, app [")?;
-    put_digits(alloc, out, add.app.as_slice())?;
-    out.push_str("], names ")?;
     put_texts(out, &add.names)?;
     out.push(')')?;
     Ok(())
@@ -83,9 +73,7 @@ fn put_add(alloc: Global, out: &mut String, add: &AddRequest) -> Result<(), Line
 fn put_texts(out: &mut String, texts: &List<Text>) -> Result<(), LineError> {
     out.push('[')?;
     for (index, text) in texts.iter().enumerate() {
-        if index > 0 {
-            out.push(' ')?;
-        }
+        put_between(out, index, " ")?;
         out.push_str(text.as_str())?;
     }
     out.push(']')?;
@@ -105,20 +93,20 @@ fn put_store(alloc: Global, out: &mut String, call: &StoreCall) -> Result<(), Li
         StoreCall::GetPermission { table, id, app } => {
             put_quoted(out, "GetPermission", &[table, id, app])
         }
-        _ => return put_setting(alloc, out, call),
-    }?;
-    out.push(')')?;
-    Ok(())
+        _ => put_setting(alloc, out, call),
+    }
 }
 
 /// A name, and texts behind it.
 fn put_quoted(out: &mut String, name: &str, texts: &[&Text]) -> Result<(), LineError> {
     out.push_str(name)?;
+    out.push('(')?;
     for (index, text) in texts.iter().enumerate() {
-        out.push(if index > 0 { ' ' } else { '(' })?;
+        put_between(out, index, " ")?;
         let text = text.as_str();
         write!(out, "{text:?}")?;
     }
+    out.push(')')?;
     Ok(())
 }
 
@@ -131,34 +119,62 @@ fn put_setting(alloc: Global, out: &mut String, call: &StoreCall) -> Result<(), 
             id,
             rows,
             datum,
-        } => {
-            put_place(out, "Set", table, *create, id)?;
-            put_rows(out, rows)?;
-            put_datum(alloc, out, datum)?;
-        }
+        } => put_set(alloc, out, table, *create, id, rows, datum),
         StoreCall::SetValue {
             table,
             create,
             id,
             datum,
-        } => {
-            put_place(out, "SetValue", table, *create, id)?;
-            put_datum(alloc, out, datum)?;
-        }
+        } => put_set_value(alloc, out, table, *create, id, datum),
         StoreCall::SetPermission {
             table,
             create,
             id,
             app,
             names,
-        } => {
-            put_place(out, "SetPermission", table, *create, id)?;
-            let app = app.as_str();
-            write!(out, " {app:?} ")?;
-            put_texts(out, names)?;
-        }
-        _ => out.push_str("another call(")?,
+        } => put_permission(out, table, *create, id, app, names),
+        _ => put_word(out, "another call()"),
     }
+}
+
+fn put_set(
+    alloc: Global,
+    out: &mut String,
+    table: &Text,
+    create: bool,
+    id: &Text,
+    rows: &List<Row>,
+    datum: &Value,
+) -> Result<(), LineError> {
+    put_place(out, "Set", table, create, id)?;
+    put_rows(out, rows)?;
+    put_datum(alloc, out, datum)
+}
+
+fn put_set_value(
+    alloc: Global,
+    out: &mut String,
+    table: &Text,
+    create: bool,
+    id: &Text,
+    datum: &Value,
+) -> Result<(), LineError> {
+    put_place(out, "SetValue", table, create, id)?;
+    put_datum(alloc, out, datum)
+}
+
+fn put_permission(
+    out: &mut String,
+    table: &Text,
+    create: bool,
+    id: &Text,
+    app: &Text,
+    names: &List<Text>,
+) -> Result<(), LineError> {
+    put_place(out, "SetPermission", table, create, id)?;
+    let app = app.as_str();
+    write!(out, " {app:?} ")?;
+    put_texts(out, names)?;
     out.push(')')?;
     Ok(())
 }
@@ -179,9 +195,7 @@ fn put_place(
 fn put_rows(out: &mut String, rows: &List<Row>) -> Result<(), LineError> {
     out.push_str(" [")?;
     for (index, row) in rows.iter().enumerate() {
-        if index > 0 {
-            out.push(' ')?;
-        }
+        put_between(out, index, " ")?;
         out.push_str(row.app.as_str())?;
         out.push(' ')?;
         put_texts(out, &row.names)?;
@@ -190,8 +204,9 @@ fn put_rows(out: &mut String, rows: &List<Row>) -> Result<(), LineError> {
     Ok(())
 }
 
+/// The data of an entry, and the end of a call.
 fn put_datum(alloc: Global, out: &mut String, datum: &Value) -> Result<(), LineError> {
-    out.push(' ')?;
-    out.push_str(values::value(alloc, datum)?.as_str())?;
+    let datum = values::value(alloc, datum)?;
+    write!(out, " {datum})")?;
     Ok(())
 }

@@ -30,13 +30,17 @@ pub fn last(kinds: &List<WireType>) -> Result<&WireType, VectorError> {
 /// each other. `()` is the struct without a member, which no text spells.
 pub fn kind(alloc: Global, out: &mut String, rest: &str) -> Result<(), VectorError> {
     let (text, limits) = cut(rest);
-    let kinds = match text {
-        "()" => empty_struct(alloc)?,
-        _ => kinds_of(alloc, text.as_bytes())?,
-    };
+    let kinds = named_kinds(alloc, text)?;
     let put = put_kind(out, &kinds, limits);
     drop(kinds);
     put
+}
+
+fn named_kinds(alloc: Global, text: &str) -> Result<List<WireType>, VectorError> {
+    match text {
+        "()" => empty_struct(alloc),
+        _ => kinds_of(alloc, text.as_bytes()),
+    }
 }
 
 /// The type that no text spells.

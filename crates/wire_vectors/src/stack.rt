@@ -31,22 +31,30 @@ pub fn top(made: &List<Value>) -> Result<&[Value], VectorError> {
 }
 
 fn put(alloc: Global, made: &mut List<Value>, word: &str) -> Result<(), VectorError> {
+    let value = value_of(alloc, made, word)?;
+    made.push(value)?;
+    Ok(())
+}
+
+/// The value that a word makes of those on top.
+fn value_of(alloc: Global, made: &mut List<Value>, word: &str) -> Result<Value, VectorError> {
     let (kind, rest) = word.split_once(':').unwrap_or((word, ""));
     match kind {
-        "variant" => {
-            let inner = taken(alloc, made)?;
-            made.push(Value::Variant(inner))?;
-        }
-        "entry" => put_entry(alloc, made)?,
-        "struct" => {
-            let at = place(made, small_number(rest)? as usize)?;
-            let members = taken_from(alloc, made, at)?;
-            made.push(Value::Struct(members))?;
-        }
-        "array" => put_array(alloc, made, rest)?,
-        _ => made.push(leaf(alloc, kind, rest)?)?,
+        "variant" => variant(alloc, made),
+        "entry" => entry(alloc, made),
+        "struct" => structure(alloc, made, rest),
+        "array" => array(alloc, made, rest),
+        _ => leaf(alloc, kind, rest),
     }
-    Ok(())
+}
+
+fn variant(alloc: Global, made: &mut List<Value>) -> Result<Value, VectorError> {
+    Ok(Value::Variant(taken(alloc, made)?))
+}
+
+fn structure(alloc: Global, made: &mut List<Value>, count: &str) -> Result<Value, VectorError> {
+    let at = place(made, small_number(count)? as usize)?;
+    Ok(Value::Struct(taken_from(alloc, made, at)?))
 }
 
 /// The place of the lowest of the top ones, of which there are to be so many.
@@ -85,10 +93,10 @@ fn taken_from(
     Ok(values)
 }
 
-fn put_entry(alloc: Global, made: &mut List<Value>) -> Result<(), VectorError> {
+fn entry(alloc: Global, made: &mut List<Value>) -> Result<Value, VectorError> {
     let value = taken(alloc, made)?;
     match taken(alloc, made) {
-        Ok(key) => Ok(made.push(Value::DictEntry { key, value })?),
+        Ok(key) => Ok(Value::DictEntry { key, value }),
         Err(error) => {
             drop(value);
             Err(error)
@@ -96,49 +104,58 @@ fn put_entry(alloc: Global, made: &mut List<Value>) -> Result<(), VectorError> {
     }
 }
 
-fn put_array(alloc: Global, made: &mut List<Value>, words: &str) -> Result<(), VectorError> {
+fn array(alloc: Global, made: &mut List<Value>, words: &str) -> Result<Value, VectorError> {
     let (kind, count) = words.split_once(':').unwrap_or((words, ""));
     let at = place(made, small_number(count)? as usize)?;
     let kinds = kinds_of(alloc, kind.as_bytes())?;
-    let put = put_array_by(alloc, made, at, &kinds);
+    let array = array_by(alloc, made, at, &kinds);
     drop(kinds);
-    put
+    array
 }
 
-fn put_array_by(
+fn array_by(
     alloc: Global,
     made: &mut List<Value>,
     at: usize,
     kinds: &List<WireType>,
-) -> Result<(), VectorError> {
+) -> Result<Value, VectorError> {
     match last(kinds)? {
-        WireType::Array(element) => put_array_of(alloc, made, at, element),
+        WireType::Array(element) => array_of(alloc, made, at, element),
         _ => bad(),
     }
 }
 
-/// Puts the values from a place on into an array, packed where they are bytes.
-fn put_array_of(
+/// Takes the values from a place on into an array, packed where they are bytes.
+fn array_of(
     alloc: Global,
     made: &mut List<Value>,
     at: usize,
     element: &Shared<WireType>,
-) -> Result<(), VectorError> {
-    if is_byte(element.get())
-        && let Some(bytes) = bytes_of(alloc, from(made, at))?
-    {
+) -> Result<Value, VectorError> {
+    if let Some(bytes) = packed(alloc, from(made, at), element)? {
         made.truncate(at);
-        made.push(Value::Bytes(bytes))?;
-        return Ok(());
+        return Ok(Value::Bytes(bytes));
     }
     let element = element.share()?;
     match taken_from(alloc, made, at) {
-        Ok(items) => Ok(made.push(Value::Array { element, items })?),
+        Ok(items) => Ok(Value::Array { element, items }),
         Err(error) => {
             drop(element);
             Err(error)
         }
     }
+}
+
+/// The bytes that values of a type are, if they are bytes.
+fn packed(
+    alloc: Global,
+    values: &[Value],
+    kind: &Shared<WireType>,
+) -> Result<Option<ByteList>, VectorError> {
+    if !is_byte(kind.get()) {
+        return Ok(None);
+    }
+    bytes_of(alloc, values)
 }
 
 /// The bytes that values are, if they are bytes.
