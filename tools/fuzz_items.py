@@ -262,7 +262,7 @@ class Maker:
     def frame(self):
         """A request, as bytes."""
         opcode = self.one((1, 1, 2, 3, 3, 4, 14, 14, 15, 15, 16, 16, 17, 18, 20, 25, 26, 27, 27, 28,
-                           28, 29, 34, 35, 36, 38, 42, 8, 22, 45))
+                           28, 29, 34, 35, 35, 36, 38, 42, 8, 10, 12, 12, 22, 45))
         return self.framed(opcode, self.one(NODES), self.body_of(opcode))
 
     def framed(self, opcode, node, body):
@@ -277,8 +277,12 @@ class Maker:
         flags = self.one((0, 1, 2, 2, 0o1000, 0o1002, 3, 0xffffffff))
         offset = self.one((0, 0, 0, 1, 5, 4096) + LONG_NUMBERS)
         content = bytes(self.chance.randrange(40))
+        names = name + self.one(NAMES).encode() + b"\0"
         bodies = {
-            1: lambda: name, 2: lambda: struct.pack("<Q", self.one(LONG_NUMBERS)),
+            1: lambda: name, 10: lambda: name,
+            12: lambda: struct.pack("<Q", self.one(NODES)) + names,
+            45: lambda: struct.pack("<QII", self.one(NODES), self.one((0, 0, 0, 1, 2)), 0) + names,
+            2: lambda: struct.pack("<Q", self.one(LONG_NUMBERS)),
             3: lambda: struct.pack("<IIQ", self.one((0, 1, 1, 0xffffffff)), 0, fh),
             4: lambda: struct.pack("<IIQQ", self.one((0, 8, 8, 64, 72, 72, 1, 48, 0xffffffff)), 0,
                                    fh, self.one((0, 3, 4096) + LONG_NUMBERS)) + bytes(64),

@@ -9,7 +9,7 @@ import re
 import struct
 from errno import (
     EACCES, EBADF, EEXIST, EFBIG, EINVAL, EIO, EISDIR, EMFILE, ENAMETOOLONG, ENOENT, ENOSYS,
-    ENOTDIR, EPERM, EPROTO)
+    ENOTDIR, EPERM, EPROTO, EXDEV)
 
 MESSAGE_LIMIT, FRAME_LIMIT, LINE_LIMIT, ARRAY_LIMIT = 16_777_216, 135_168, 1024, 67_108_864
 GUID = b"0123456789abcdef0123456789abcdef"
@@ -354,12 +354,14 @@ def property_of(message, here):
 
 # ---- frames (docs/files.md)
 
-NAMED, QUIET = "named", "quiet"
+NAMED, TWICE_NAMED, QUIET = "named", "twice named", "quiet"
 # By opcode: the length of the body, the length of the answer, and the errors that may come.
 FRAMES = {
     1: (NAMED, 128, {ENAMETOOLONG, ENOENT, ENOTDIR, EIO, EMFILE}),
     3: (16, 104, {EBADF, EACCES, EIO, ENOENT}),
     4: (88, 104, {EPERM, EBADF, EACCES, EIO, ENOENT, EISDIR, EFBIG}),
+    10: (NAMED, 0, {ENAMETOOLONG, ENOENT, EIO, ENOTDIR, EPERM, EACCES}),
+    12: (TWICE_NAMED, 0, {ENAMETOOLONG, ENOENT, EIO, ENOTDIR, EPERM, EXDEV, EACCES}),
     14: (8, 16, {EINVAL, ENOENT, EIO, EISDIR, EACCES, EMFILE}),
     15: (40, None, {EINVAL, EBADF, EACCES, EIO, ENOENT}),
     16: (None, 8, {EINVAL, EBADF, EACCES, EFBIG, EIO, ENOENT}),
@@ -371,15 +373,18 @@ FRAMES = {
     29: (24, 0, {EBADF}),
     34: (8, 0, {EINVAL, ENOENT, EIO, EACCES}),
     35: (NAMED, 144, {EINVAL, ENAMETOOLONG, ENOENT, EIO, ENOTDIR, EPERM, EACCES, EMFILE, EEXIST}),
+    45: (TWICE_NAMED, 0, {EINVAL, ENAMETOOLONG, ENOENT, EIO, ENOTDIR, EPERM, EXDEV, EACCES}),
 }
 # By the kind of a node: the modes that its attributes may tell. Those of the kind 4 have numbers
-# that a connection gave in their order.
+# that a connection gave in their order; those of the kind 5 are files that it saves by rename.
 FILE_MODES = {0o100400, 0o100600}
 FOLDER_MODES = {0o040500}
 EXPORTED_MODES = {0o040500, 0o040700}
 MODES = {0: FOLDER_MODES, 1: FOLDER_MODES, 2: FILE_MODES | EXPORTED_MODES,
-         4: FILE_MODES | EXPORTED_MODES}
+         4: FILE_MODES | EXPORTED_MODES, 5: FILE_MODES}
 NAMES_LIMIT = 65536
+# Where the names of a request with two begin.
+NAMES_AT = {12: 8, 45: 16}
 STATFS = struct.pack("<5Q4I", *[1 << 30] * 3, *[1 << 20] * 2, 4096, 255, 4096, 0) + bytes(24)
 
 
@@ -395,8 +400,18 @@ def is_name(raw):
     return len(raw) > 1 and raw.find(b"\0") == len(raw) - 1
 
 
+def names_of(opcode, body):
+    """The names of a request that has some, without their zero bytes."""
+    if opcode in NAMES_AT:
+        return body[NAMES_AT[opcode]:].split(b"\0")[:2]
+    return [{1: body, 10: body, 35: body[16:]}.get(opcode, b"")[:-1]]
+
+
 def has_form(opcode, body):
     """Whether the body of a request of the portal has its form."""
+    if opcode in NAMES_AT:
+        old, zero, new = body[NAMES_AT[opcode]:].partition(b"\0")
+        return bool(old and zero) and is_name(new)
     if opcode == 16:
         return len(body) >= 40 and len(body) == 40 + struct.unpack_from("<I", body, 16)[0]
     if opcode == 35:
@@ -408,10 +423,10 @@ def has_form(opcode, body):
 def first_of_portal(opcode, body):
     """The error that a request gets whatever the portal holds, if there is one."""
     words = struct.unpack("<%dI" % (len(body) // 4), body[:len(body) & ~3])
-    name = {1: body, 35: body[16:]}.get(opcode, b"")[:-1]
     checks = (
         (opcode in (14, 35) and words[0] & 3 == 3, EINVAL),
-        (len(name) > 255, ENAMETOOLONG),
+        (opcode == 45 and words[2], EINVAL),
+        (any(len(name) > 255 for name in names_of(opcode, body)), ENAMETOOLONG),
         (opcode == 4 and words[0] & 7, EPERM),
         (opcode in (15, 28) and words[4] > 1 << 20, EINVAL),
         (opcode == 16 and words[4] > 1 << 17, EINVAL),
@@ -424,7 +439,7 @@ def reply_of(frame):
     opcode, body = struct.unpack_from("<I", frame, 4)[0], frame[40:]
     if opcode == 36 or opcode in (2, 42):
         return None
-    if opcode in (8, 9, 10, 11, 12, 45):
+    if opcode in (8, 9, 11):
         return Reply(frame, error=EPERM)
     if opcode == 26:
         return initial(frame, body)

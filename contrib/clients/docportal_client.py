@@ -758,6 +758,8 @@ class Opcode(enum.IntEnum):
     LOOKUP = 1
     GETATTR = 3
     SETATTR = 4
+    UNLINK = 10
+    RENAME = 12
     OPEN = 14
     READ = 15
     WRITE = 16
@@ -863,6 +865,15 @@ class Mount(Stream):
         body = struct.pack("<IIII", flags, 0o600, 0, 0) + os.fsencode(name) + b"\0"
         got = self.ask(Opcode.CREATE, folder, body)
         return read_attr(got[40:]), struct.unpack_from("<Q", got, 128)[0]
+
+    def rename(self, folder, old, new):
+        """Gives a file that was made in a document's folder another name, or the document's."""
+        names = os.fsencode(old) + b"\0" + os.fsencode(new) + b"\0"
+        self.ask(Opcode.RENAME, folder, struct.pack("<Q", folder) + names)
+
+    def unlink(self, folder, name):
+        """Takes a file away that was made in a document's folder under another name."""
+        self.ask(Opcode.UNLINK, folder, os.fsencode(name) + b"\0")
 
     def read(self, node, handle, offset, size):
         """At most so many bytes of an open file, and none at its end."""

@@ -1,21 +1,22 @@
 -- The files of an opening state, each put at its place.
-use Rattle.std.proofs.Common.{◌≡◌, ℕ, ◌+◌, ◌<◌, List, [], ◌∷◌, ◌++◌, length, map, take, drop, get_or, Bool, true, false, ◌||◌, cond, Option, Some, None, refl, sym, ap, subst, ◌∙◌}
+use Rattle.std.proofs.Common.{◌≡◌, ℕ, ◌+◌, ◌<◌, List, [], ◌∷◌, ◌++◌, length, map, take, drop, get_or, Bool, true, false, not, ◌==◌, ◌||◌, cond, Option, Some, None, refl, sym, ap, subst, ◌∙◌, arith}
+use Rattle.std.proofs.lemmas.Bool.Decides.{nat_tests}
 use Rattle.std.proofs.lemmas.List.{append_assoc, map-append, take-append-drop}
 use Rattle.std.proofs.lemmas.List.Folds.{list_any-append}
-use Rattle.std.specs.List.{AllByRecursion, IsDistinct, list_any}
+use Rattle.std.specs.List.{filter, AllByRecursion, IsDistinct, list_all, list_any}
 use Rattle.std.specs.List.Sorted.{IsStrictlySortedBy}
 use Rattle.std.specs.Ordering.{is_lt, ordering_reverse}
 use Rattle.std.specs.declared.cmp.Ordering.TheVariants.{Less}
 use Rattle.host_tree.proofs.Entries.{same-is}
 use Rattle.portal_base.specs.Content.{file_at, is_above, is_folder, content_of, paths_of}
-use Rattle.portal_base.specs.FileChanges.{put_file}
+use Rattle.portal_base.specs.FileChanges.{file_with, put_file}
 use Rattle.portal_base.specs.Names.{is_same, parent_of, root}
 use Rattle.portal_base.specs.PathOrder.{path_order}
 use Rattle.portal_base.specs.PathOrders.{path_order_total}
 use Rattle.portal_base.specs.declared.files.File.{File}
-use Rattle.portal_base.proofs.PathsAbove.{any-paths, any-put}
+use Rattle.portal_base.proofs.PathsAbove.{any-paths, any-put, both}
 use Rattle.portal_model.specs.declared.opening.FileItem.{FileItem}
-use Rattle.portal_model.specs.Opening.{file_of}
+use Rattle.portal_model.specs.Opening.{file_of, is_first_item}
 use Rattle.app_world.specs.View.{path_content}
 use Rattle.document_records.proofs.Loops.{one_more}
 use Rattle.app_trace.specs.Contents.{ShowAlike}
@@ -114,8 +115,53 @@ put-last f (g ∷ gs) h =
 
 -- ---- the files so far
 
-abbrev listed : List FileItem → List File
+abbrev pub listed : List FileItem → List File
 listed items = map file_of items
+
+abbrev pub present_items : List FileItem → List FileItem
+present_items items = filter (λ f. f.present) items
+
+abbrev pub other_items : List FileItem → List FileItem
+other_items items = filter (λ f. not f.present) items
+
+number_is : (a b : ℕ) → (a == b) ≡ true → a ≡ b
+number_is a b e = grind (arith, nat_tests)
+
+-- the first file of a path
+pub first_file : (x : FileItem) → is_first_item x ≡ true →
+    file_of x ≡ file_with x.path x.content x.moment
+first_file x h =
+    let first : x.generation ≡ 0 =
+    number_is x.generation 0 (both (x.generation == 0) x.present h).0 in
+    ap (λ (n : ℕ). record {
+      path = x.path;
+      generation = n;
+      bytes = x.content;
+      moment = x.moment;
+    }) first
+
+-- where each is the first file of its path, all are present
+pub all-present : (items : List FileItem) → list_all is_first_item items ≡ true →
+    present_items items ≡ items
+all-present [] h = refl
+all-present (x ∷ xs) h =
+    let parts = both (is_first_item x) (list_all is_first_item xs) h in
+    let own = both (x.generation == 0) x.present parts.0 in
+    ap (λ (b : Bool). cond b (x ∷ present_items xs) (present_items xs)) own.1
+    ∙ ap (λ (ys : List FileItem). x ∷ ys) (all-present xs parts.1)
+
+pub none-beside : (items : List FileItem) → list_all is_first_item items ≡ true →
+    other_items items ≡ []
+none-beside [] h = refl
+none-beside (x ∷ xs) h =
+    let parts = both (is_first_item x) (list_all is_first_item xs) h in
+    let own = both (x.generation == 0) x.present parts.0 in
+    ap (λ (b : Bool). cond (not b) (x ∷ other_items xs) (other_items xs)) own.1
+    ∙ none-beside xs parts.1
+
+pub over-listed : (P : List File → Type 0) (items : List FileItem) →
+    list_all is_first_item items ≡ true → P (listed (present_items items)) → P (listed items)
+over-listed P items first h = subst P (ap listed (all-present items first)) h
 
 pub record ArePut (items : List FileItem) (files : List File) : Type 0 where
   pub found : (p : List ℕ) → file_at files p ≡ file_at (listed items) p

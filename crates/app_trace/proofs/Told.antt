@@ -8,18 +8,19 @@ use Rattle.app_world.specs.Own as own
 use Rattle.app_world.specs.TraceItem as item
 use Rattle.app_world.specs.View as view
 use Rattle.app_trace.specs.declared.trace.TraceItem.{TraceItem}
-use Rattle.app_trace.specs.declared.trace.TraceItem.TheVariants.{Own, Gained, Lost, Gone, Bytes}
+use Rattle.app_trace.specs.declared.trace.TraceItem.TheVariants.{Own, Gained, Lost, Gone, Bytes, Turned}
 use Rattle.app_trace.specs.declared.view.AppView.{AppView}
 use Rattle.app_trace.specs.declared.view.Content.{Content}
 use Rattle.app_trace.specs.declared.view.Content.TheVariants.{File, Folder, Missing}
 use Rattle.app_trace.specs.declared.view.HeldDocument.{HeldDocument}
 use Rattle.app_trace.specs.declared.view.Holding.{Holding}
 use Rattle.app_trace.specs.declared.view.Holding.TheVariants.{Alone, Below}
+use Rattle.app_trace.specs.declared.view.NamedFile.{NamedFile}
 use Rattle.app_trace.specs.declared.view.OwnConnection.{OwnConnection}
 use Rattle.app_trace.specs.declared.view.OwnHandle.{OwnHandle}
 use Rattle.app_trace.specs.declared.view.PathBelow.{PathBelow}
 use Rattle.app_trace.specs.declared.view.PathContent.{PathContent}
-use Rattle.app_trace.specs.Told.{below_told, content_told, held_told, handle_told, holding_told, connection_told, path_told, view_told, item_told}
+use Rattle.app_trace.specs.Told.{below_told, content_told, held_told, handle_told, holding_told, connection_told, named_told, path_told, view_told, item_told}
 use Rattle.app_trace.proofs.FirstDifferences.{map-apart}
 
 pub content-apart : (a b : Content) → content_told a ≡ content_told b → a ≡ b
@@ -62,6 +63,9 @@ path-apart a b e =
 below-apart : (a b : PathBelow) → below_told a ≡ below_told b → a ≡ b
 below-apart a b e = λ i. record { path = (e i).path; files = (e i).files }
 
+named-apart : (a b : NamedFile) → named_told a ≡ named_told b → a ≡ b
+named-apart a b e = λ i. record { name = (e i).name; bytes = (e i).bytes; moment = (e i).moment }
+
 abbrev content_of_holding : content.Content → view.Holding → content.Content
 content_of_holding other (view.Alone c) = c
 content_of_holding other (view.Below files) = other
@@ -84,6 +88,7 @@ view-apart a b e =
     let connections : a.connections ≡ b.connections = map-apart connection_told connection-apart a.connections b.connections (λ i. (e i).connections) in
     let contents : a.contents ≡ b.contents = map-apart path_told path-apart a.contents b.contents (λ i. (e i).contents) in
     let below : a.below ≡ b.below = map-apart below_told below-apart a.below b.below (λ i. (e i).below) in
+    let files : a.files ≡ b.files = map-apart named_told named-apart a.files b.files (λ i. (e i).files) in
     λ i. record {
       handles = (e i).handles;
       queued = (e i).queued;
@@ -92,6 +97,7 @@ view-apart a b e =
       connections = connections i;
       contents = contents i;
       below = below i;
+      files = files i;
     }
 
 -- ---- items
@@ -102,6 +108,7 @@ asked_in other (item.Gained d rights c) = other
 asked_in other (item.Lost id rights) = other
 asked_in other (item.Gone id) = other
 asked_in other (item.Bytes path generation c) = other
+asked_in other (item.Turned path generation c) = other
 
 abbrev content_in : content.Content → item.TraceItem → content.Content
 content_in other (item.Own o) = other
@@ -109,6 +116,7 @@ content_in other (item.Gained d rights h) = other
 content_in other (item.Lost id rights) = other
 content_in other (item.Gone id) = other
 content_in other (item.Bytes path generation c) = c
+content_in other (item.Turned path generation c) = c
 
 abbrev holding_in : view.Holding → item.TraceItem → view.Holding
 holding_in other (item.Own o) = other
@@ -116,6 +124,7 @@ holding_in other (item.Gained d rights h) = h
 holding_in other (item.Lost id rights) = other
 holding_in other (item.Gone id) = other
 holding_in other (item.Bytes path generation c) = other
+holding_in other (item.Turned path generation c) = other
 
 abbrev document_in : Document → item.TraceItem → Document
 document_in other (item.Own o) = other
@@ -123,6 +132,7 @@ document_in other (item.Gained d rights c) = d
 document_in other (item.Lost id rights) = other
 document_in other (item.Gone id) = other
 document_in other (item.Bytes path generation c) = other
+document_in other (item.Turned path generation c) = other
 
 abbrev rights_in : RightSet → item.TraceItem → RightSet
 rights_in other (item.Own o) = other
@@ -130,6 +140,7 @@ rights_in other (item.Gained d rights c) = rights
 rights_in other (item.Lost id rights) = rights
 rights_in other (item.Gone id) = other
 rights_in other (item.Bytes path generation c) = other
+rights_in other (item.Turned path generation c) = other
 
 abbrev path_in : List ℕ → item.TraceItem → List ℕ
 path_in other (item.Own o) = other
@@ -137,6 +148,7 @@ path_in other (item.Gained d rights c) = other
 path_in other (item.Lost id rights) = other
 path_in other (item.Gone id) = other
 path_in other (item.Bytes path generation c) = path
+path_in other (item.Turned path generation c) = path
 
 abbrev generation_in : ℕ → item.TraceItem → ℕ
 generation_in other (item.Own o) = other
@@ -144,6 +156,7 @@ generation_in other (item.Gained d rights c) = other
 generation_in other (item.Lost id rights) = other
 generation_in other (item.Gone id) = other
 generation_in other (item.Bytes path generation c) = generation
+generation_in other (item.Turned path generation c) = generation
 
 pub item-apart : (a b : TraceItem) → item_told a ≡ item_told b → a ≡ b
 item-apart (Own s r n u h p l f x g) (Own s' r' n' u' h' p' l' f' x' g') e =
@@ -156,6 +169,7 @@ item-apart (Own s r n u h p l f x g) (Gained d' r' c') e = cc
 item-apart (Own s r n u h p l f x g) (Lost j' r') e = cc
 item-apart (Own s r n u h p l f x g) (Gone j') e = cc
 item-apart (Own s r n u h p l f x g) (Bytes p' g' c') e = cc
+item-apart (Own s r n u h p l f x g) (Turned p' g' c') e = cc
 item-apart (Gained d r c) (Own s' r' n' u' h' p' l' f' x' g') e = cc
 item-apart (Gained d r c) (Gained d' r' c') e =
     let there : c ≡ c' = holding-apart c c' (λ i. holding_in (holding_told c) (e i)) in
@@ -163,16 +177,19 @@ item-apart (Gained d r c) (Gained d' r' c') e =
 item-apart (Gained d r c) (Lost j' r') e = cc
 item-apart (Gained d r c) (Gone j') e = cc
 item-apart (Gained d r c) (Bytes p' g' c') e = cc
+item-apart (Gained d r c) (Turned p' g' c') e = cc
 item-apart (Lost j r) (Own s' r' n' u' h' p' l' f' x' g') e = cc
 item-apart (Lost j r) (Gained d' r' c') e = cc
 item-apart (Lost j r) (Lost j' r') e = cc
 item-apart (Lost j r) (Gone j') e = cc
 item-apart (Lost j r) (Bytes p' g' c') e = cc
+item-apart (Lost j r) (Turned p' g' c') e = cc
 item-apart (Gone j) (Own s' r' n' u' h' p' l' f' x' g') e = cc
 item-apart (Gone j) (Gained d' r' c') e = cc
 item-apart (Gone j) (Lost j' r') e = cc
 item-apart (Gone j) (Gone j') e = cc
 item-apart (Gone j) (Bytes p' g' c') e = cc
+item-apart (Gone j) (Turned p' g' c') e = cc
 item-apart (Bytes p g c) (Own s' r' n' u' h' p' l' f' x' g') e = cc
 item-apart (Bytes p g c) (Gained d' r' c') e = cc
 item-apart (Bytes p g c) (Lost j' r') e = cc
@@ -180,3 +197,12 @@ item-apart (Bytes p g c) (Gone j') e = cc
 item-apart (Bytes p g c) (Bytes p' g' c') e =
     let there : c ≡ c' = content-apart c c' (λ i. content_in (content_told c) (e i)) in
     λ i. Bytes (path_in p (e i)) (generation_in g (e i)) (there i)
+item-apart (Bytes p g c) (Turned p' g' c') e = cc
+item-apart (Turned p g c) (Own s' r' n' u' h' p' l' f' x' g') e = cc
+item-apart (Turned p g c) (Gained d' r' c') e = cc
+item-apart (Turned p g c) (Lost j' r') e = cc
+item-apart (Turned p g c) (Gone j') e = cc
+item-apart (Turned p g c) (Bytes p' g' c') e = cc
+item-apart (Turned p g c) (Turned p' g' c') e =
+    let there : c ≡ c' = content-apart c c' (λ i. content_in (content_told c) (e i)) in
+    λ i. Turned (path_in p (e i)) (generation_in g (e i)) (there i)

@@ -6,13 +6,14 @@ use Rattle.app_world.specs.View as view
 use Rattle.app_world.specs.World as world
 use Rattle.app_trace.specs.declared.trace.Trace.{Trace}
 use Rattle.app_trace.specs.declared.trace.TraceItem.{TraceItem}
-use Rattle.app_trace.specs.declared.trace.TraceItem.TheVariants.{Own, Gained, Lost, Gone, Bytes}
+use Rattle.app_trace.specs.declared.trace.TraceItem.TheVariants.{Own, Gained, Lost, Gone, Bytes, Turned}
 use Rattle.app_trace.specs.declared.view.AppView.{AppView}
 use Rattle.app_trace.specs.declared.view.Content.{Content}
 use Rattle.app_trace.specs.declared.view.Content.TheVariants.{File, Folder, Missing}
 use Rattle.app_trace.specs.declared.view.HeldDocument.{HeldDocument}
 use Rattle.app_trace.specs.declared.view.Holding.{Holding}
 use Rattle.app_trace.specs.declared.view.Holding.TheVariants.{Alone, Below}
+use Rattle.app_trace.specs.declared.view.NamedFile.{NamedFile}
 use Rattle.app_trace.specs.declared.view.OwnConnection.{OwnConnection}
 use Rattle.app_trace.specs.declared.view.OwnHandle.{OwnHandle}
 use Rattle.app_trace.specs.declared.view.PathBelow.{PathBelow}
@@ -50,6 +51,9 @@ path_told c = record { path = c.path; content = content_told c.content }
 abbrev pub below_told : PathBelow → view.PathBelow
 below_told b = record { path = b.path; files = b.files }
 
+abbrev pub named_told : NamedFile → view.NamedFile
+named_told f = record { name = f.name; bytes = f.bytes; moment = f.moment }
+
 abbrev pub holding_told : Holding → view.Holding
 holding_told (Alone content) = view.Alone (content_told content)
 holding_told (Below files) = view.Below files
@@ -63,6 +67,7 @@ view_told v = record {
   connections = map connection_told v.connections;
   contents = map path_told v.contents;
   below = map below_told v.below;
+  files = map named_told v.files;
 }
 
 -- ---- what happens to it
@@ -84,6 +89,8 @@ item_told (Gained document rights holding) = item.Gained document rights (holdin
 item_told (Lost id rights) = item.Lost id rights
 item_told (Gone id) = item.Gone id
 item_told (Bytes path generation content) = item.Bytes path generation (content_told content)
+item_told (Turned path generation content) =
+    item.Turned path generation (content_told content)
 
 abbrev pub trace_told : Trace → world.Trace
 trace_told t = record { opening = view_told t.opening; items = map item_told t.items }

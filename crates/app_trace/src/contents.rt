@@ -29,7 +29,7 @@ pub fn contents_of(
     held: &[HeldDocument],
 ) -> Result<List<PathContent>, WantOfMemory>
     ensures { IfOk result (λ contents. map path_told contents
-        ≡ contents_of_view files.now (paths_held false held.now)) }
+        ≡ contents_of_view files.now.present (paths_held false held.now)) }
 {
     let paths = paths_held(alloc, held, false)?;
     let paths = by_bytes(paths);
@@ -45,7 +45,7 @@ pub fn below_of(
     held: &[HeldDocument],
 ) -> Result<List<PathBelow>, WantOfMemory>
     ensures { IfOk result (λ below. map below_told below
-        ≡ below_of_view files.now (paths_held true held.now)) }
+        ≡ below_of_view files.now.present (paths_held true held.now)) }
 {
     let paths = paths_held(alloc, held, true)?;
     let paths = by_bytes(paths);
@@ -59,7 +59,7 @@ pub fn holding_of(
     document: &Document,
 ) -> Result<Holding, WantOfMemory>
     ensures { IfOk result
-        (λ holding. holding_told holding ≡ holding_at files.now document.now) }
+        (λ holding. holding_told holding ≡ holding_at files.now.present document.now) }
 {
     if document.folder {
         return Ok(Holding::Below {
@@ -126,7 +126,7 @@ fn contents_at(
     paths: &[HostPath],
 ) -> Result<List<PathContent>, WantOfMemory>
     ensures { IfOk result (λ contents. map path_told contents
-        ≡ map (content_of_path files.now) (once_each paths.now)) }
+        ≡ map (content_of_path files.now.present) (once_each paths.now)) }
 {
     let mut contents = List::new(alloc);
     for index in 0..paths.len() {
@@ -144,7 +144,7 @@ fn below_at(
     paths: &[HostPath],
 ) -> Result<List<PathBelow>, WantOfMemory>
     ensures { IfOk result (λ below. map below_told below
-        ≡ map (below_of_path files.now) (once_each paths.now)) }
+        ≡ map (below_of_path files.now.present) (once_each paths.now)) }
 {
     let mut below = List::new(alloc);
     for index in 0..paths.len() {
@@ -164,7 +164,7 @@ fn push_below(
     repeats: bool,
 ) -> Result<(), WantOfMemory>
     ensures { OnOk result (map below_told below.new ≡ map below_told below.old
-        ++ cond repeats [] (below_of_path files.now path.now ∷ [])) }
+        ++ cond repeats [] (below_of_path files.now.present path.now ∷ [])) }
 {
     if repeats {
         return Ok(());
@@ -174,7 +174,7 @@ fn push_below(
 
 /// A path, and the files at and below it.
 fn path_below(alloc: Global, files: &TreeFiles, path: &HostPath) -> Result<PathBelow, WantOfMemory>
-    ensures { IfOk result (λ below. below_told below ≡ below_of_path files.now path.now) }
+    ensures { IfOk result (λ below. below_told below ≡ below_of_path files.now.present path.now) }
 {
     Ok(PathBelow {
         files: files_below(alloc, files, path)?,
@@ -188,7 +188,7 @@ pub fn files_below(
     files: &TreeFiles,
     path: &HostPath,
 ) -> Result<List<File>, WantOfMemory>
-    ensures { IfOk result (λ found. found ≡ files_of_folder files.now path.now) }
+    ensures { IfOk result (λ found. found ≡ files_of_folder files.now.present path.now) }
 {
     let found = files.in_folder(alloc, path)?;
     Ok(files_by_bytes(found))
@@ -213,7 +213,7 @@ fn push_content(
     again: bool,
 ) -> Result<(), WantOfMemory>
     ensures { OnOk result (map path_told contents.new ≡ map path_told contents.old
-        ++ cond again [] (content_of_path files.now path.now ∷ [])) }
+        ++ cond again [] (content_of_path files.now.present path.now ∷ [])) }
 {
     if again {
         return Ok(());
@@ -246,7 +246,7 @@ fn path_content(
     path: &HostPath,
 ) -> Result<PathContent, WantOfMemory>
     ensures { IfOk result
-        (λ content. path_told content ≡ content_of_path files.now path.now) }
+        (λ content. path_told content ≡ content_of_path files.now.present path.now) }
 {
     Ok(PathContent {
         content: content_at(alloc, files, path)?,
@@ -261,7 +261,7 @@ pub fn content_at(
     path: &HostPath,
 ) -> Result<Content, WantOfMemory>
     ensures { IfOk result
-        (λ content. content_told content ≡ content_of_tree files.now path.now) }
+        (λ content. content_told content ≡ content_of_tree files.now.present path.now) }
 {
     match files.at(path) {
         Some(file) => file_content(alloc, file),
@@ -272,10 +272,11 @@ pub fn content_at(
 /// What a file is.
 pub fn file_content(alloc: Global, file: &KeptFile) -> Result<Content, WantOfMemory>
     ensures { IfOk result
-        (λ content. content_told content ≡ OfFile 0 file.now.bytes file.now.moment) }
+        (λ content. content_told content
+        ≡ OfFile file.now.generation file.now.bytes file.now.moment) }
 {
     Ok(Content::File {
-        generation: 0,
+        generation: file.generation,
         bytes: file.bytes.replica(alloc)?,
         moment: file.moment,
     })
@@ -288,8 +289,8 @@ fn content_without_file(
     path: &HostPath,
 ) -> Result<Content, WantOfMemory>
     ensures { IfOk result (λ content. content_told content
-        ≡ content_of None (is_folder_of_tree files.now path.now)
-        (is_folder_of_tree files.now (parent_of path.now))) }
+        ≡ content_of None (is_folder_of_tree files.now.present path.now)
+        (is_folder_of_tree files.now.present (parent_of path.now))) }
 {
     if files.is_folder(path) {
         return Ok(Content::Folder);

@@ -40,6 +40,7 @@ pub use files::files_of;
 pub use matching::{TraceMatch, same_trace};
 pub use trace::{Trace, TraceItem};
 pub use view::{
-    AppView, Content, HeldDocument, Holding, OwnConnection, OwnHandle, PathBelow, PathContent,
+    AppView, Content, HeldDocument, Holding, NamedFile, OwnConnection, OwnHandle, PathBelow,
+    PathContent,
 };
 pub use viewed::view_of;

@@ -5,7 +5,8 @@ ghost use Rattle.std.specs.Prelude.{◌≡◌, IsTrue, ◌↔◌};
 use crate::same::Same;
 use crate::trace::TraceItem;
 use crate::view::{
-    AppView, Content, HeldDocument, Holding, OwnConnection, OwnHandle, PathBelow, PathContent,
+    AppView, Content, HeldDocument, Holding, NamedFile, OwnConnection, OwnHandle, PathBelow,
+    PathContent,
 };
 use portal_base::files::{File, FileName};
 use portal_model::entry::Fault;
@@ -200,6 +201,14 @@ impl Same for PathBelow {
     }
 }
 
+impl Same for NamedFile {
+    fn is_same(&self, other: &NamedFile) -> bool {
+        self.name.is_same(&other.name)
+            && self.bytes.is_same(&other.bytes)
+            && self.moment == other.moment
+    }
+}
+
 impl Same for AppView {
     fn is_same(&self, other: &AppView) -> bool {
         self.handles == other.handles
@@ -209,6 +218,7 @@ impl Same for AppView {
             && self.connections.is_same(&other.connections)
             && self.contents.is_same(&other.contents)
             && self.below.is_same(&other.below)
+            && self.files.is_same(&other.files)
     }
 }
 
@@ -278,6 +288,18 @@ impl Same for TraceItem {
                 content,
             } => match other {
                 TraceItem::Bytes {
+                    path: p,
+                    generation: g,
+                    content: c,
+                } => path.is_same(p) && *generation == *g && content.is_same(c),
+                _ => false,
+            },
+            TraceItem::Turned {
+                path,
+                generation,
+                content,
+            } => match other {
+                TraceItem::Turned {
                     path: p,
                     generation: g,
                     content: c,

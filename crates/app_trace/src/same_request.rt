@@ -147,6 +147,26 @@ impl Same for NodeOp {
                 NodeOp::Access { mask: m } => *mask == *m,
                 _ => false,
             },
+            NodeOp::Rename {
+                new_parent,
+                flags,
+                old_name,
+                new_name,
+            } => match other {
+                NodeOp::Rename {
+                    new_parent: p,
+                    flags: f,
+                    old_name: o,
+                    new_name: n,
+                } => {
+                    *new_parent == *p && *flags == *f && old_name.is_same(o) && new_name.is_same(n)
+                }
+                _ => false,
+            },
+            NodeOp::Unlink { name } => match other {
+                NodeOp::Unlink { name: n } => name.is_same(n),
+                _ => false,
+            },
         }
     }
 }

@@ -67,6 +67,16 @@ pub enum TraceItem {
         /// What the file is now.
         content: Content,
     },
+    /// A file that was made to be renamed later stands at a path of which the
+    /// application's view tells, in place of the one that stood there.
+    Turned {
+        /// The path.
+        path: HostPath,
+        /// Which of the files that the path has had.
+        generation: u64,
+        /// What the file is.
+        content: Content,
+    },
 }
 
 /// What an application holds at first, and what then happens to it.

@@ -1,6 +1,6 @@
 //! What an application holds of a state of the portal.
 
-use portal_base::files::File;
+use portal_base::files::{File, FileName};
 use portal_base::list::{ByteList, List};
 use portal_base::names::app_id::AppId;
 use portal_base::names::host_path::HostPath;
@@ -95,6 +95,18 @@ pub struct PathBelow {
     pub files: List<File>,
 }
 
+/// A file that an open handle or a temporary names, be it the one that stands at its
+/// path or another.
+#[derive(Drop)]
+pub struct NamedFile {
+    /// Its name.
+    pub name: FileName,
+    /// Its bytes.
+    pub bytes: ByteList,
+    /// When it changed last, in seconds.
+    pub moment: u64,
+}
+
 /// What there is for a document.
 #[derive(Drop)]
 pub enum Holding {
@@ -130,4 +142,7 @@ pub struct AppView {
     /// And at and below that of each document which is a folder, in byte order of
     /// these.
     pub below: List<PathBelow>,
+    /// The files that are there of those that open handles and temporaries name, in
+    /// byte order of their paths and then by their generations.
+    pub files: List<NamedFile>,
 }

@@ -37,11 +37,12 @@ opened_with r room entries = Yields (record {
 })
 
 -- These are the entries with which a FUSE_OPENDIR of this node opens what is seen there, on any
--- connection that may open one more, where the look that it takes, if any, shows this.
+-- connection that may open one more and has no temporaries, where the look that it takes, if any,
+-- shows this.
 abbrev pub AreOpened : Option Sight → ℕ → Look → List DirName → Type 0
 AreOpened sight node look entries = (r : NodeRequest) (room : Room) → r.node ≡ node →
     room.full ≡ false →
-    behind_look look (open_dir r sight room) ≡ Answers (opened_with r room entries)
+    behind_look look (open_dir r sight room []) ≡ Answers (opened_with r room entries)
 
 -- ---- parts of it
 

@@ -29,12 +29,12 @@ const BY_APP: &[u8] = b"by-app";
 /// The entries of a folder that the caller sees, itself and its parent first,
 /// where a look at a document's path shows `look`; other folders need no look.
 ///
-/// A root has the documents that the view's subject sees, by identifier, and
-/// the host's own root the folder of all views behind them. That one has the
-/// views of all numbered applications, in byte order of their names. The folder
-/// of a document has the document's file where the tree has one. No document is
-/// looked at in which the subject has no right: n documents or applications take
-/// about n log m steps, of m that there are.
+/// A root has the documents that the view's subject sees, by identifier, and the host's
+/// own root the folder of all views behind them. That one has the views of all numbered
+/// applications, in byte order of their names. The folder of a document has the
+/// document's file where the tree has one; what a connection has made beside it isn't
+/// among these. No document is looked at in which the subject has no right: n documents
+/// or applications take about n log m steps, of m that there are.
 pub fn listing(
     alloc: Global,
     book: &ViewBook,
@@ -43,9 +43,9 @@ pub fn listing(
     look: Look,
 ) -> Result<List<DirName>, WantOfMemory>
     requires { (s : State) → Lends book.now s →
-        IsFolder (sight_of_place s who.now None place) }
+        IsFolder (sight_of_place s who.now None None place) }
     ensures { IfOk result (λ names. (s : State) → Lends book.now s →
-        AreOpened (sight_of_place s who.now None place) (node_of place) look names) }
+        AreOpened (sight_of_place s who.now None None place) (node_of place) look names) }
 {
     match place {
         Place::Root { view } => match subject_of(book, who, view) {
@@ -59,6 +59,7 @@ pub fn listing(
         },
         Place::File { .. } => unreachable!(),
         Place::Named { .. } => unreachable!(),
+        Place::Temporary { .. } => unreachable!(),
     }
 }
 

@@ -13,14 +13,14 @@
 //! |---|---|
 //! | `nodes` | [`place_of`] and [`node_of`]: numbers to places, and back |
 //! | `book` | [`ViewBook`]: the lists that all is answered from; [`Subject`]: whose rights count in a view |
-//! | `sight` | [`resolve`], [`seen_document`] and [`seen_naming`]: what a caller sees |
+//! | `sight` | [`resolve`], [`seen_document`], [`seen_naming`] and [`seen_temp`]: what a caller sees |
 //! | `rights_now` | [`reach_at`]: the rights by which handles of strict documents go |
 //! | `entries` | [`listing`] and [`listing_below`]: the entries of a folder |
 //! | `order` | what is listed, in its order |
 //!
 //! ```text
 //! let book = ViewBook { documents: &documents, grants: &grants, applications: &applications };
-//! let place = resolve(&book, &who, request.node, None)?;
+//! let place = resolve(&book, &who, request.node, None, None)?;
 //! let names = listing(alloc, &book, &who, place, look)?;
 //! ```
 //!
@@ -39,4 +39,6 @@ pub use book::{Subject, ViewBook, may_read, may_write, subject_of};
 pub use entries::{listing, listing_below};
 pub use nodes::{id_of, node_of, place_of};
 pub use rights_now::{Reach, reach_at};
-pub use sight::{SeenBelow, SeenDocument, is_folder, resolve, seen_document, seen_naming};
+pub use sight::{
+    SeenBelow, SeenDocument, SeenTemp, is_folder, resolve, seen_document, seen_naming, seen_temp,
+};

@@ -2,7 +2,7 @@
 //! they name.
 
 ghost use Rattle.std.specs.Prelude.{◌≡◌, ◌<◌, ◌^◌, IfSome, Some, true};
-ghost use Rattle.portal_model.specs.Place.{place_named, place_of_kind_0, place_from_one, node_of, node_number, root_node, by_app_node, folder_node, file_node, named_node, id_of_node, view_of_node};
+ghost use Rattle.portal_model.specs.Place.{place_named, place_of_kind_0, place_from_one, node_of, node_number, root_node, by_app_node, folder_node, file_node, named_node, temp_node, id_of_node, view_of_node};
 ghost use Rattle.portal_model.specs.declared.place.Place.TheVariants as Place;
 ghost use Rattle.app_view.specs.Places.{is_counted, view_in};
 
@@ -27,6 +27,8 @@ const DOCUMENT_FOLDER: u64 = 1;
 const DOCUMENT_FILE: u64 = 2;
 /// The kind of a name below a folder that is a document.
 const NAMED: u64 = 4;
+/// The kind of a temporary.
+const TEMPORARY: u64 = 5;
 
 /// The identifier of the root of a view.
 const ROOT: u32 = 1;
@@ -52,6 +54,7 @@ pub fn place_of(node: u64) -> Option<Place>
             id: DocId { number: id },
         }),
         NAMED => named_place(view, id),
+        TEMPORARY => temp_place(view, id),
         _ => None,
     }
 }
@@ -67,7 +70,19 @@ fn named_place(view: u32, k: u32) -> Option<Place>
     }
 }
 
-/// The identifier in a number: of a document, of a root, or of what was named.
+/// The place of a temporary, which count from 1.
+fn temp_place(view: u32, k: u32) -> Option<Place>
+    ensures { result ≡ place_from_one (Place.Temporary view) k }
+{
+    if k == 0 {
+        None
+    } else {
+        Some(Place::Temporary { view, k })
+    }
+}
+
+/// The identifier in a number: of a document, of a root, of what was named, or of a
+/// temporary.
 pub fn id_of(node: u64) -> u32
     ensures { result ≡ id_of_node node }
 {
@@ -93,7 +108,7 @@ fn top_place(view: u32, id: u32) -> Option<Place>
 }
 
 /// The number of a place, whose view is below 2^28. It names the place, where that is
-/// no naming of the number 0.
+/// no naming and no temporary of the number 0.
 pub fn node_of(place: Place) -> u64
     requires view { view_in place < 2 ^ 28 }
     ensures node { result ≡ node_of place }
@@ -105,6 +120,7 @@ pub fn node_of(place: Place) -> u64
         Place::Folder { view, id } => folder_node(view, id),
         Place::File { view, id } => file_node(view, id),
         Place::Named { view, k } => named_node(view, k),
+        Place::Temporary { view, k } => temp_node(view, k),
     }
 }
 
@@ -145,6 +161,14 @@ pub(crate) fn named_node(view: u32, k: u32) -> u64
     ensures { result ≡ named_node view k }
 {
     number(view, NAMED, k)
+}
+
+/// The number of a temporary.
+pub(crate) fn temp_node(view: u32, k: u32) -> u64
+    requires { view < 2 ^ 28 }
+    ensures { result ≡ temp_node view k }
+{
+    number(view, TEMPORARY, k)
 }
 
 /// The number of a node.

@@ -4,7 +4,7 @@ use Rattle.std.proofs.Common.{◌≡◌, ℕ, ◌+◌, ◌-◌, ◌≤◌, lengt
 use Rattle.std.specs.List.{list_all, list_any}
 use Rattle.std.specs.Option.{option_map}
 use Rattle.portal_base.specs.Names.{doc_text, is_same, root}
-use Rattle.portal_base.specs.declared.files.File.{File}
+use Rattle.file_generations.specs.Generations.{Held}
 use Rattle.portal_base.specs.declared.files.Look.{Look}
 use Rattle.portal_base.specs.declared.names.doc_id.DocId.{DocId}
 use Rattle.portal_base.specs.declared.who.Who.{Who}
@@ -21,7 +21,7 @@ use Rattle.portal_model.specs.Content.{content_at}
 use Rattle.portal_model.specs.Grant.{exceeds_limits, given_rights}
 use Rattle.portal_model.specs.Outside.{AreDrawn, LawfulBus, meets_limit, words_drawn}
 use Rattle.portal_model.specs.Present.{with_queue}
-use Rattle.portal_model.specs.State.{State, is_app}
+use Rattle.portal_model.specs.State.{State, held_in, is_app}
 use Rattle.portal_model.specs.Step.{all_told}
 use Rattle.portal_model.specs.Valid.{Valid}
 use Rattle.portal_model.specs.Verdict.{Verdict, unless, walk_unless}
@@ -68,12 +68,12 @@ module _ (s : State) (c : Connection) (a : AddRequest) (given : Given) (v : Vali
 
 -- ---- looks
 
-module _ (files : List File) (exported : Bool) (paths : List (List ℕ)) (n : ℕ) (looks : List Look) (failed : Bool) where
+module _ (tree : Held) (exported : Bool) (paths : List (List ℕ)) (n : ℕ) (looks : List Look) (failed : Bool) where
   abbrev AreTold : Type 0
-  AreTold = map look_of_holding (take (length looks) (map (shown_at_path files exported) (take n paths))) ≡ looks
+  AreTold = map look_of_holding (take (length looks) (map (shown_at_path tree.present exported) (take n paths))) ≡ looks
 
-  told-check : (wrong : Bool) (code : Code) (w : Walk Verdict) → (Gives (Some files) w looks failed → AreTold) → Gives (Some files) (walk_unless wrong code w) looks failed → AreTold
-  told-check true code w h g = none-given looks (map (shown_at_path files exported) (take n paths)) g.0
+  told-check : (wrong : Bool) (code : Code) (w : Walk Verdict) → (Gives (Some tree) w looks failed → AreTold) → Gives (Some tree) (walk_unless wrong code w) looks failed → AreTold
+  told-check true code w h g = none-given looks (map (shown_at_path tree.present exported) (take n paths)) g.0
   told-check false code w h g = h g
 
 -- over a tree that tells
@@ -81,11 +81,11 @@ pub add-looks : (s : State) (c : Connection) (a : AddRequest) (given : Given) �
 add-looks s c a given t l =
     let failed : Bool = is_tree given.fault in
     let paths : List (List ℕ) = paths_shown c.queue a in
-    let g : Gives (Some s.files) (add s c a given.numbers) given.looks failed = subst (λ (b : Bool). Gives (cond b (Some s.files) None) (add s c a given.numbers) given.looks failed) t l.looks in
-    told-check s.files (exports a) paths (asked given) given.looks failed (not (are_presented c.queue a)) Code.InvalidArgs (add_presented s c a given.numbers)
-    (told-check s.files (exports a) paths (asked given) given.looks failed (not (are_add_arguments c.queue a)) Code.InvalidArgument (add_allowed s c a given.numbers)
-    (told-check s.files (exports a) paths (asked given) given.looks failed (not (may_list_all s c.who a (document_paths c.queue a))) Code.NotAllowed (add_looking s c a given.numbers)
-    (looks-told s.files (exports a) paths (λ all. unless (not (are_of_kind a paths all)) Code.InvalidArgument (added s (added_files s c a given.numbers))) given.looks failed (asked given) (omega arith)))) g
+    let g : Gives (Some (held_in s)) (add s c a given.numbers) given.looks failed = subst (λ (b : Bool). Gives (cond b (Some (held_in s)) None) (add s c a given.numbers) given.looks failed) t l.looks in
+    told-check (held_in s) (exports a) paths (asked given) given.looks failed (not (are_presented c.queue a)) Code.InvalidArgs (add_presented s c a given.numbers)
+    (told-check (held_in s) (exports a) paths (asked given) given.looks failed (not (are_add_arguments c.queue a)) Code.InvalidArgument (add_allowed s c a given.numbers)
+    (told-check (held_in s) (exports a) paths (asked given) given.looks failed (not (may_list_all s c.who a (document_paths c.queue a))) Code.NotAllowed (add_looking s c a given.numbers)
+    (looks-told (held_in s) (exports a) paths (λ all. unless (not (are_of_kind a paths all)) Code.InvalidArgument (added s (added_files s c a given.numbers))) given.looks failed (asked given) (omega arith)))) g
 
 -- ---- the application's own
 

@@ -19,7 +19,7 @@ use Rattle.portal_model.specs.Add.{Added, add_file, adding_rights, caller_rights
 use Rattle.portal_model.specs.AddArguments.{exports, is_left_out, makes_strict, names_nobody, persists, reuses}
 use Rattle.portal_model.specs.Documents.{id_of_document, same_flag, serves}
 use Rattle.portal_model.specs.Grant.{given_rights}
-use Rattle.portal_model.specs.State.{State, app_has, document_of, gives, held_of, is_app}
+use Rattle.portal_model.specs.State.{State, app_has, document_of, gives, held_in, held_of, is_app}
 use Rattle.portal_model.specs.Valid.{Valid, is_placed}
 use Rattle.portal_model.proofs.ListLookups.{found_passes, is_same-eq, nat_is}
 use Rattle.app_world.specs.Add.{document_used, file_touch, files_touch, names_app}
@@ -150,7 +150,7 @@ module _ (app : List ℕ) (who : Who) (a : AddRequest) (s base : State) (id : Do
   -- base is the state with the document, whose rights are not given yet
   pub record IsBase : Type 0 where
     pub limits : base.limits ≡ s.limits
-    pub files : base.files ≡ s.files
+    pub tree : held_in base ≡ held_in s
     pub connections : base.connections ≡ s.connections
     pub handles : base.handles ≡ s.handles
     pub rights : base.rights ≡ s.rights
@@ -161,8 +161,8 @@ module _ (app : List ℕ) (who : Who) (a : AddRequest) (s base : State) (id : Do
     t-limits : t.limits ≡ s.limits
     t-limits = rights-keep (λ (x : State). x.limits) (λ x r p. refl) who a id base ∙ b.limits
 
-    pub t-files : t.files ≡ s.files
-    t-files = rights-keep (λ (x : State). x.files) (λ x r p. refl) who a id base ∙ b.files
+    pub t-tree : held_in t ≡ held_in s
+    t-tree = rights-keep held_in (λ x r p. refl) who a id base ∙ b.tree
 
     t-connections : t.connections ≡ s.connections
     t-connections = rights-keep (λ (x : State). x.connections) (λ x r p. refl) who a id base ∙ b.connections
@@ -204,9 +204,9 @@ module _ (app : List ℕ) (who : Who) (a : AddRequest) (s base : State) (id : Do
       both-same false k = refl
 
       touched-by : (c : Bool) → names_app app a ≡ c → apply_all (view s app) (cond c (gained_in app s (rights_named a.names) d) []) ≡ view t app
-      touched-by true e = joined-touched app s t d t-limits t-files t-connections t-handles j (rights_named a.names) (λ n.
+      touched-by true e = joined-touched app s t d t-limits t-tree t-connections t-handles j (rights_named a.names) (λ n.
           now-other n ∙ ap (λ (c : Bool). cond (id.number == n) (cond c (union (held_of s.rights app n) (rights_named a.names)) (held_of s.rights app n)) (held_of s.rights app n)) e)
-      touched-by false e = joined-same app s t d t-limits t-files t-connections t-handles j (λ n.
+      touched-by false e = joined-same app s t d t-limits t-tree t-connections t-handles j (λ n.
           now-other n ∙ (ap (λ (c : Bool). cond (id.number == n) (cond c (union (held_of s.rights app n) (rights_named a.names)) (held_of s.rights app n)) (held_of s.rights app n)) e ∙ both-same (id.number == n) (held_of s.rights app n)))
 
       pub used-other : apply_all (view s app) (cond (names_app app a) (gained_in app s (rights_named a.names) d) []) ≡ view t app
@@ -229,7 +229,7 @@ module _ (app : List ℕ) (a : AddRequest) (s base : State) (id : DocId) (path :
 
   pub used-own : apply (view s app) (Gained (new_document a id path) (adding_rights a) (holding_at s.files (new_document a id path))) ≡ view own_t app
   used-own =
-      joined-gained app s own_t (new_document a id path) (t-limits app (Who.App app) a s base id path b) (t-files app (Who.App app) a s base id path b) (t-connections app (Who.App app) a s base id path b) (t-handles app (Who.App app) a s base id path b)
+      joined-gained app s own_t (new_document a id path) (t-limits app (Who.App app) a s base id path b) (t-tree app (Who.App app) a s base id path b) (t-connections app (Who.App app) a s base id path b) (t-handles app (Who.App app) a s base id path b)
       (j app (Who.App app) a s base id path b) (adding_rights a) now-own
 
   elsewhere-own : (n : ℕ) → (id.number == n) ≡ false → held_of own_t.rights app n ≡ held_of s.rights app n
@@ -254,7 +254,7 @@ base-again app who a s id path f e =
     let same : new_document a id path ≡ g.document = ap (λ (i : DocId). new_document a i path) (sym g.id_is) ∙ serves-new a path g.document (found_passes (serves path (persists a) (makes_strict a) (exports a)) s.documents g.document g.is_first) g.reuse in
     record {
       limits = refl;
-      files = refl;
+      tree = refl;
       connections = refl;
       handles = refl;
       rights = refl;
@@ -265,7 +265,7 @@ base-again app who a s id path f e =
 pub base-new : (app : List ℕ) (who : Who) (a : AddRequest) (s : State) (id : DocId) (path : List ℕ) → Facts app s → document_of s.documents id.number ≡ None → IsBase app who a s (with_new_document (new_document a id path) s) id path
 base-new app who a s id path f e = record {
   limits = refl;
-  files = refl;
+  tree = refl;
   connections = refl;
   handles = refl;
   rights = refl;

@@ -16,7 +16,7 @@ use Rattle.portal_model.specs.declared.state.Connection.{Connection}
 use Rattle.portal_model.specs.Add.{add, add_allowed, add_looking, add_presented, add_shown, added, added_files, are_of_kind, may_list, may_list_all, rights_then, used_again}
 use Rattle.portal_model.specs.AddArguments.{are_add_arguments, are_presented, document_path, document_paths, is_left_out, names_nobody, paths_looked_at, paths_presented, paths_shown}
 use Rattle.portal_model.specs.Arguments.{ahead_of_end}
-use Rattle.portal_model.specs.State.{State, held_of}
+use Rattle.portal_model.specs.State.{State, held_in, held_of}
 use Rattle.portal_model.specs.Verdict.{Verdict, unless, walk_unless}
 use Rattle.portal_model.specs.Walk.{Walk, looks_at_all, walked}
 use Rattle.portal_model.proofs.ListLookups.{is_same-refl}
@@ -105,7 +105,7 @@ module _ (app : List ℕ) (s : State) (a : AddRequest) (content : List ℕ → H
 
   pub read-all : (ps : List (List ℕ)) → (names_app app a ≡ true → list_all (may_list s (Who.App app) a) (map (document_path a) ps) ≡ true) →
       ((path : List ℕ) → is_among (flat_map (paths_looked_at a) ps) path ≡ true → content path ≡ holds_for a s.files path) →
-      AreRead app a s.documents (held_of s.rights app) s.files content (map (document_path a) ps)
+      AreRead app a s.documents (held_of s.rights app) (held_in s) content (map (document_path a) ps)
   read-all [] l r = tt
   read-all (p ∷ ps) l r = (
     (
@@ -147,13 +147,13 @@ module _ (app : List ℕ) (s : State) (c0 : Connection) (a : AddRequest) (own : 
   abbrev made : OwnAdded
   made = record { view = own_taken_from_queue o a (view s app); numbers = own.numbers; ids = []; made = [] }
 
-  same-begun : Same app a s.documents (held_of s.rights app) s.files content (begun s c a own.numbers) made
+  same-begun : Same app a s.documents (held_of s.rights app) (held_in s) content (begun s c a own.numbers) made
   same-begun = record {
     seen = taken-own app c a s;
     numbers = refl;
     ids = refl;
     documents = taken-keeps (λ t. t.documents) c a s refl ∙ sym (append-nil s.documents);
-    files = taken-keeps (λ t. t.files) c a s refl;
+    tree_is = taken-keeps held_in c a s refl;
     grows = λ n. ap (λ k. contains k (held_of s.rights app n)) (taken-keeps (λ t. held_of t.rights app n) c a s refl) ∙ contains-itself (held_of s.rights app n);
     facts = taken-facts app c a s f;
   }
@@ -162,9 +162,9 @@ module _ (app : List ℕ) (s : State) (c0 : Connection) (a : AddRequest) (own : 
       may_list_all s (Who.App app) a (document_paths c.queue a) ≡ true → length (paths_shown c.queue a) ≤ length looks → are_of_kind a (paths_shown c.queue a) (take (length (paths_shown c.queue a)) looks) ≡ true →
       own_added (own_added_files (view s app) o a own) ≡ seen_verdict app (added s (added_files s c a own.numbers))
   added-same looks t n p g l e k =
-      let r : AreRead app a s.documents (held_of s.rights app) s.files content (document_paths c.queue a) =
+      let r : AreRead app a s.documents (held_of s.rights app) (held_in s) content (document_paths c.queue a) =
       read-all app s a content (paths_presented c.queue a) (all-listed app s a content (document_paths c.queue a) l) (t.contents e g k) in
-      let m = files-own app a s.documents (held_of s.rights app) s.files content (document_paths c.queue a) (begun s c a own.numbers) made same-begun n r in
+      let m = files-own app a s.documents (held_of s.rights app) (held_in s) content (document_paths c.queue a) (begun s c a own.numbers) made same-begun n r in
       ap (λ fs. own_added (fold (own_add_file a content) made fs)) (t.files p g) ∙ (λ i. OwnDoes (m.seen i) (Answer.Ids (m.ids i)))
 
   -- it is done: all checks pass

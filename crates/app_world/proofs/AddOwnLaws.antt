@@ -3,6 +3,7 @@ use Rattle.std.proofs.Common.{◌≡◌, ℕ, List, [], ◌∷◌, ◌++◌, dro
 use Rattle.std.specs.List.{find}
 use Rattle.std.specs.Option.{option_map}
 use Rattle.std.proofs.lemmas.List.{append_assoc}
+use Rattle.file_generations.specs.Generations.{Held}
 use Rattle.portal_base.specs.Names.{doc_text}
 use Rattle.portal_base.specs.declared.files.File.{File}
 use Rattle.portal_base.specs.declared.names.doc_id.DocId.{DocId}
@@ -14,11 +15,11 @@ use Rattle.portal_model.specs.Add.{Added, add_file, adding_rights, first_number,
 use Rattle.portal_model.specs.AddArguments.{exports, is_left_out, makes_strict, persists, reuses}
 use Rattle.portal_model.specs.Content.{content_at}
 use Rattle.portal_model.specs.Documents.{id_of_document, serves}
-use Rattle.portal_model.specs.State.{State, document_of, held_of}
+use Rattle.portal_model.specs.State.{State, document_of, held_in, held_of}
 use Rattle.app_world.specs.Add.{OwnAdded, OwnFile, first_reused, id_or, names_app, own_add_file, own_again, own_files, own_use_document, reused_of}
 use Rattle.app_world.specs.Effect.{Gained, apply}
 use Rattle.app_world.specs.View.{Alone, Below, Holding, files_below, view}
-use Rattle.app_world.proofs.AddLaws.{Facts, Free, IsBase, base-again, base-new, facts-own, grows-own, t-documents, t-files, used-own}
+use Rattle.app_world.proofs.AddLaws.{Facts, Free, IsBase, base-again, base-new, facts-own, grows-own, t-documents, t-tree, used-own}
 
 -- ---- a document that was there before the call, or that the call made
 
@@ -87,30 +88,30 @@ still-covers a held now (Some id) made fresh listed g e = contains-more (held id
 abbrev pub holds_for : AddRequest → List File → List ℕ → Holding
 holds_for a files path = cond (exports a) (Below (files_below files path)) (Alone (content_at files path))
 
-module _ (app : List ℕ) (a : AddRequest) (before : List Document) (held : ℕ → RightSet) (tree : List File) (content : List ℕ → Holding) where
+module _ (app : List ℕ) (a : AddRequest) (before : List Document) (held : ℕ → RightSet) (tree : Held) (content : List ℕ → Holding) where
   pub record Same (done : Added) (mine : OwnAdded) : Type 0 where
     pub seen : mine.view ≡ view done.state app
     pub numbers : mine.numbers ≡ done.numbers
     pub ids : mine.ids ≡ done.ids
     pub documents : done.state.documents ≡ before ++ mine.made
-    pub files : done.state.files ≡ tree
+    pub tree_is : held_in done.state ≡ tree
     pub grows : (n : ℕ) → contains (held_of done.state.rights app n) (held n) ≡ true
     pub facts : Facts app done.state
 
   -- one file, used again or new
   use-same : (done : Added) (mine : OwnAdded) (path : List ℕ) (again : Option DocId) → Same done mine → used_again done.state.documents a path ≡ again →
-      (again ≡ None → document_of done.state.documents (first_number done.numbers).number ≡ None) → content path ≡ holds_for a tree path →
+      (again ≡ None → document_of done.state.documents (first_number done.numbers).number ≡ None) → content path ≡ holds_for a tree.present path →
       (names_app app a ≡ true → contains (union (held_of done.state.rights app (id_or again (first_number done.numbers)).number) (adding_rights a)) (rights_named a.names) ≡ true) →
       Same (use_document (Who.App app) a path done again) (own_use_document a content path mine again)
   use-same done mine path (Some id) s e n c h =
       let b : IsBase app (Who.App app) a done.state done.state id path = base-again app (Who.App app) a done.state id path s.facts e in
-      let shown : content path ≡ holds_for a done.state.files path = c ∙ ap (λ fs. holds_for a fs path) (sym s.files) in
+      let shown : content path ≡ holds_for a done.state.files path = c ∙ ap (λ (h : Held). holds_for a h.present path) (sym s.tree_is) in
       record {
         seen = (λ i. apply (s.seen i) (Gained (new_document a id path) (adding_rights a) (shown i))) ∙ used-own app a done.state done.state id path b h;
         numbers = s.numbers;
         ids = ap (λ xs. xs ++ doc_text id.number ∷ []) s.ids;
         documents = t-documents app (Who.App app) a done.state done.state id path b ∙ s.documents;
-        files = t-files app (Who.App app) a done.state done.state id path b ∙ s.files;
+        tree_is = t-tree app (Who.App app) a done.state done.state id path b ∙ s.tree_is;
         grows = λ m. grows-own app a done.state done.state id path b h m (held m) (s.grows m);
         facts = facts-own app a done.state done.state id path b h s.facts;
       }
@@ -118,7 +119,7 @@ module _ (app : List ℕ) (a : AddRequest) (before : List Document) (held : ℕ 
       let id : DocId = first_number done.numbers in
       let base : State = with_new_document (new_document a id path) done.state in
       let b : IsBase app (Who.App app) a done.state base id path = base-new app (Who.App app) a done.state id path s.facts (n refl) in
-      let shown : content path ≡ holds_for a done.state.files path = c ∙ ap (λ fs. holds_for a fs path) (sym s.files) in
+      let shown : content path ≡ holds_for a done.state.files path = c ∙ ap (λ (h : Held). holds_for a h.present path) (sym s.tree_is) in
       let same : new_document a id path ≡ new_document a (first_number mine.numbers) path = ap (λ ns. new_document a (first_number ns) path) (sym s.numbers) in
       record {
         seen = (λ i. apply (s.seen i) (Gained (new_document a (first_number (s.numbers i)) path) (adding_rights a) (shown i))) ∙ used-own app a done.state base id path b h;
@@ -127,21 +128,21 @@ module _ (app : List ℕ) (a : AddRequest) (before : List Document) (held : ℕ 
         documents =
             t-documents app (Who.App app) a done.state base id path b
             ∙ ((λ i. s.documents i ++ same i ∷ []) ∙ append_assoc before mine.made (new_document a (first_number mine.numbers) path ∷ []));
-        files = t-files app (Who.App app) a done.state base id path b ∙ s.files;
+        tree_is = t-tree app (Who.App app) a done.state base id path b ∙ s.tree_is;
         grows = λ m. grows-own app a done.state base id path b h m (held m) (s.grows m);
         facts = facts-own app a done.state base id path b h s.facts;
       }
 
   -- of each file that isn't left out: what is listed is held, and its content is shown
   abbrev pub IsRead : List ℕ → Type 0
-  IsRead path = (is_left_out a path ≡ false → names_app app a ≡ true → contains (then_held held a (used_again before a path)) (rights_named a.names) ≡ true) × (content path ≡ holds_for a tree path)
+  IsRead path = (is_left_out a path ≡ false → names_app app a ≡ true → contains (then_held held a (used_again before a path)) (rights_named a.names) ≡ true) × (content path ≡ holds_for a tree.present path)
 
   abbrev pub AreRead : List (List ℕ) → Type 0
   AreRead [] = Unit {0}
   AreRead (path ∷ paths) = IsRead path × AreRead paths
 
   file-same : (done : Added) (mine : OwnAdded) (path : List ℕ) (first : Option DocId) → Same done mine → first ≡ used_again before a path →
-      (used_again done.state.documents a path ≡ None → document_of done.state.documents (first_number done.numbers).number ≡ None) → content path ≡ holds_for a tree path →
+      (used_again done.state.documents a path ≡ None → document_of done.state.documents (first_number done.numbers).number ≡ None) → content path ≡ holds_for a tree.present path →
       (names_app app a ≡ true → contains (then_held held a (used_again before a path)) (rights_named a.names) ≡ true) →
       Same (use_document (Who.App app) a path done (used_again done.state.documents a path)) (own_use_document a content path mine (own_again first (used_again mine.made a path)))
   file-same done mine path first s e n c h =
@@ -159,7 +160,7 @@ module _ (app : List ℕ) (a : AddRequest) (before : List Document) (held : ℕ 
     numbers = s.numbers;
     ids = ap (λ xs. xs ++ [] ∷ []) s.ids;
     documents = s.documents;
-    files = s.files;
+    tree_is = s.tree_is;
     grows = s.grows;
     facts = s.facts;
   }

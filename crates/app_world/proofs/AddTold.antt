@@ -4,6 +4,7 @@ use Rattle.std.proofs.Common.{◌≡◌, ℕ, ◌≤◌, length, List, [], ◌�
 use Rattle.std.specs.List.{list_all}
 use Rattle.std.proofs.lemmas.List.{length-map}
 use Rattle.portal_base.specs.Names.{is_same}
+use Rattle.file_generations.specs.Generations.{Held}
 use Rattle.portal_base.specs.declared.files.File.{File}
 use Rattle.portal_base.specs.declared.files.Look.{Look}
 use Rattle.portal_model.specs.declared.request.AddRequest.{AddRequest}
@@ -104,13 +105,13 @@ shown-look files path false OfFolder = refl
 shown-look files path exported (NotThere room) = refl
 
 -- a tree that tells gives looks at what is at the paths, and those that succeeded are told by what is shown
-pub looks-told : (files : List File) (exported : Bool) (paths : List (List ℕ)) (verdicts : List Look → Verdict) (looks : List Look) (failed : Bool) (n : ℕ) → length looks ≤ n →
-    Gives (Some files) (looks_at_all paths (λ all. Answers (verdicts all))) looks failed → map look_of_holding (take (length looks) (map (shown_at_path files exported) (take n paths))) ≡ looks
-looks-told files exported [] verdicts looks failed n e g = none-given looks (map (shown_at_path files exported) (take n [])) g.0
-looks-told files exported (path ∷ paths) verdicts [] failed n e g = ap (map look_of_holding) (take-none (map (shown_at_path files exported) (take n (path ∷ paths))))
-looks-told files exported (path ∷ paths) verdicts (look ∷ looks) failed zero e g = absurd (omega arith)
-looks-told files exported (path ∷ paths) verdicts (look ∷ looks) failed (suc n) e g =
-    λ i. (shown-look files path exported (content_at files path) ∙ sym g.0) i ∷ looks-told files exported paths (λ more. verdicts (look ∷ more)) looks failed n (omega arith) g.1 i
+pub looks-told : (tree : Held) (exported : Bool) (paths : List (List ℕ)) (verdicts : List Look → Verdict) (looks : List Look) (failed : Bool) (n : ℕ) → length looks ≤ n →
+    Gives (Some tree) (looks_at_all paths (λ all. Answers (verdicts all))) looks failed → map look_of_holding (take (length looks) (map (shown_at_path tree.present exported) (take n paths))) ≡ looks
+looks-told tree exported [] verdicts looks failed n e g = none-given looks (map (shown_at_path tree.present exported) (take n [])) g.0
+looks-told tree exported (path ∷ paths) verdicts [] failed n e g = ap (map look_of_holding) (take-none (map (shown_at_path tree.present exported) (take n (path ∷ paths))))
+looks-told tree exported (path ∷ paths) verdicts (look ∷ looks) failed zero e g = absurd (omega arith)
+looks-told tree exported (path ∷ paths) verdicts (look ∷ looks) failed (suc n) e g =
+    λ i. (shown-look tree.present path exported (content_at tree.present path) ∙ sym g.0) i ∷ looks-told tree exported paths (λ more. verdicts (look ∷ more)) looks failed n (omega arith) g.1 i
 
 -- where all looks succeeded, they are those of what is shown
 pub looks-whole : (at : List ℕ → Holding) (paths : List (List ℕ)) (looks : List Look) (n : ℕ) → length looks ≤ n → length paths ≤ length looks → map look_of_holding (take (length looks) (map at (take n paths))) ≡ looks →

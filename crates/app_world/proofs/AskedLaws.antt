@@ -1,5 +1,6 @@
 -- A request on the connection that asks it: what it is to the application that asks, and to another.
-use Rattle.std.proofs.Common.{◌≡◌, ◌==◌, ℕ, List, [], Bool, true, false, cond, Option, Some, None, refl, sym, ap, ◌∙◌, length}
+use Rattle.std.proofs.Common.{◌≡◌, ◌==◌, ℕ, List, [], Bool, true, false, cond, Option, Some, None, refl, sym, ap, subst, ◌∙◌, length}
+use Rattle.file_generations.specs.Generations.{all_held}
 use Rattle.portal_base.specs.declared.who.Who.{Who}
 use Rattle.portal_model.specs.declared.entry.Given.{Given}
 use Rattle.portal_model.specs.declared.reply.Answer.{Answer}
@@ -16,11 +17,11 @@ use Rattle.portal_model.specs.Info.{info}
 use Rattle.portal_model.specs.Lawful.{LawfulOnBus, LawfulOnNode}
 use Rattle.portal_model.specs.ListDocuments.{list_documents}
 use Rattle.portal_model.specs.LookupDocument.{lookup_document}
-use Rattle.portal_model.specs.Node.{bytes_named, node_answer, node_given, walk_on_node}
+use Rattle.portal_model.specs.Node.{node_answer, node_given, walk_on_node}
 use Rattle.portal_model.specs.NodeVerdict.{NodeVerdict, Errs, Yields}
 use Rattle.portal_model.specs.Present.{present}
 use Rattle.portal_model.specs.Revoke.{revoke}
-use Rattle.portal_model.specs.State.{State, connection_of, is_app}
+use Rattle.portal_model.specs.State.{State, connection_of, held_in, is_app}
 use Rattle.portal_model.specs.Step.{is_mount, bus_of, bus_step, mount_of, all_told, with_signals, node_step}
 use Rattle.portal_model.specs.StoreRequest.{store_request}
 use Rattle.portal_model.specs.Valid.{Valid}
@@ -32,7 +33,7 @@ use Rattle.app_world.specs.DeleteDocument.{delete_touch, own_delete_document}
 use Rattle.app_world.specs.Effect.{Effect, apply_all}
 use Rattle.app_world.specs.Grant.{grant_touch, own_grant}
 use Rattle.app_world.specs.Laws.{asks}
-use Rattle.app_world.specs.Node.{bytes_effects, node_touch, own_node_answer, verdict_touch}
+use Rattle.app_world.specs.Node.{content_named, file_effects, node_touch, own_node_answer, verdict_touch}
 use Rattle.app_world.specs.Own.{Own}
 use Rattle.app_world.specs.OwnVerdict.{OwnVerdict, OwnRefuses}
 use Rattle.app_world.specs.Present.{own_present}
@@ -44,7 +45,7 @@ use Rattle.app_world.proofs.AddGiven.{add_answer-other, add_answer-own, told_of_
 use Rattle.app_world.proofs.BusLaws.{seen_answer, settled-other, settled-own}
 use Rattle.app_world.proofs.DeleteDocumentLaws.{delete-other, delete-own}
 use Rattle.app_world.proofs.GrantLaws.{grant-other, grant-own}
-use Rattle.app_world.proofs.NodeLaws.{node-other, node-own}
+use Rattle.app_world.proofs.NodeLaws.{TempsTold, node-other, node-own}
 use Rattle.app_world.proofs.NamesHostPaths.{folders-there, no-roots, none-empty}
 use Rattle.app_world.proofs.PresentLaws.{own-other, present-other, present-own}
 use Rattle.app_world.proofs.ReachedLaws.{IsTouched, seen_verdict}
@@ -52,6 +53,7 @@ use Rattle.app_world.proofs.ReadingLaws.{info-other, list-other, lookup-other}
 use Rattle.app_world.proofs.RevokeLaws.{revoke-other, revoke-own}
 use Rattle.app_world.proofs.StoreLaws.{store-other}
 use Rattle.app_world.proofs.ViewLaws.{is_app-named, own-some, own_told, own_unsent, view-told}
+use Rattle.app_world.proofs.ViewedNames.{all-free, firsts-told, temps-told, tree-sound}
 
 -- a step, as the view sees it
 abbrev pub seen_step : {X : Type 0} → List ℕ → State × X → AppView × X
@@ -63,6 +65,10 @@ module _ (app : List ℕ) (s : State) (seat : ℕ) (r : NodeRequest) (given : Gi
   abbrev own : Own
   own = own_of s (asks seat (Request.Node r) given)
 
+  -- the temporaries of the connection, which stand there where others were told
+  temps-here : (c : Connection) → connection_of s.connections seat ≡ Some c → TempsTold (view (all_told c.seat s) app) c.temps
+  temps-here c e = subst (λ (x : AppView). TempsTold x c.temps) (sym (view-told app s c.seat)) (temps-told app s v seat c e)
+
   node_mount_own : (c : Connection) (m : Bool) → connection_of s.connections seat ≡ Some c → is_app app c.who ≡ true → s.told ≡ true → LawfulOnNode s r given (cond m (Some c) None) →
       own_node_step (view s app) r own (cond m (Some (own_connection app s.handles c)) None) ≡ seen_step app (node_step s r given (cond m (Some c) None))
   node_mount_own c false e h told l = refl
@@ -73,7 +79,8 @@ module _ (app : List ℕ) (s : State) (seat : ℕ) (r : NodeRequest) (given : Gi
       ap (λ (cs : List OwnConnection). found_connection cs c.seat) (own_told app s.handles c.seat s.connections) ∙ own-some app s.handles c.seat s.connections c (ap (connection_of s.connections) same ∙ e) h in
       ap (λ (x : AppView). with_signals [] (own_node_answer x (own_connection app t.handles c) r own)) (sym (view-told app s c.seat))
       ∙ (ap (λ (done : AppView × Answer). with_signals [] done)
-      (node-own app t c r (is_app-named app c.who h) _ (told-sight s seat c e v r.node) v.files_differ v.files_apart (none-empty app t (all_told-Valid s c.seat v)) (folders-there app t (all_told-Valid s c.seat v) told) (no-roots app t (all_told-Valid s c.seat v)) found given own refl refl refl told l)
+      (node-own app t c r (is_app-named app c.who h) _ (told-sight s seat c e v) (tree-sound app t (all_told-Valid s c.seat v)) (none-empty app t (all_told-Valid s c.seat v)) (folders-there app t (all_told-Valid s c.seat v) told) (no-roots app t (all_told-Valid s c.seat v))
+      (all-free app t (all_told-Valid s c.seat v) told) (firsts-told app t (all_told-Valid s c.seat v)) (temps-here c e) found given own refl refl refl refl told l)
       ∙ (λ i. seen_step app (with_signals (sym (own_unsent app s seat c v e h) i) (node_answer t c r given))))
 
   pub node_own : (o : Option Connection) → connection_of s.connections seat ≡ o → made_by app o (Request.Node r) ≡ true → s.told ≡ true → LawfulOnNode s r given (mount_of o) →
@@ -86,7 +93,7 @@ module _ (app : List ℕ) (s : State) (seat : ℕ) (r : NodeRequest) (given : Gi
   touch-told : (n : ℕ) (o : Option NodeVerdict) → verdict_touch app s o ≡ verdict_touch app (all_told n s) o
   touch-told n None = refl
   touch-told n (Some (Errs errno)) = refl
-  touch-told n (Some (Yields d)) = ap (λ (x : AppView). cond s.told (bytes_effects x (bytes_named s.files) d.file) []) (sym (view-told app s n))
+  touch-told n (Some (Yields d)) = ap (λ (x : AppView). cond s.told (file_effects x (content_named (all_held (held_in s))) d.file) []) (sym (view-told app s n))
 
   node_mount_other : (c : Connection) (m : Bool) → connection_of s.connections seat ≡ Some c → found_connection (own_connections app s.handles s.connections) c.seat ≡ None → LawfulOnNode s r given (cond m (Some c) None) →
       apply_all (view s app) (cond (is_done (node_step s r given (cond m (Some c) None)).1.answer) (node_touch app s r given (cond m (Some c) None)) []) ≡ view (node_step s r given (cond m (Some c) None)).0 app
@@ -95,7 +102,8 @@ module _ (app : List ℕ) (s : State) (seat : ℕ) (r : NodeRequest) (given : Gi
       let t : State = all_told c.seat s in
       let there : found_connection (own_connections app t.handles t.connections) c.seat ≡ None = ap (λ (cs : List OwnConnection). found_connection cs c.seat) (own_told app s.handles c.seat s.connections) ∙ e in
       (λ i. apply_all (sym (view-told app s c.seat) i) (cond (is_done (node_answer t c r given).1) (touch-told c.seat (node_given (walk_on_node t c r) given) i) []))
-      ∙ node-other app t c r v.files_differ (none-empty app t (all_told-Valid s c.seat v)) there given l
+      ∙ node-other app t c r (tree-sound app t (all_told-Valid s c.seat v)) (none-empty app t (all_told-Valid s c.seat v)) (folders-there app t (all_told-Valid s c.seat v)) (all-free app t (all_told-Valid s c.seat v)) (firsts-told app t (all_told-Valid s c.seat v))
+      there given l
 
   pub node_other : (o : Option Connection) → connection_of s.connections seat ≡ o → is_by app (maker o (Request.Node r)) ≡ false → LawfulOnNode s r given (mount_of o) →
       apply_all (view s app) (cond (is_done (node_step s r given (mount_of o)).1.answer) (node_touch app s r given (mount_of o)) []) ≡ view (node_step s r given (mount_of o)).0 app

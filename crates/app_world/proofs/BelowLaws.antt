@@ -11,7 +11,7 @@ use Rattle.portal_model.specs.Content.{Content, NotThere, OfFile, OfFolder}
 use Rattle.portal_model.specs.Ordered.{bytes_less, is_rising, put, put_all}
 use Rattle.portal_model.proofs.ListLookups.{find-filter, find-map, found_passes, is_same-eq, is_same-refl}
 use Rattle.portal_model.proofs.RisingLists.{rising-map, rising-put, rising-put_all}
-use Rattle.app_world.specs.Effect.{file_of, with_content_of, with_file, with_first}
+use Rattle.app_world.specs.Effect.{file_of, with_content_of, with_file, with_file_at}
 use Rattle.app_world.specs.View.{file_ahead, files_below, is_at_or_below}
 use Rattle.app_world.proofs.Found.{find-put, find-put_all, told-apart}
 use Rattle.app_world.proofs.Orders.{paths}
@@ -204,7 +204,7 @@ module _ (path : List ℕ) (generation : ℕ) (new : Content) where
       let other : is_same y.path path ≡ false = ap (λ (q : List ℕ). is_same q path) (is_same-eq y.path p named) ∙ h in
       ap (λ (c : Bool). Some (cond (c && y.generation == generation) (with_content_of new y) y)) other
 
-  first-found : (c : Content) (fs : List File) (p : List ℕ) → file_at fs path ≡ None → file_at (with_first path c fs) p ≡ cond (is_same p path) (file_first path c) (file_at fs p)
+  first-found : (c : Content) (fs : List File) (p : List ℕ) → file_at fs path ≡ None → file_at (with_file_at path c fs) p ≡ cond (is_same p path) (file_first path c) (file_at fs p)
   first-found (OfFile g bytes moment) fs p e = find-put _ _ file_path paths p (file_of path g bytes moment) fs ∙ ap (λ (b : Bool). cond b (Some (file_of path g bytes moment)) (file_at fs p)) (same-sym path p)
   first-found OfFolder fs p e = nothing-there fs p e (is_same p path) refl
     where
@@ -222,9 +222,9 @@ module _ (path : List ℕ) (generation : ℕ) (new : Content) where
   still-none fs p k false h = refl
 
   with-found : (fs : List File) (p : List ℕ) (at : Option File) → file_at fs path ≡ at →
-      file_at (cond (is_some at) (map changing fs) (cond (generation == 0) (with_first path new fs) fs)) p ≡ cond (is_same p path) (file_then path generation new at) (file_at fs p)
+      file_at (cond (is_some at) (map changing fs) (cond (generation == 0) (with_file_at path new fs) fs)) p ≡ cond (is_same p path) (file_then path generation new at) (file_at fs p)
   with-found fs p (Some f) e = found-changing p fs ∙ one-changing fs p (file_at fs p) refl (is_same p path) refl (Some f) e refl
-  with-found fs p None e = elim (generation == 0) as (λ b. file_at (cond b (with_first path new fs) fs) p ≡ cond (is_same p path) (cond b (file_first path new) None) (file_at fs p)) [
+  with-found fs p None e = elim (generation == 0) as (λ b. file_at (cond b (with_file_at path new fs) fs) p ≡ cond (is_same p path) (cond b (file_first path new) None) (file_at fs p)) [
     | true ↦ first-found new fs p e
     | false ↦ still-none fs p e (is_same p path) refl
   ]
@@ -232,15 +232,15 @@ module _ (path : List ℕ) (generation : ℕ) (new : Content) where
   pub found-with_file : (fs : List File) (p : List ℕ) → file_at (with_file path generation new fs) p ≡ cond (is_same p path) (file_then path generation new (file_at fs path)) (file_at fs p)
   found-with_file fs p = with-found fs p (file_at fs path) refl
 
-  first-rising : (c : Content) (fs : List File) → is_rising file_ahead fs ≡ true → is_rising file_ahead (with_first path c fs) ≡ true
+  first-rising : (c : Content) (fs : List File) → is_rising file_ahead fs ≡ true → is_rising file_ahead (with_file_at path c fs) ≡ true
   first-rising (OfFile g bytes moment) fs h = rising-put _ _ file_path paths (file_of path g bytes moment) fs h
   first-rising OfFolder fs h = h
   first-rising (NotThere room) fs h = h
 
   pub rising-with_file : (fs : List File) → is_rising file_ahead fs ≡ true → is_rising file_ahead (with_file path generation new fs) ≡ true
-  rising-with_file fs h = elim (is_some (file_at fs path)) as (λ b. is_rising file_ahead (cond b (map changing fs) (cond (generation == 0) (with_first path new fs) fs)) ≡ true) [
+  rising-with_file fs h = elim (is_some (file_at fs path)) as (λ b. is_rising file_ahead (cond b (map changing fs) (cond (generation == 0) (with_file_at path new fs) fs)) ≡ true) [
     | true ↦ rising-map _ _ file_path paths changing changing-path fs h
-    | false ↦ elim (generation == 0) as (λ b. is_rising file_ahead (cond b (with_first path new fs) fs) ≡ true) [ true ↦ first-rising new fs h | false ↦ h ]
+    | false ↦ elim (generation == 0) as (λ b. is_rising file_ahead (cond b (with_file_at path new fs) fs) ≡ true) [ true ↦ first-rising new fs h | false ↦ h ]
   ]
 
   module _ (files more : List File) (then_is : IsThen files more path generation new) (folder : List ℕ) where
@@ -273,4 +273,49 @@ module _ (path : List ℕ) (generation : ℕ) (new : Content) where
         below-file more folder p
         ∙ (ap (λ (o : Option File). cond (is_at_or_below folder p) o None) (then_is p)
         ∙ (elsewhere p (is_at_or_below folder p) (is_same p path) refl refl h
+        ∙ sym (below-file files folder p))))
+
+-- ---- a file that comes to its path, in place of any other
+
+-- at the path is then this file
+abbrev pub IsTurned : List File → List File → List ℕ → File → Type 0
+IsTurned files more path f = (p : List ℕ) → file_at more p ≡ cond (is_same p path) (Some f) (file_at files p)
+
+module _ (path : List ℕ) (generation : ℕ) (bytes : List ℕ) (moment : ℕ) where
+  abbrev turned_one : File
+  turned_one = file_of path generation bytes moment
+
+  abbrev turned_among : List File → List File
+  turned_among fs = with_file_at path (OfFile generation bytes moment) fs
+
+  found-turned : (fs : List File) (p : List ℕ) → file_at (turned_among fs) p ≡ cond (is_same p path) (Some turned_one) (file_at fs p)
+  found-turned fs p = find-put _ _ file_path paths p turned_one fs ∙ ap (λ (b : Bool). cond b (Some turned_one) (file_at fs p)) (same-sym path p)
+
+  module _ (files more : List File) (turned_is : IsTurned files more path turned_one) (folder : List ℕ) where
+    at-turned : (p : List ℕ) (b : Bool) → is_same p path ≡ b → is_at_or_below folder path ≡ true →
+        cond (is_at_or_below folder p) (cond b (Some turned_one) (file_at files p)) None ≡ cond b (Some turned_one) (cond (is_at_or_below folder p) (file_at files p) None)
+    at-turned p true e h = ap (λ (b : Bool). cond b (Some turned_one) None) (ap (is_at_or_below folder) (is_same-eq p path e) ∙ h)
+    at-turned p false e h = refl
+
+    not-turned : (p : List ℕ) (a b : Bool) → is_at_or_below folder p ≡ a → is_same p path ≡ b → is_at_or_below folder path ≡ false →
+        cond a (cond b (Some turned_one) (file_at files p)) None ≡ cond a (file_at files p) None
+    not-turned p true true e f h = let no : true ≡ false = sym e ∙ (ap (is_at_or_below folder) (is_same-eq p path f) ∙ h) in cc
+    not-turned p true false e f h = refl
+    not-turned p false b e f h = refl
+
+    pub turned-in : is_at_or_below folder path ≡ true → files_below more folder ≡ turned_among (files_below files folder)
+    turned-in h =
+        told-apart _ _ file_path paths (files_below more folder) (turned_among (files_below files folder)) (below-in-order more folder) (rising-put _ _ file_path paths turned_one (files_below files folder) (below-in-order files folder)) (λ p.
+        below-file more folder p
+        ∙ (ap (λ (o : Option File). cond (is_at_or_below folder p) o None) (turned_is p)
+        ∙ (at-turned p (is_same p path) refl h
+        ∙ (ap (λ (o : Option File). cond (is_same p path) (Some turned_one) o) (sym (below-file files folder p))
+        ∙ sym (found-turned (files_below files folder) p)))))
+
+    pub turned-out : is_at_or_below folder path ≡ false → files_below more folder ≡ files_below files folder
+    turned-out h =
+        told-apart _ _ file_path paths (files_below more folder) (files_below files folder) (below-in-order more folder) (below-in-order files folder) (λ p.
+        below-file more folder p
+        ∙ (ap (λ (o : Option File). cond (is_at_or_below folder p) o None) (turned_is p)
+        ∙ (not-turned p (is_at_or_below folder p) (is_same p path) refl refl h
         ∙ sym (below-file files folder p))))

@@ -9,7 +9,7 @@ use Rattle.portal_model.specs.declared.state.Document.{Document}
 use Rattle.portal_model.specs.Arguments.{document_named, reached}
 use Rattle.portal_model.specs.DeleteDocument.{delete_document, delete_reached, deleted}
 use Rattle.portal_model.specs.Rights.{forget_document, held_by}
-use Rattle.portal_model.specs.State.{State, held_of}
+use Rattle.portal_model.specs.State.{State, held_in, held_of}
 use Rattle.portal_model.specs.Verdict.{does}
 use Rattle.app_world.specs.DeleteDocument.{deleted_from, delete_touch, own_delete_document, own_delete_reached}
 use Rattle.app_world.specs.Effect.{Gone, apply, apply_all}
@@ -30,11 +30,11 @@ module _ (app : List ℕ) (s : State) where
     now n = held_of (forget_document d.id.number s.rights) app n
 
     gone-seen : apply (view s app) (Gone d.id) ≡ view (deleted s d.id.number) app
-    gone-seen = view-gone s.limits s.files s.documents held now (own_connections app s.handles s.connections) d.id (λ n e. held-forget app n d.id.number s.rights e)
+    gone-seen = view-gone s.limits (held_in s) s.documents held now (own_connections app s.handles s.connections) d.id (λ n e. held-forget app n d.id.number s.rights e)
 
     gone-touched : (b : Bool) → holds_any (held d.id.number) ≡ b → apply_all (view s app) (cond b (Gone d.id ∷ []) []) ≡ view (deleted s d.id.number) app
     gone-touched true f = gone-seen
-    gone-touched false f = view-gone-unseen s.limits s.files s.documents held now (own_connections app s.handles s.connections) d.id (λ n e. held-forget app n d.id.number s.rights e) f
+    gone-touched false f = view-gone-unseen s.limits (held_in s) s.documents held now (own_connections app s.handles s.connections) d.id (λ n e. held-forget app n d.id.number s.rights e) f
 
   -- ---- of another
 

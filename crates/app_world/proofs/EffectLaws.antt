@@ -2,6 +2,7 @@
 use Rattle.std.proofs.Common.{◌≡◌, ℕ, ◌==◌, List, [], ◌∷◌, map, Bool, true, false, not, ◌&&◌, ◌||◌, cond, Option, Some, None, refl, sym, ap, ◌∙◌, arith}
 use Rattle.std.specs.List.{filter, list_any}
 use Rattle.std.specs.Option.{option_map}
+use Rattle.file_generations.specs.Generations.{Held, all_held}
 use Rattle.portal_base.specs.Names.{is_same}
 use Rattle.portal_base.specs.declared.files.File.{File}
 use Rattle.portal_base.specs.declared.limits.Limits.{Limits}
@@ -13,11 +14,12 @@ use Rattle.portal_model.specs.State.{document_of}
 use Rattle.portal_model.proofs.ListLookups.{nat_is, find-filter, found_passes}
 use Rattle.portal_model.specs.Ordered.{put, is_rising}
 use Rattle.app_world.specs.Effect.{Gained, Lost, Gone, apply, is_other, less_held, with_below, with_content, with_more}
-use Rattle.app_world.specs.View.{Alone, Below, HeldDocument, OwnConnection, PathBelow, PathContent, below_at, contents_at, files_below, folder_paths, found_below, found_content, found_document, held_documents, holding_at, is_among, is_folder_document, is_held, is_plain_document, lower, named_paths, number_of, path_below, path_content, paths_where, seen, view_over}
+use Rattle.app_world.specs.View.{Alone, Below, HeldDocument, NamedFile, OwnConnection, PathBelow, PathContent, below_at, contents_at, files_at, files_below, folder_paths, found_below, found_content, found_document, held_documents, holding_at, is_among, is_folder_document, is_held, is_held_name, is_plain_document, lower, named_as, named_paths, names_held, number_of, path_below, path_content, paths_where, seen, view_over}
 use Rattle.app_world.proofs.ContentLaws.{below-fewer, below-found, below-joined, contents-fewer, contents-found, contents-joined}
 use Rattle.app_world.proofs.DocumentLaws.{documents-are, documents-found, documents-rising, kept-seen, seen-nothing}
 use Rattle.app_world.proofs.Found.{find-changed, find-kept, find-put, kept}
 use Rattle.app_world.proofs.HeldLaws.{nothing-minus, nothing-union}
+use Rattle.app_world.proofs.NamedFiles.{named-fewer}
 use Rattle.app_world.proofs.Orders.{numbers}
 use Rattle.portal_model.proofs.RisingLists.{rising-filter, rising-map, rising-put}
 use Rattle.app_world.proofs.ViewLaws.{among-joined, documents-same, names-fewer-documents}
@@ -64,6 +66,10 @@ with_more-document : (d : Document) (more k : RightSet) (b : Bool) → (with_mor
 with_more-document d more k true = refl
 with_more-document d more k false = refl
 
+-- the files that connections name stay with the connections
+named-kept : (tree : Held) (cs : List OwnConnection) → filter (λ (f : NamedFile). is_held_name (names_held cs) (named_as f)) (files_at (all_held tree) (names_held cs)) ≡ files_at (all_held tree) (names_held cs)
+named-kept tree cs = named-fewer (all_held tree) (names_held cs) (names_held cs) (λ name h. h)
+
 -- ---- rights gained
 
 gain-case : (d : Document) (more k : RightSet) (b : Bool) → holds_any k ≡ b →
@@ -79,7 +85,7 @@ below-stays : (files : List File) (path : List ℕ) (b : Bool) → with_below pa
 below-stays files path true = refl
 below-stays files path false = refl
 
-module _ (limits : Limits) (files : List File) (documents documents' : List Document) (held held' : ℕ → RightSet) (cs : List OwnConnection) (d : Document) (more : RightSet)
+module _ (limits : Limits) (tree : Held) (documents documents' : List Document) (held held' : ℕ → RightSet) (cs : List OwnConnection) (d : Document) (more : RightSet)
     (live : (n : ℕ) → document_of documents' n ≡ cond (d.id.number == n) (Some d) (document_of documents n))
     (rights : (n : ℕ) → held' n ≡ cond (d.id.number == n) (union (held n) more) (held n))
     (there : seen (held d.id.number) (document_of documents d.id.number) ≡ seen (held d.id.number) (Some d)) where
@@ -171,36 +177,38 @@ module _ (limits : Limits) (files : List File) (documents documents' : List Docu
   folder-still e path h = only d.folder (is_same d.path path) (is_among (folder_paths old) path) e (new-there is_folder_document path h)
 
   abbrev had : List PathContent
-  had = contents_at files (named_paths old cs)
+  had = contents_at tree.present (named_paths old cs)
 
   abbrev had_below : List PathBelow
-  had_below = below_at files (folder_paths old)
+  had_below = below_at tree.present (folder_paths old)
 
   abbrev joining : PathContent
-  joining = with_content d.path (content_at files d.path) (found_content had d.path)
+  joining = with_content d.path (content_at tree.present d.path) (found_content had d.path)
 
-  joining-is : joining ≡ path_content files d.path
-  joining-is = ap (with_content d.path (content_at files d.path)) (contents-found files d.path (named_paths old cs)) ∙ content-stays files d.path (is_among (named_paths old cs) d.path)
+  joining-is : joining ≡ path_content tree.present d.path
+  joining-is = ap (with_content d.path (content_at tree.present d.path)) (contents-found tree.present d.path (named_paths old cs)) ∙ content-stays tree.present d.path (is_among (named_paths old cs) d.path)
 
   abbrev joining_below : PathBelow
-  joining_below = with_below d.path (files_below files d.path) (found_below had_below d.path)
+  joining_below = with_below d.path (files_below tree.present d.path) (found_below had_below d.path)
 
-  joining_below-is : joining_below ≡ path_below files d.path
-  joining_below-is = ap (with_below d.path (files_below files d.path)) (below-found files d.path (folder_paths old)) ∙ below-stays files d.path (is_among (folder_paths old) d.path)
+  joining_below-is : joining_below ≡ path_below tree.present d.path
+  joining_below-is = ap (with_below d.path (files_below tree.present d.path)) (below-found tree.present d.path (folder_paths old)) ∙ below-stays tree.present d.path (is_among (folder_paths old) d.path)
 
-  gained-by : (b : Bool) → d.folder ≡ b → apply (view_over limits files old cs) (Gained d more (cond b (Below (files_below files d.path)) (Alone (content_at files d.path)))) ≡ view_over limits files after cs
-  gained-by true e = λ i. record (view_over limits files after cs) {
-    contents = contents-fewer files (named_paths old cs) (named_paths after cs) (named-still e) i;
-    below = below-joined files d.path joining_below (folder_paths old) (folder_paths after) joining_below-is folder-then i;
+  gained-by : (b : Bool) → d.folder ≡ b → apply (view_over limits tree old cs) (Gained d more (cond b (Below (files_below tree.present d.path)) (Alone (content_at tree.present d.path)))) ≡ view_over limits tree after cs
+  gained-by true e = λ i. record (view_over limits tree after cs) {
+    contents = contents-fewer tree.present (named_paths old cs) (named_paths after cs) (named-still e) i;
+    below = below-joined tree.present d.path joining_below (folder_paths old) (folder_paths after) joining_below-is folder-then i;
+    files = named-kept tree cs i;
   }
-  gained-by false e = λ i. record (view_over limits files after cs) {
-    contents = contents-joined files d.path joining (named_paths old cs) (named_paths after cs) joining-is named-then i;
-    below = below-fewer files (folder_paths old) (folder_paths after) (folder-still e) i;
+  gained-by false e = λ i. record (view_over limits tree after cs) {
+    contents = contents-joined tree.present d.path joining (named_paths old cs) (named_paths after cs) joining-is named-then i;
+    below = below-fewer tree.present (folder_paths old) (folder_paths after) (folder-still e) i;
+    files = named-kept tree cs i;
   }
 
   -- in a document that is live afterwards
-  pub view-gained : apply (view_over limits files old cs) (Gained d more (holding_at files d)) ≡ view_over limits files (held_documents held' documents') cs
-  view-gained = gained-by d.folder refl ∙ ap (λ (ds : List HeldDocument). view_over limits files ds cs) documents-gained
+  pub view-gained : apply (view_over limits tree old cs) (Gained d more (holding_at tree.present d)) ≡ view_over limits tree (held_documents held' documents') cs
+  view-gained = gained-by d.folder refl ∙ ap (λ (ds : List HeldDocument). view_over limits tree ds cs) documents-gained
 
 -- ---- rights lost
 
@@ -228,7 +236,7 @@ lose-seen : (number n : ℕ) (less k : RightSet) (o : Option Document) → ((d :
 lose-seen number n less k None e = refl
 lose-seen number n less k (Some d) e = lose-held number less k d (holds_any k) refl ∙ ap (λ (m : ℕ). seen (cond (m == number) (minus k less) k) (Some d)) (e d refl)
 
-module _ (limits : Limits) (files : List File) (documents : List Document) (held held' : ℕ → RightSet) (cs : List OwnConnection) (id : DocId) (less : RightSet)
+module _ (limits : Limits) (tree : Held) (documents : List Document) (held held' : ℕ → RightSet) (cs : List OwnConnection) (id : DocId) (less : RightSet)
     (rights : (n : ℕ) → held' n ≡ cond (n == id.number) (minus (held n) less) (held n)) where
   abbrev before : List HeldDocument
   before = held_documents held documents
@@ -249,15 +257,16 @@ module _ (limits : Limits) (files : List File) (documents : List Document) (held
   fewer-lost : (test : Document → Bool) (path : List ℕ) → is_among (paths_where test (filter is_held lessened)) path ≡ true → is_among (paths_where test before) path ≡ true
   fewer-lost test path h = sym (where-same test (less_held id.number less) (less_held-document id.number less) before path) ∙ where-filter test is_held lessened path h
 
-  pub view-lost : apply (view_over limits files before cs) (Lost id less) ≡ view_over limits files (held_documents held' documents) cs
+  pub view-lost : apply (view_over limits tree before cs) (Lost id less) ≡ view_over limits tree (held_documents held' documents) cs
   view-lost =
-      (λ i. record (view_over limits files (filter is_held lessened) cs) {
+      (λ i. record (view_over limits tree (filter is_held lessened) cs) {
         contents =
-            contents-fewer files (named_paths before cs) (named_paths (filter is_held lessened) cs)
+            contents-fewer tree.present (named_paths before cs) (named_paths (filter is_held lessened) cs)
             (λ path. names-fewer-documents (paths_where is_plain_document before) (paths_where is_plain_document (filter is_held lessened)) (named_paths [] cs) path (fewer-lost is_plain_document path)) i;
-        below = below-fewer files (folder_paths before) (folder_paths (filter is_held lessened)) (fewer-lost is_folder_document) i;
+        below = below-fewer tree.present (folder_paths before) (folder_paths (filter is_held lessened)) (fewer-lost is_folder_document) i;
+        files = named-kept tree cs i;
       })
-      ∙ ap (λ (ds : List HeldDocument). view_over limits files ds cs)
+      ∙ ap (λ (ds : List HeldDocument). view_over limits tree ds cs)
       (documents-are held' documents (filter is_held lessened) (rising-filter _ _ number_of numbers is_held lessened lessened-rising) lost-found)
 
 -- ---- a document gone
@@ -278,7 +287,7 @@ gone-seen : (k k' : RightSet) (o : Option Document) (b : Bool) → (b ≡ false 
 gone-seen k k' o true e = refl
 gone-seen k k' o false e = kept-seen k o ∙ ap (λ (h : RightSet). seen h o) (sym (e refl))
 
-module _ (limits : Limits) (files : List File) (documents : List Document) (held held' : ℕ → RightSet) (cs : List OwnConnection) (id : DocId)
+module _ (limits : Limits) (tree : Held) (documents : List Document) (held held' : ℕ → RightSet) (cs : List OwnConnection) (id : DocId)
     (rights : (n : ℕ) → (n == id.number) ≡ false → held' n ≡ held n) where
   abbrev here : List HeldDocument
   here = held_documents held documents
@@ -299,15 +308,16 @@ module _ (limits : Limits) (files : List File) (documents : List Document) (held
   fewer-gone : (test : Document → Bool) (path : List ℕ) → is_among (paths_where test (filter is_held fewer)) path ≡ true → is_among (paths_where test here) path ≡ true
   fewer-gone test path h = where-filter test (is_other id.number) here path (where-filter test is_held fewer path h)
 
-  pub view-gone : apply (view_over limits files here cs) (Gone id) ≡ view_over limits files (held_documents held' (without id.number documents)) cs
+  pub view-gone : apply (view_over limits tree here cs) (Gone id) ≡ view_over limits tree (held_documents held' (without id.number documents)) cs
   view-gone =
-      (λ i. record (view_over limits files (filter is_held fewer) cs) {
+      (λ i. record (view_over limits tree (filter is_held fewer) cs) {
         contents =
-            contents-fewer files (named_paths here cs) (named_paths (filter is_held fewer) cs)
+            contents-fewer tree.present (named_paths here cs) (named_paths (filter is_held fewer) cs)
             (λ path. names-fewer-documents (paths_where is_plain_document here) (paths_where is_plain_document (filter is_held fewer)) (named_paths [] cs) path (fewer-gone is_plain_document path)) i;
-        below = below-fewer files (folder_paths here) (folder_paths (filter is_held fewer)) (fewer-gone is_folder_document) i;
+        below = below-fewer tree.present (folder_paths here) (folder_paths (filter is_held fewer)) (fewer-gone is_folder_document) i;
+        files = named-kept tree cs i;
       })
-      ∙ ap (λ (ds : List HeldDocument). view_over limits files ds cs)
+      ∙ ap (λ (ds : List HeldDocument). view_over limits tree ds cs)
       (documents-are held' (without id.number documents) (filter is_held fewer) (rising-filter _ _ number_of numbers is_held fewer fewer-rising) gone-found)
 
   -- of which nothing was seen
@@ -315,7 +325,7 @@ module _ (limits : Limits) (files : List File) (documents : List Document) (held
   unseen f n true e = ap (λ (m : ℕ). seen (held m) (document_of documents n)) (nat_is n id.number e) ∙ seen-nothing (held id.number) (document_of documents n) f
   unseen f n false e = ap (λ (k : RightSet). seen k (document_of documents n)) (sym (rights n e))
 
-  pub view-gone-unseen : holds_any (held id.number) ≡ false → view_over limits files here cs ≡ view_over limits files (held_documents held' (without id.number documents)) cs
+  pub view-gone-unseen : holds_any (held id.number) ≡ false → view_over limits tree here cs ≡ view_over limits tree (held_documents held' (without id.number documents)) cs
   view-gone-unseen f =
-      ap (λ (ds : List HeldDocument). view_over limits files ds cs)
+      ap (λ (ds : List HeldDocument). view_over limits tree ds cs)
       (documents-same held held' documents (without id.number documents) (λ n. unseen f n (n == id.number) refl ∙ ap (seen (held' n)) (sym (found-left id.number n documents))))

@@ -7,6 +7,7 @@ use Rattle.portal_base.specs.Names.{is_host_path}
 use Rattle.portal_model.specs.Opening.{opened}
 use Rattle.portal_model.specs.Valid.{Valid}
 use Rattle.portal_model.proofs.ExampleProofs.{a_path, editor_name, other_name}
+use Rattle.portal_model.proofs.GenerationsValid.{first-generations}
 use Rattle.app_world.specs.Examples.{b_text, with_another, EffectsOnAView, TracesTellWhatIsHeld}
 use Rattle.app_world.specs.View.{HeldDocument}
 use Rattle.app_world.specs.World.{Trace}
@@ -30,9 +31,12 @@ valid_with_another = record {
   seats_differ = tt;
   connections_sound = refl;
   namings_sound = tt;
+  temps_sound = tt;
+  temps_taken = refl;
   handles_differ = tt;
   handles_sound = refl;
   handles_made = refl;
+  handles_taken = refl;
   handles_within = refl;
   entries_differ = tt;
   entries_sound = refl;
@@ -40,7 +44,7 @@ valid_with_another = record {
   files_apart = refl;
   files_named = rw (b_path, a_path) refl;
   files_told = λ e. cc;
-  taken_none = refl;
+  generations_sound = first-generations true _ refl;
   documents_within = omega arith;
   made_within = omega arith;
   applications_within = omega arith;

@@ -11,7 +11,7 @@ use Rattle.portal_model.specs.declared.state.Document.{Document}
 use Rattle.portal_model.specs.Arguments.{document_named, reached}
 use Rattle.portal_model.specs.Grant.{are_rights_arguments, given_rights, grant, granted, grant_reached, may_grant}
 use Rattle.portal_model.specs.Rights.{add_rights, held_by}
-use Rattle.portal_model.specs.State.{State, document_of, held_of}
+use Rattle.portal_model.specs.State.{State, document_of, held_in, held_of}
 use Rattle.portal_model.specs.Verdict.{unless}
 use Rattle.portal_model.proofs.ListLookups.{nat_is}
 use Rattle.app_world.specs.Effect.{Gained, apply_all}
@@ -57,7 +57,7 @@ module _ (app : List ℕ) (s : State) (d : Document) (live : document_of s.docum
   -- to the application that is named
   given-named : is_same named app ≡ true → (b : Bool) → holds_any more ≡ b → apply_all (view s app) (cond b (Gained d more (holding_at s.files d) ∷ []) []) ≡ view (given_rights named d.id set s) app
   given-named f true g =
-      view-gained s.limits s.files s.documents s.documents was now (own_connections app s.handles s.connections) d more
+      view-gained s.limits (held_in s) s.documents s.documents was now (own_connections app s.handles s.connections) d more
       (λ n. live-still n (d.id.number == n) refl) (λ n. now-named f n (d.id.number == n) refl) (ap (seen (was d.id.number)) live)
   given-named f false g = unchanged (λ n. kept-named f g n (d.id.number == n) refl)
 

@@ -2,16 +2,18 @@
 use Rattle.std.proofs.Common.{◌≡◌, ◌==◌, ℕ, nat_eq, List, [], ◌∷◌, map, not, Bool, true, false, ◌||◌, cond, Option, Some, None, refl, sym, ap, ◌∙◌, arith}
 use Rattle.std.specs.List.{filter, flat_map, IsDistinct, AllByRecursion}
 use Rattle.std.proofs.lemmas.Bool.Decides.{nat_tests}
+use Rattle.portal_base.specs.declared.files.FileName.{FileName}
 use Rattle.portal_model.specs.declared.handle.OpenHandle.{OpenHandle}
 use Rattle.portal_model.specs.declared.request.Request.TheVariants as Request
 use Rattle.portal_model.specs.declared.state.Connection.{Connection}
 use Rattle.portal_model.specs.History.{made_by}
 use Rattle.portal_model.specs.Leave.{handles_left, handles_of_others, leave, leave_answer, left, of_others}
-use Rattle.portal_model.specs.State.{State, connection_of, handles_of, held_of, is_app}
+use Rattle.portal_model.specs.State.{State, connection_of, handles_of, held_in, held_of, is_app}
 use Rattle.portal_model.specs.Valid.{Valid}
 use Rattle.portal_model.proofs.ListLookups.{filters-swap}
 use Rattle.app_world.specs.Leave.{own_leave, own_leave_answer, own_left}
-use Rattle.app_world.specs.View.{OwnConnection, found_connection, held_documents, is_among, named_paths, own_connection, own_connections, paths_of_connection, prune, view, view_over}
+use Rattle.app_world.specs.View.{OwnConnection, found_connection, held_documents, is_among, is_held_name, named_paths, names_held, names_of_connection, own_connection, own_connections, paths_of_connection, prune, view, view_over}
+use Rattle.app_world.proofs.NamedFiles.{held-joined}
 use Rattle.app_world.proofs.PresentLaws.{own-other}
 use Rattle.app_world.proofs.ViewLaws.{among-joined, open-elsewhere, own-open, own-some, own_first, prune-connections, view-open}
 
@@ -82,6 +84,21 @@ left_names : (seat : ℕ) (cs : List OwnConnection) (o : Option OwnConnection) (
 left_names seat cs None path h = h
 left_names seat cs (Some c) path h = fewer_paths (is_elsewhere seat) cs path h
 
+one_fewer_file : (c : OwnConnection) (rest cs : List OwnConnection) (name : FileName) (b : Bool) → (is_held_name (names_held rest) name ≡ true → is_held_name (names_held cs) name ≡ true) →
+    is_held_name (names_held (cond b (c ∷ rest) rest)) name ≡ true → is_held_name (names_held (c ∷ cs)) name ≡ true
+one_fewer_file c rest cs name true f h =
+    held-joined (names_of_connection c) (names_held cs) name
+    ∙ either (is_held_name (names_of_connection c) name) f (sym (held-joined (names_of_connection c) (names_held rest) name) ∙ h)
+one_fewer_file c rest cs name false f h = held-joined (names_of_connection c) (names_held cs) name ∙ or-true (is_held_name (names_of_connection c) name) (f h)
+
+fewer_files : (p : OwnConnection → Bool) (cs : List OwnConnection) (name : FileName) → is_held_name (names_held (filter p cs)) name ≡ true → is_held_name (names_held cs) name ≡ true
+fewer_files p [] name h = h
+fewer_files p (c ∷ cs) name h = one_fewer_file c (filter p cs) cs name (p c) (fewer_files p cs name) h
+
+left_files : (seat : ℕ) (cs : List OwnConnection) (o : Option OwnConnection) (name : FileName) → is_held_name (names_held (own_left seat cs o)) name ≡ true → is_held_name (names_held cs) name ≡ true
+left_files seat cs None name h = h
+left_files seat cs (Some c) name h = fewer_files (is_elsewhere seat) cs name h
+
 -- ---- of another
 
 abbrev apps : List ℕ → List Connection → List Connection
@@ -125,8 +142,8 @@ leave_own app s seat h =
     let o : Option OwnConnection = found_connection (own_connections app s.handles s.connections) seat in
     let more : List OwnConnection = own_left seat (own_connections app s.handles s.connections) o in
     let seen : prune (record (view s app) { connections = more }) ≡ view (leave s seat).0 app =
-    prune-connections s.limits s.files (held_of s.rights app) s.documents (own_connections app s.handles s.connections) more (left_names seat (own_connections app s.handles s.connections) o)
-    ∙ ap (view_over s.limits s.files (held_documents (held_of s.rights app) s.documents)) (own_left-is app s.handles seat s.connections (connection_of s.connections seat) refl h) in
+    prune-connections s.limits (held_in s) (held_of s.rights app) s.documents (own_connections app s.handles s.connections) more (left_names seat (own_connections app s.handles s.connections) o) (left_files seat (own_connections app s.handles s.connections) o)
+    ∙ ap (view_over s.limits (held_in s) (held_documents (held_of s.rights app) s.documents)) (own_left-is app s.handles seat s.connections (connection_of s.connections seat) refl h) in
     λ i. (seen i, own_answer-is app s.handles seat s.connections (connection_of s.connections seat) refl h i)
 
 -- another's leaves the view

@@ -2,18 +2,20 @@
 use Rattle.std.proofs.Common.{◌≡◌, ℕ, zero, suc, ◌==◌, nat_lt, List, [], ◌∷◌, map, Bool, true, false, ◌&&◌, ◌||◌, cond, Option, Some, None, is_some, refl, sym, ap, ◌∙◌, arith}
 use Rattle.std.specs.List.{filter, find, list_all}
 use Rattle.std.specs.Option.{option_map}
+use Rattle.portal_base.specs.declared.files.FileName.{FileName}
 use Rattle.portal_base.specs.declared.who.Who.{Who}
 use Rattle.rights_rule.specs.Rights.{RightSet}
 use Rattle.portal_model.specs.declared.naming.Naming.{Naming}
 use Rattle.portal_model.specs.declared.place.Place.{Place}
 use Rattle.portal_model.specs.declared.state.Document.{Document}
+use Rattle.portal_model.specs.declared.temporary.Temp.{Temp}
 use Rattle.portal_model.specs.ListDocuments.{lower as lower_number}
 use Rattle.portal_model.specs.Ordered.{is_rising, put_all}
-use Rattle.portal_model.specs.Place.{FolderOf, RootOf, SightBelow, SightOfFolder, may_read as may_read_document, numbers_seen, place_named, place_of, reach_at, reach_of_subject, Sight, seen_by, sight_at, sight_at_path, sight_below, sight_of_document, sight_of_folder, sight_of_naming, sight_of_place, sight_of_root, subject_of, view_of_node}
+use Rattle.portal_model.specs.Place.{FolderOf, RootOf, SightBelow, SightOfFolder, SightOfTemp, may_read as may_read_document, numbers_seen, place_named, place_of, reach_at, reach_of_subject, Sight, seen_by, sight_at, sight_at_path, sight_below, sight_of_document, sight_of_folder, sight_of_naming, sight_of_own_temp, sight_of_place, sight_of_root, sight_of_temp, subject_of, view_of_node}
 use Rattle.portal_model.specs.State.{State, document_of, held_of}
 use Rattle.portal_model.proofs.ListLookups.{find-filter, find-map, found_passes, nat_is}
 use Rattle.portal_model.proofs.RisingLists.{rising-filter, rising-put_all}
-use Rattle.app_world.specs.Node.{in_own_view, may_read, own_numbers, own_reach, own_reach_in, own_sight, own_sight_at, own_sight_below, own_sight_of_folder, own_sight_of_naming, own_sight_of_place}
+use Rattle.app_world.specs.Node.{in_own_view, may_read, own_numbers, own_reach, own_reach_in, own_sight, own_sight_at, own_sight_below, own_sight_of_folder, own_sight_of_naming, own_sight_of_own_temp, own_sight_of_place, own_sight_of_temp}
 use Rattle.app_world.specs.View.{HeldDocument, found_document, held_documents, number_of, seen, view}
 use Rattle.app_world.proofs.DocumentLaws.{documents-found, documents-rising}
 use Rattle.app_world.proofs.Found.{find-kept, find-put_all, kept, told-apart}
@@ -32,6 +34,12 @@ below_bits : (view : ℕ) (path : List ℕ) (d : Document) (k : RightSet) (r b :
 below_bits view path d k true b e = rw e refl
 below_bits view path d k false true e = rw e refl
 below_bits view path d k false false e = refl
+
+temp_bits : (file : FileName) (d : Document) (k : RightSet) (r b : Bool) → k.read ≡ r →
+    own_sight_of_temp file (cond (r || b) (Some (record { document = d; rights = k })) None) ≡ cond r (Some (SightOfTemp d file k.write)) None
+temp_bits file d k true b e = rw e refl
+temp_bits file d k false true e = rw e refl
+temp_bits file d k false false e = refl
 
 folder_bits : (view : ℕ) (d : Document) (k : RightSet) (r b : Bool) → k.read ≡ r →
     own_sight_of_folder view (cond (r || b) (Some (record { document = d; rights = k })) None) ≡ cond r (Some (SightOfFolder (FolderOf view d k.write))) None
@@ -105,6 +113,12 @@ module _ (app : List ℕ) (s : State) where
       let n : d.id.number ≡ number = nat_is d.id.number number (found_passes (λ (x : Document). x.id.number == number) s.documents d e) in
       ap (λ (m : ℕ). own_sight_below view path (seen (held m) (Some d))) (sym n) ∙ below_bits view path d (held d.id.number) (held d.id.number).read _ refl
 
+  temp_seen : (file : FileName) (number : ℕ) (o : Option Document) → document_of s.documents number ≡ o → own_sight_of_temp file (seen (held number) o) ≡ sight_of_temp s.rights (Who.App app) file o
+  temp_seen file number None e = refl
+  temp_seen file number (Some d) e =
+      let n : d.id.number ≡ number = nat_is d.id.number number (found_passes (λ (x : Document). x.id.number == number) s.documents d e) in
+      ap (λ (m : ℕ). own_sight_of_temp file (seen (held m) (Some d))) (sym n) ∙ temp_bits file d (held d.id.number) (held d.id.number).read _ refl
+
   folder_seen : (view number : ℕ) (o : Option Document) → document_of s.documents number ≡ o → own_sight_of_folder view (seen (held number) o) ≡ sight_of_folder view s.rights (Who.App app) o
   folder_seen view number None e = refl
   folder_seen view number (Some d) e =
@@ -121,20 +135,27 @@ module _ (app : List ℕ) (s : State) where
       ap (λ (o : Option Sight). cond (n.view == k) o None)
       (ap (own_sight_below k n.path) (documents-found held n.document.number s.documents) ∙ below_seen k n.path n.document.number (document_of s.documents n.document.number) refl)
 
-  there_same : (naming : Option Naming) (p : Place) → own_sight_of_place (view s app) naming p ≡ sight_of_place s (Who.App app) naming p
-  there_same naming (Place.Root k) = view_same k (Some (SightOfFolder (RootOf k (own_numbers (held_documents held s.documents)) false))) (sight_of_root s (Who.App app) k) (ap (λ (ns : List ℕ). Some (SightOfFolder (RootOf k ns false))) numbers-seen)
-  there_same naming Place.ByApp = refl
-  there_same naming (Place.Folder k id) =
+  temp_same : (k : ℕ) (temp : Option Temp) → own_sight_of_own_temp (view s app) k temp ≡ sight_of_own_temp s k (Who.App app) temp
+  temp_same k None = refl
+  temp_same k (Some t) =
+      ap (λ (o : Option Sight). cond (t.view == k) o None)
+      (ap (own_sight_of_temp t.file) (documents-found held t.document.number s.documents) ∙ temp_seen t.file t.document.number (document_of s.documents t.document.number) refl)
+
+  there_same : (naming : Option Naming) (temp : Option Temp) (p : Place) → own_sight_of_place (view s app) naming temp p ≡ sight_of_place s (Who.App app) naming temp p
+  there_same naming temp (Place.Root k) = view_same k (Some (SightOfFolder (RootOf k (own_numbers (held_documents held s.documents)) false))) (sight_of_root s (Who.App app) k) (ap (λ (ns : List ℕ). Some (SightOfFolder (RootOf k ns false))) numbers-seen)
+  there_same naming temp Place.ByApp = refl
+  there_same naming temp (Place.Folder k id) =
       view_same k (own_sight_of_folder k (found_document (held_documents held s.documents) id.number)) (λ who. sight_of_folder k s.rights who (document_of s.documents id.number))
       (ap (own_sight_of_folder k) (documents-found held id.number s.documents) ∙ folder_seen k id.number (document_of s.documents id.number) refl)
-  there_same naming (Place.File k id) =
+  there_same naming temp (Place.File k id) =
       view_same k (own_sight k (found_document (held_documents held s.documents) id.number)) (λ who. sight_of_document k s.rights who (document_of s.documents id.number))
       (ap (own_sight k) (documents-found held id.number s.documents) ∙ sight_seen k id.number (document_of s.documents id.number) refl)
-  there_same naming (Place.Named k n) = view_same k (own_sight_of_naming (view s app) k naming) (λ who. sight_of_naming s k who naming) (naming_same k naming)
+  there_same naming temp (Place.Named k n) = view_same k (own_sight_of_naming (view s app) k naming) (λ who. sight_of_naming s k who naming) (naming_same k naming)
+  there_same naming temp (Place.Temporary k n) = view_same k (own_sight_of_own_temp (view s app) k temp) (λ who. sight_of_own_temp s k who temp) (temp_same k temp)
 
-  place_same : (naming : Option Naming) (p : Option Place) → own_sight_at (view s app) naming p ≡ sight_at s (Who.App app) naming p
-  place_same naming None = refl
-  place_same naming (Some p) = there_same naming p
+  place_same : (naming : Option Naming) (temp : Option Temp) (p : Option Place) → own_sight_at (view s app) naming temp p ≡ sight_at s (Who.App app) naming temp p
+  place_same naming temp None = refl
+  place_same naming temp (Some p) = there_same naming temp p
 
   -- ---- what it may do now
 
@@ -146,5 +167,5 @@ module _ (app : List ℕ) (s : State) where
   pub own_reach-is : (node number : ℕ) → own_reach (view s app) node number ≡ reach_at s (Who.App app) node number
   own_reach-is node number = ap (own_reach_in (view_of_node node)) (documents-found held number s.documents) ∙ reach_seen (view_of_node node) number (document_of s.documents number) refl
 
-  pub own_place-is : (naming : Option Naming) (node : ℕ) → own_sight_at (view s app) naming (place_named node) ≡ place_of s (Who.App app) naming node
-  own_place-is naming node = place_same naming (place_named node)
+  pub own_place-is : (naming : Option Naming) (temp : Option Temp) (node : ℕ) → own_sight_at (view s app) naming temp (place_named node) ≡ place_of s (Who.App app) naming temp node
+  own_place-is naming temp node = place_same naming temp (place_named node)

@@ -2,6 +2,7 @@
 use Rattle.std.proofs.Common.{◌≡◌, ℕ, ◌==◌, nat_eq, List, [], ◌∷◌, ◌++◌, length, map, nat_lt, Bool, true, false, not, cond, Some, None, refl, sym, ap, ◌∙◌, arith}
 use Rattle.std.specs.List.{flat_map, IsDistinct, AllByRecursion}
 use Rattle.std.proofs.lemmas.Bool.Decides.{nat_tests}
+use Rattle.file_generations.specs.Generations.{all_held}
 use Rattle.portal_base.specs.declared.who.Who.{Who}
 use Rattle.portal_model.specs.declared.handle.OpenHandle.{OpenHandle}
 use Rattle.portal_model.specs.declared.reply.Answer.{Answer}
@@ -9,11 +10,11 @@ use Rattle.portal_model.specs.declared.reply.Code.TheVariants as Code
 use Rattle.portal_model.specs.declared.state.Connection.{Connection}
 use Rattle.portal_model.specs.Arguments.{ahead_of_end, is_ended_path}
 use Rattle.portal_model.specs.Present.{may_present, present, present_path, queue_path, requeued, with_queue}
-use Rattle.portal_model.specs.State.{State, connection_of, held_of, is_app}
+use Rattle.portal_model.specs.State.{State, connection_of, held_in, held_of, is_app}
 use Rattle.portal_model.specs.Verdict.{does}
 use Rattle.app_world.specs.OwnVerdict.{OwnDoes, own_unless}
 use Rattle.app_world.specs.Present.{own_present, own_present_path, own_queue_path, own_requeued, own_with_queue}
-use Rattle.app_world.specs.View.{AppView, HeldDocument, OwnConnection, contents_at, found_connection, held_documents, is_plain_document, own_connection, own_connections, paths_of_connection, paths_where, view, view_over}
+use Rattle.app_world.specs.View.{AppView, HeldDocument, OwnConnection, contents_at, files_at, found_connection, held_documents, is_plain_document, names_held, names_of_connection, own_connection, own_connections, paths_of_connection, paths_where, view, view_over}
 use Rattle.app_world.proofs.ReachedLaws.{IsTouched, seen-unless, seen_verdict, touched-unless}
 use Rattle.app_world.proofs.ViewLaws.{own_first, view-connections}
 
@@ -59,15 +60,24 @@ module _ (app : List ℕ) (hs : List OpenHandle) (seat : ℕ) (change : List (Li
   same_paths [] = refl
   same_paths (c ∷ cs) = λ i. sym (one_path c) i ++ same_paths cs i
 
+  -- and no file
+  one_files : (c : OwnConnection) → names_of_connection (own_requeued seat change c) ≡ names_of_connection c
+  one_files c = elim (c.seat == seat) as (λ b. names_of_connection (cond b (record c { queue = change c.queue }) c) ≡ names_of_connection c) [ true ↦ refl | false ↦ refl ]
+
+  same_files : (cs : List OwnConnection) → names_held cs ≡ names_held (map (own_requeued seat change) cs)
+  same_files [] = refl
+  same_files (c ∷ cs) = λ i. sym (one_files c) i ++ same_files cs i
+
 module _ (app : List ℕ) (seat : ℕ) (change : List (List ℕ) → List (List ℕ)) where
   pub view-requeued : (s : State) → own_with_queue seat change (view s app) ≡ view (with_queue seat change s) app
   view-requeued s =
       let ds : List HeldDocument = held_documents (held_of s.rights app) s.documents in
       let more : List OwnConnection = map (own_requeued seat change) (own_connections app s.handles s.connections) in
-      (λ i. record (view_over s.limits s.files ds more) {
+      (λ i. record (view_over s.limits (held_in s) ds more) {
         contents = contents_at s.files (paths_where is_plain_document ds ++ same_paths app s.handles seat change (own_connections app s.handles s.connections) i);
+        files = files_at (all_held (held_in s)) (same_files app s.handles seat change (own_connections app s.handles s.connections) i);
       })
-      ∙ ap (view_over s.limits s.files ds) (sym (own-requeued app s.handles seat change s.connections))
+      ∙ ap (view_over s.limits (held_in s) ds) (sym (own-requeued app s.handles seat change s.connections))
 
   pub view-elsewhere : (s : State) → found_connection (own_connections app s.handles s.connections) seat ≡ None → view s app ≡ view (with_queue seat change s) app
   view-elsewhere s e = view-connections app s (map (requeued seat change) s.connections) (sym (own-requeued app s.handles seat change s.connections ∙ elsewhere app s.handles seat change (own_connections app s.handles s.connections) e))

@@ -12,7 +12,7 @@ use Rattle.portal_model.specs.Arguments.{document_named, reached}
 use Rattle.portal_model.specs.Grant.{are_rights_arguments}
 use Rattle.portal_model.specs.Revoke.{may_revoke, names_itself, revoke, revoked, revoke_reached}
 use Rattle.portal_model.specs.Rights.{held_by, take_rights}
-use Rattle.portal_model.specs.State.{State, document_of, held_of}
+use Rattle.portal_model.specs.State.{State, document_of, held_in, held_of}
 use Rattle.portal_model.specs.Verdict.{does}
 use Rattle.portal_model.proofs.ListLookups.{nat_is}
 use Rattle.portal_model.proofs.TripleOrder.{is_same-sym}
@@ -50,7 +50,7 @@ module _ (app : List ℕ) (s : State) (call : RightsCall) (d : Document) where
   unchanged e = view-documents app s s.documents (take_rights call.app d.id.number set s.rights) (λ n. ap (λ (k : RightSet). seen k (document_of s.documents n)) (sym (e n)))
 
   pub taken-named : (less : RightSet) → minus (was d.id.number) set ≡ minus (was d.id.number) less → is_same app call.app ≡ true → apply (view s app) (Lost d.id less) ≡ view (revoked s call d) app
-  taken-named less g f = view-lost s.limits s.files s.documents was now (own_connections app s.handles s.connections) d.id less (λ n. now-named less g f n (n == d.id.number) refl)
+  taken-named less g f = view-lost s.limits (held_in s) s.documents was now (own_connections app s.handles s.connections) d.id less (λ n. now-named less g f n (n == d.id.number) refl)
 
   other-keeps : (n : ℕ) (b : Bool) → (n == d.id.number) ≡ b → is_same app call.app ≡ false → now n ≡ was n
   other-keeps n true e f = now-is n true false e f

@@ -9,7 +9,7 @@ use Rattle.portal_model.specs.declared.state.Document.{Document}
 use Rattle.portal_model.specs.Add.{adding_rights, caller_rights, listed_rights, with_rights_of}
 use Rattle.portal_model.specs.AddArguments.{names_nobody}
 use Rattle.portal_model.specs.Grant.{given_rights}
-use Rattle.portal_model.specs.State.{State, document_of, held_of, is_app}
+use Rattle.portal_model.specs.State.{State, document_of, held_in, held_of, is_app}
 use Rattle.portal_model.proofs.ListLookups.{is_same-refl, nat_is}
 use Rattle.app_world.specs.Add.{names_app}
 use Rattle.app_world.specs.Effect.{Gained, apply, apply_all}
@@ -61,7 +61,7 @@ joins-new documents held d e f = record {
 
 -- ---- what the application sees
 
-module _ (app : List ℕ) (s t : State) (d : Document) (limits : t.limits ≡ s.limits) (files : t.files ≡ s.files) (connections : t.connections ≡ s.connections) (handles : t.handles ≡ s.handles)
+module _ (app : List ℕ) (s t : State) (d : Document) (limits : t.limits ≡ s.limits) (tree : held_in t ≡ held_in s) (connections : t.connections ≡ s.connections) (handles : t.handles ≡ s.handles)
     (j : Joins s.documents t.documents (held_of s.rights app) d) where
   abbrev was : ℕ → RightSet
   was n = held_of s.rights app n
@@ -70,14 +70,14 @@ module _ (app : List ℕ) (s t : State) (d : Document) (limits : t.limits ≡ s.
   now n = held_of t.rights app n
 
   abbrev after : AppView
-  after = view_over s.limits s.files (held_documents now t.documents) (own_connections app s.handles s.connections)
+  after = view_over s.limits (held_in s) (held_documents now t.documents) (own_connections app s.handles s.connections)
 
   after-is : after ≡ view t app
-  after-is = λ i. view_over (sym limits i) (sym files i) (held_documents now t.documents) (own_connections app (sym handles i) (sym connections i))
+  after-is = λ i. view_over (sym limits i) (sym tree i) (held_documents now t.documents) (own_connections app (sym handles i) (sym connections i))
 
   -- it gains these rights
   pub joined-gained : (more : RightSet) → ((n : ℕ) → now n ≡ cond (d.id.number == n) (union (was n) more) (was n)) → apply (view s app) (Gained d more (holding_at s.files d)) ≡ view t app
-  joined-gained more rights = view-gained s.limits s.files s.documents t.documents was now (own_connections app s.handles s.connections) d more j.live rights j.there ∙ after-is
+  joined-gained more rights = view-gained s.limits (held_in s) s.documents t.documents was now (own_connections app s.handles s.connections) d more j.live rights j.there ∙ after-is
 
   seen-still : ((n : ℕ) → now n ≡ was n) → (n : ℕ) (b : Bool) → (d.id.number == n) ≡ b → seen (was n) (document_of s.documents n) ≡ seen (was n) (cond b (Some d) (document_of s.documents n))
   seen-still rights n true e = subst (λ (m : ℕ). seen (was m) (document_of s.documents m) ≡ seen (was m) (Some d)) (nat_is d.id.number n e) j.there
@@ -86,7 +86,7 @@ module _ (app : List ℕ) (s t : State) (d : Document) (limits : t.limits ≡ s.
   -- it gains nothing
   pub joined-same : ((n : ℕ) → now n ≡ was n) → view s app ≡ view t app
   joined-same rights =
-      ap (λ ds. view_over s.limits s.files ds (own_connections app s.handles s.connections))
+      ap (λ ds. view_over s.limits (held_in s) ds (own_connections app s.handles s.connections))
       (documents-same was now s.documents t.documents (λ n. seen-still rights n (d.id.number == n) refl ∙ (λ i. seen (sym (rights n) i) (sym (j.live n) i))))
       ∙ after-is
 

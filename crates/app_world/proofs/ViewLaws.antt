@@ -2,8 +2,9 @@
 use Rattle.std.proofs.Common.{◌≡◌, ℕ, ◌==◌, List, [], ◌∷◌, ◌++◌, map, Bool, true, false, ◌||◌, cond, Some, None, refl, sym, ap, ◌∙◌, arith}
 use Rattle.std.specs.List.{filter}
 use Rattle.std.specs.Option.{option_map}
+use Rattle.file_generations.specs.Generations.{Held, all_held}
 use Rattle.portal_base.specs.Names.{is_same}
-use Rattle.portal_base.specs.declared.files.File.{File}
+use Rattle.portal_base.specs.declared.files.FileName.{FileName}
 use Rattle.portal_base.specs.declared.limits.Limits.{Limits}
 use Rattle.portal_base.specs.declared.who.Kind.{Kind}
 use Rattle.portal_base.specs.declared.who.Who.{Who}
@@ -14,16 +15,17 @@ use Rattle.portal_model.specs.declared.rights.Right.TheVariants.{Read, Write, Gr
 use Rattle.portal_model.specs.declared.state.Connection.{Connection}
 use Rattle.portal_model.specs.declared.state.Document.{Document}
 use Rattle.portal_model.specs.declared.state.Triple.{Triple}
-use Rattle.portal_model.specs.State.{State, app_has, connection_of, document_of, gives, handles_of, held_of, is_app}
+use Rattle.portal_model.specs.State.{State, app_has, connection_of, document_of, gives, handles_of, held_in, held_of, is_app}
 use Rattle.portal_model.specs.Step.{all_told, told_of}
 use Rattle.portal_model.specs.Valid.{Valid, is_none, is_host_bus, is_sound_connection}
 use Rattle.portal_model.proofs.ListLookups.{is_same-eq, nat_is, find-filter-none, find-filter-some, find-map, found_in_all}
 use Rattle.portal_model.proofs.WhoWaits.{none-nil}
 use Rattle.app_world.specs.Laws.{with_document, with_right}
-use Rattle.app_world.specs.View.{HeldDocument, OwnConnection, TakesAlike, found_connection, folder_paths, held_documents, is_among, is_held, is_plain_document, named_paths, number_of, own_connection, own_connections, own_handle, paths_where, prune, pruned, seen, view, view_over}
+use Rattle.app_world.specs.View.{HeldDocument, OwnConnection, TakesAlike, found_connection, folder_paths, held_documents, is_among, is_held, is_held_name, is_plain_document, named_paths, names_held, number_of, own_connection, own_connections, own_handle, paths_where, prune, pruned, seen, view, view_over}
 use Rattle.app_world.proofs.ContentLaws.{below-fewer, below-same, contents-fewer, contents-same}
 use Rattle.app_world.proofs.DocumentLaws.{documents-are, documents-found, documents-rising, kept-seen, seen-nothing}
 use Rattle.app_world.proofs.Found.{find-kept, kept}
+use Rattle.app_world.proofs.NamedFiles.{named-fewer, named-same}
 use Rattle.app_world.proofs.Orders.{numbers}
 use Rattle.portal_model.proofs.RisingLists.{rising-filter}
 
@@ -48,22 +50,23 @@ view-alike app s t a =
       connections = cs;
       contents = contents-same s.files t.files (named_paths ds cs) a.contents i;
       below = below-same s.files t.files (folder_paths ds) a.below i;
+      files = named-same (all_held (held_in s)) (all_held (held_in t)) (names_held cs) a.files i;
     })
-    ∙ (λ i. view_over t.limits t.files (documents i) (a.connections i))
+    ∙ (λ i. view_over t.limits (held_in t) (documents i) (a.connections i))
 
 -- the same is seen of each number, and nothing else changes
 pub view-documents : (app : List ℕ) (s : State) (documents : List Document) (rights : List Triple) → ((n : ℕ) → seen (held_of s.rights app n) (document_of s.documents n) ≡ seen (held_of rights app n) (document_of documents n)) →
     view s app ≡ view (record s { documents = documents; rights = rights }) app
 view-documents app s documents rights e =
-    ap (λ (ds : List HeldDocument). view_over s.limits s.files ds (own_connections app s.handles s.connections)) (documents-same (held_of s.rights app) (held_of rights app) s.documents documents e)
+    ap (λ (ds : List HeldDocument). view_over s.limits (held_in s) ds (own_connections app s.handles s.connections)) (documents-same (held_of s.rights app) (held_of rights app) s.documents documents e)
 
 -- connections of others
 pub view-connections : (app : List ℕ) (s : State) (cs : List Connection) → own_connections app s.handles s.connections ≡ own_connections app s.handles cs → view s app ≡ view (record s { connections = cs }) app
-view-connections app s cs e = ap (view_over s.limits s.files (held_documents (held_of s.rights app) s.documents)) e
+view-connections app s cs e = ap (view_over s.limits (held_in s) (held_documents (held_of s.rights app) s.documents)) e
 
 -- and open handles
 pub view-open : (app : List ℕ) (s : State) (cs : List Connection) (hs : List OpenHandle) → own_connections app s.handles s.connections ≡ own_connections app hs cs → view s app ≡ view (record s { connections = cs; handles = hs }) app
-view-open app s cs hs e = ap (view_over s.limits s.files (held_documents (held_of s.rights app) s.documents)) e
+view-open app s cs hs e = ap (view_over s.limits (held_in s) (held_documents (held_of s.rights app) s.documents)) e
 
 -- a right that another application is given
 has-granted : (app : List ℕ) (rights : List Triple) (t : Triple) (number : ℕ) (right : Right) → is_same t.app app ≡ false → app_has (rights ++ t ∷ []) app number right ≡ app_has rights app number right
@@ -135,16 +138,18 @@ names-fewer-documents ps qs rest path e h = among-joined ps rest path ∙ by_fir
     by_first true k x = or-left (is_among ps path) (is_among rest path) (e k)
     by_first false k x = or-right (is_among ps path) (is_among rest path) x
 
--- connections that name no other paths
-pub prune-connections : (limits : Limits) (files : List File) (held : ℕ → RightSet) (documents : List Document) (cs more : List OwnConnection) →
+-- connections that name no other paths and no other files
+pub prune-connections : (limits : Limits) (tree : Held) (held : ℕ → RightSet) (documents : List Document) (cs more : List OwnConnection) →
     ((path : List ℕ) → is_among (named_paths [] more) path ≡ true → is_among (named_paths [] cs) path ≡ true) →
-    prune (record (view_over limits files (held_documents held documents) cs) { connections = more }) ≡ view_over limits files (held_documents held documents) more
-prune-connections limits files held documents cs more e =
+    ((name : FileName) → is_held_name (names_held more) name ≡ true → is_held_name (names_held cs) name ≡ true) →
+    prune (record (view_over limits tree (held_documents held documents) cs) { connections = more }) ≡ view_over limits tree (held_documents held documents) more
+prune-connections limits tree held documents cs more e f =
     let ds : List HeldDocument = held_documents held documents in
-    ap (λ (xs : List HeldDocument). pruned xs (record (view_over limits files ds cs) { connections = more })) (still_held held documents)
-    ∙ (λ i. record (view_over limits files ds more) {
-      contents = contents-fewer files (named_paths ds cs) (named_paths ds more) (λ path. names-fewer (paths_where is_plain_document ds) (named_paths [] cs) (named_paths [] more) path (e path)) i;
-      below = below-fewer files (folder_paths ds) (folder_paths ds) (λ path h. h) i;
+    ap (λ (xs : List HeldDocument). pruned xs (record (view_over limits tree ds cs) { connections = more })) (still_held held documents)
+    ∙ (λ i. record (view_over limits tree ds more) {
+      contents = contents-fewer tree.present (named_paths ds cs) (named_paths ds more) (λ path. names-fewer (paths_where is_plain_document ds) (named_paths [] cs) (named_paths [] more) path (e path)) i;
+      below = below-fewer tree.present (folder_paths ds) (folder_paths ds) (λ path h. h) i;
+      files = named-fewer (all_held tree) (names_held cs) (names_held more) f i;
     })
 
 -- ---- the connections of an application

@@ -70,6 +70,7 @@ own_replies-changed (effect.Gained d rights content ∷ fs) v more = own_replies
 own_replies-changed (effect.Lost id rights ∷ fs) v more = own_replies-changed fs (apply v (effect.Lost id rights)) more
 own_replies-changed (effect.Gone id ∷ fs) v more = own_replies-changed fs (apply v (effect.Gone id)) more
 own_replies-changed (effect.Bytes path generation content ∷ fs) v more = own_replies-changed fs (apply v (effect.Bytes path generation content)) more
+own_replies-changed (effect.Turned path generation content ∷ fs) v more = own_replies-changed fs (apply v (effect.Turned path generation content)) more
 
 one_entry : (app : List ℕ) (s : State) (e : Entry) (b : Bool) (more : List TraceItem) → makes app s e ≡ b → s.told ≡ true → Valid s → Lawful s e →
     own_replies (view s app) (cond b (item.Own (own_of s e) ∷ []) (map item_of (touch app s e)) ++ more) ≡ cond b (reply_at s e ∷ []) [] ++ own_replies (view (after s e) app) more

@@ -106,6 +106,7 @@ viewing documents contents = record {
   connections = [];
   contents = contents;
   below = [];
+  files = [];
 }
 
 -- the document of the file a.txt, with these rights and this content

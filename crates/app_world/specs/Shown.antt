@@ -1,14 +1,14 @@
--- What an application sees of the tree of files: the contents of its view, and what is at or below
--- its folders.
-use Rattle.std.specs.Prelude.{ℕ, ◌==◌, List, [], ◌∷◌, take, Bool, true, false, Option, Some, None, cond}
+-- What an application sees of the tree of files: the contents of its view, what is at or below its
+-- folders, and the files that its connections name.
+use Rattle.std.specs.Prelude.{ℕ, ◌==◌, ◌&&◌, List, [], ◌∷◌, take, Bool, true, false, not, Option, Some, None, cond}
 use Rattle.std.specs.List.{find}
 use Rattle.portal_base.specs.declared.files.ChildName.{ChildName}
 use Rattle.portal_base.specs.declared.files.FileName.{FileName}
 use Rattle.portal_base.specs.declared.files.Look.{Look}
 use Rattle.portal_model.specs.declared.entry.Fault.{Fault}
 use Rattle.portal_model.specs.Content.{Content, OfFile, OfFolder, NotThere, content_at, look_of}
-use Rattle.portal_model.specs.Walk.{Walk, Answers, Looks, Ends, Lists, Target, AtPath, Named, LastCall, Uses, Changes, Makes, names_listed}
-use Rattle.app_world.specs.View.{AppView, PathBelow, PathContent, found_content, is_at_or_below}
+use Rattle.portal_model.specs.Walk.{Walk, Answers, Looks, Ends, Lists, Target, AtPath, Named, LastCall, Uses, Changes, Makes, Freshens, Turns, names_listed}
+use Rattle.app_world.specs.View.{AppView, NamedFile, PathBelow, PathContent, found_content, found_named, is_at_or_below}
 
 -- the folder at or below which the path lies, where the view has one
 abbrev pub covering : List PathBelow → List ℕ → Option PathBelow
@@ -33,9 +33,14 @@ of_generation generation (OfFile g bytes moment) =
 of_generation generation OfFolder = NotThere false
 of_generation generation (NotThere room) = NotThere false
 
--- the file of a name
+-- the file of a name: as the view has it by that, or as it stands at its path
+abbrev pub shown_file : ℕ → Content → Option NamedFile → Content
+shown_file generation content None = of_generation generation content
+shown_file generation content (Some f) = OfFile generation f.bytes f.moment
+
 abbrev pub own_file : AppView → FileName → Content
-own_file v name = of_generation name.generation (own_content v name.path)
+own_file v name =
+    shown_file name.generation (own_content v name.path) (found_named v.files name)
 
 abbrev pub bytes_in : Content → List ℕ
 bytes_in (OfFile generation bytes moment) = bytes
@@ -55,6 +60,17 @@ is_place (OfFile generation bytes moment) = false
 is_place OfFolder = false
 is_place (NotThere room) = room
 
+-- what is there, or may be made there, stands in a folder
+abbrev pub has_parent : Content → Bool
+has_parent (OfFile generation bytes moment) = true
+has_parent OfFolder = true
+has_parent (NotThere room) = room
+
+abbrev pub is_folder_there : Content → Bool
+is_folder_there (OfFile generation bytes moment) = false
+is_folder_there OfFolder = true
+is_folder_there (NotThere room) = false
+
 -- ---- walks
 
 abbrev pub own_shown_at : AppView → Target → Look
@@ -65,6 +81,9 @@ abbrev pub own_found : AppView → LastCall → Bool
 own_found v (Uses name) = is_file (own_file v name)
 own_found v (Changes name) = is_file (own_file v name)
 own_found v (Makes path) = is_place (own_content v path)
+own_found v (Freshens name) = has_parent (own_content v name.path)
+own_found v (Turns name) =
+    is_file (own_file v name) && not (is_folder_there (own_content v name.path))
 
 -- the looks that a walk takes, where none fails
 abbrev pub own_looks : {X : Type 0} → AppView → Walk X → List Look

@@ -17,6 +17,7 @@ pub data TraceItem : Type 0 where
   Lost : DocId → RightSet → TraceItem
   Gone : DocId → TraceItem
   Bytes : List ℕ → ℕ → Content → TraceItem
+  Turned : List ℕ → ℕ → Content → TraceItem
 
 -- the item that tells an effect
 abbrev pub item_of : Effect → TraceItem
@@ -24,3 +25,4 @@ item_of (effect.Gained d rights holding) = Gained d rights holding
 item_of (effect.Lost id rights) = Lost id rights
 item_of (effect.Gone id) = Gone id
 item_of (effect.Bytes path generation content) = Bytes path generation content
+item_of (effect.Turned path generation content) = Turned path generation content

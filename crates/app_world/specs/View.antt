@@ -1,10 +1,12 @@
 -- What the portal is to one application. It holds nothing of other applications' rights,
 -- documents, numbers or connections.
-use Rattle.std.specs.Prelude.{◌≡◌, ℕ, ◌==◌, ◌||◌, nat_lt, List, [], ◌∷◌, ◌++◌, Bool, true, map, not, cond, Option, Some, None}
+use Rattle.std.specs.Prelude.{◌≡◌, ℕ, ◌==◌, ◌&&◌, ◌||◌, nat_lt, List, [], ◌∷◌, ◌++◌, Bool, true, map, not, cond, Option, Some, None}
 use Rattle.std.specs.List.{filter, find, flat_map, list_any}
-use Rattle.portal_base.specs.Content.{is_above}
+use Rattle.portal_base.specs.Content.{file_named, is_above}
+use Rattle.file_generations.specs.Generations.{Held, all_held}
 use Rattle.portal_base.specs.Names.{is_same}
 use Rattle.portal_base.specs.declared.files.File.{File}
+use Rattle.portal_base.specs.declared.files.FileName.{FileName}
 use Rattle.portal_base.specs.declared.limits.Limits.{Limits}
 use Rattle.portal_base.specs.declared.who.Kind.{Kind}
 use Rattle.rights_rule.specs.Rights.{RightSet, holds_any}
@@ -15,7 +17,7 @@ use Rattle.portal_model.specs.declared.state.Connection.{Connection}
 use Rattle.portal_model.specs.declared.state.Document.{Document}
 use Rattle.portal_model.specs.declared.temporary.OwnTemp.{OwnTemp}
 use Rattle.portal_model.specs.Content.{Content, content_at}
-use Rattle.portal_model.specs.State.{State, document_of, handles_of, held_of, is_app}
+use Rattle.portal_model.specs.State.{State, document_of, handles_of, held_in, held_of, is_app}
 use Rattle.portal_model.specs.Ordered.{bytes_less, put_all}
 
 -- a document in which the application has a right, and the rights that it has in it
@@ -46,10 +48,17 @@ pub record PathContent : Type 0 where
   pub path : List ℕ
   pub content : Content
 
--- the files at or below the path of a document that is a folder, in byte order of their paths
+-- the files that stand at or below the path of a document that is a folder, in byte order of their
+-- paths
 pub record PathBelow : Type 0 where
   pub path : List ℕ
   pub files : List File
+
+-- a file by its name, be it the one that stands at its path or another
+pub record NamedFile : Type 0 where
+  pub name : FileName
+  pub bytes : List ℕ
+  pub moment : ℕ
 
 -- What there is for a document: the content of its path, or of one that is a folder the files at or
 -- below it.
@@ -71,6 +80,9 @@ pub record AppView : Type 0 where
   pub contents : List PathContent
   -- and at or below that of each document which is a folder, in order of these
   pub below : List PathBelow
+  -- the files that are there of those that open files and temporaries name, in order of their paths
+  -- and then of their generations
+  pub files : List NamedFile
 
 -- ---- the lists and their orders
 
@@ -208,31 +220,81 @@ abbrev pub holding_at : List File → Document → Holding
 holding_at files d =
     cond d.folder (Below (files_below files d.path)) (Alone (content_at files d.path))
 
+-- ---- files by their names
+
+abbrev pub same_name : FileName → FileName → Bool
+same_name a b = is_same a.path b.path && a.generation == b.generation
+
+abbrev pub name_less : FileName → FileName → Bool
+name_less a b =
+    cond (is_same a.path b.path) (nat_lt a.generation b.generation) (bytes_less a.path b.path)
+
+abbrev pub named_as : NamedFile → FileName
+named_as f = f.name
+
+abbrev pub named_ahead : NamedFile → NamedFile → Bool
+named_ahead x y = name_less (named_as x) (named_as y)
+
+abbrev pub found_named : List NamedFile → FileName → Option NamedFile
+found_named files name = find (λ f. same_name (named_as f) name) files
+
+-- an open file names itself, an open folder none
+abbrev pub names_of_handle : Handle → List FileName
+names_of_handle (Handle.File name node document strict read write) = name ∷ []
+names_of_handle (Handle.Folder node names) = []
+
+abbrev pub names_of_connection : OwnConnection → List FileName
+names_of_connection c =
+    flat_map (λ h. names_of_handle h.handle) c.handles ++ map (λ t. t.temp.file) c.temps
+
+-- the files that open files and temporaries name
+abbrev pub names_held : List OwnConnection → List FileName
+names_held connections = flat_map names_of_connection connections
+
+abbrev pub is_held_name : List FileName → FileName → Bool
+is_held_name names name = list_any (λ n. same_name n name) names
+
+-- the file, where it is there
+abbrev pub file_if : FileName → Option File → List NamedFile
+file_if name None = []
+file_if name (Some f) = record { name = name; bytes = f.bytes; moment = f.moment } ∷ []
+
+abbrev pub named_file : List File → FileName → List NamedFile
+named_file files name = file_if name (file_named files name)
+
+-- of these files
+abbrev pub files_at : List File → List FileName → List NamedFile
+files_at files names = put_all named_ahead (flat_map (named_file files) names)
+
 -- ---- the view
 
-abbrev pub view_over : Limits → List File → List HeldDocument → List OwnConnection → AppView
-view_over limits files documents connections = record {
+-- what stands at paths are the present files; by their names the others are known too
+abbrev pub view_over : Limits → Held → List HeldDocument → List OwnConnection → AppView
+view_over limits tree documents connections = record {
   handles = limits.handles;
   queued = limits.queued;
   file_bytes = limits.file_bytes;
   documents = documents;
   connections = connections;
-  contents = contents_at files (named_paths documents connections);
-  below = below_at files (folder_paths documents);
+  contents = contents_at tree.present (named_paths documents connections);
+  below = below_at tree.present (folder_paths documents);
+  files = files_at (all_held tree) (names_held connections);
 }
 
 abbrev pub view : State → List ℕ → AppView
 view s app =
-    view_over s.limits s.files
+    view_over s.limits (held_in s)
     (held_documents (held_of s.rights app) s.documents)
     (own_connections app s.handles s.connections)
 
--- documents without a right leave the view, and paths without a name
+-- documents without a right leave the view, and so do paths without a name, and files that nothing
+-- names
 abbrev pub pruned : List HeldDocument → AppView → AppView
 pruned documents v = record v {
   documents = documents;
   contents = filter (λ c. is_among (named_paths documents v.connections) (path_of c)) v.contents;
   below = filter (λ b. is_among (folder_paths documents) (folder_of b)) v.below;
+  files = filter (λ f. is_held_name (names_held v.connections) (named_as f)) v.files;
 }
 
 abbrev pub prune : AppView → AppView
@@ -257,13 +319,17 @@ covers v path = list_any (λ folder. is_at_or_below folder path) (folder_paths v
 abbrev pub knows : AppView → List ℕ → Bool
 knows v path = names v path || covers v path
 
+-- an open file or a temporary of the view names the file
+abbrev pub holds_name : AppView → FileName → Bool
+holds_name v name = is_held_name (names_held v.connections) name
+
 -- the document of a number, as the application sees it
 abbrev pub seen_at : State → List ℕ → ℕ → Option HeldDocument
 seen_at s app number = seen (held_of s.rights app number) (document_of s.documents number)
 
 -- What the view takes from the state is the same in both: the limits that the application meets,
 -- its connections, the document of each number as it sees it, what is at each path that it names,
--- and what is at or below each folder.
+-- what is at or below each folder, and each file that its connections name.
 pub record TakesAlike (app : List ℕ) (s t : State) : Type 0 where
   pub handles : s.limits.handles ≡ t.limits.handles
   pub queued : s.limits.queued ≡ t.limits.queued
@@ -277,3 +343,6 @@ pub record TakesAlike (app : List ℕ) (s t : State) : Type 0 where
   pub below :
       (path : List ℕ) → is_among (folder_paths (view s app).documents) path ≡ true →
       files_below s.files path ≡ files_below t.files path
+  pub files :
+      (name : FileName) → holds_name (view s app) name ≡ true →
+      named_file (all_held (held_in s)) name ≡ named_file (all_held (held_in t)) name

@@ -191,6 +191,8 @@ own_replies v (item.Lost id rights ∷ more) = own_replies (apply v (effect.Lost
 own_replies v (item.Gone id ∷ more) = own_replies (apply v (effect.Gone id)) more
 own_replies v (item.Bytes path generation content ∷ more) =
     own_replies (apply v (effect.Bytes path generation content)) more
+own_replies v (item.Turned path generation content ∷ more) =
+    own_replies (apply v (effect.Turned path generation content)) more
 
 abbrev pub app_run : Trace → List Reply
 app_run t = own_replies t.opening t.items

@@ -13,8 +13,7 @@ use Rattle.portal_model.specs.Step.{bus_of, bus_step, collect_step, mount_of, no
 use Rattle.portal_model.specs.Valid.{Valid, is_caller, is_host_bus, is_none, is_sound_change, is_sound_connection}
 use Rattle.portal_model.proofs.DocumentChanges.{first_of_both, second_of_both}
 use Rattle.portal_model.proofs.ListLookups.{found_in_all}
-use Rattle.portal_model.proofs.Queues.{is_sound_queue, sound_bound}
-
+use Rattle.portal_model.proofs.Queues.{is_sound_queue}
 abbrev AreSound : List Change → Type 0
 AreSound changes = list_all is_sound_change changes ≡ true
 
@@ -23,7 +22,7 @@ one_sound queued c h =
     let waits = is_none c.unsent || is_host_bus c.who c.kind in
     let changes = list_all is_sound_change c.unsent in
     let queue = is_sound_queue queued c.queue in
-    first_of_both changes queue (second_of_both waits (changes && queue) (second_of_both (is_caller c.who) (waits && (changes && queue)) (sound_bound queued c h)))
+    first_of_both changes queue (second_of_both waits (changes && queue) (second_of_both (is_caller c.who) (waits && (changes && queue)) h))
 
 -- the changes that the connection waits for, where there is one
 abbrev WaitsSound : Option Connection → Type 0

@@ -11,14 +11,15 @@ use Rattle.portal_model.specs.Content.{Content, OfFile, OfFolder, NotThere}
 use Rattle.portal_model.specs.Reach.{Reaching, may_read_now, open_file_of}
 use Rattle.app_world.specs.Node.{own_reach}
 use Rattle.app_world.specs.Own.{Own}
-use Rattle.app_world.specs.View.{Alone, AppView, Below, HeldDocument, Holding, OwnConnection, PathBelow, PathContent, is_of_document}
+use Rattle.app_world.specs.View.{Alone, AppView, Below, HeldDocument, Holding, NamedFile, OwnConnection, PathBelow, PathContent, is_of_document}
 
 -- ---- which files it may read
 
 abbrev pub file_of : List ℕ → ℕ → FileName
 file_of path generation = record { path = path; generation = generation }
 
--- by the right to read a document: the file that is at its path, or lies below one that is a folder
+-- by the right to read a document: a file of its path, present or not, or one that lies below a
+-- document that is a folder
 abbrev pub reads_document : FileName → HeldDocument → Bool
 reads_document name d = d.rights.read && is_of_document d.document name.path
 
@@ -67,11 +68,19 @@ blind_file sees f = cond (sees (file_of f.path f.generation)) f (hidden_file f)
 abbrev pub blind_below : (FileName → Bool) → PathBelow → PathBelow
 blind_below sees b = record b { files = map (blind_file sees) b.files }
 
+-- and of a file that is known by its name
+abbrev pub hidden_named : NamedFile → NamedFile
+hidden_named f = record f { bytes = replicate (length f.bytes) 0 }
+
+abbrev pub blind_named : (FileName → Bool) → NamedFile → NamedFile
+blind_named sees f = cond (sees f.name) f (hidden_named f)
+
 -- all but the bytes of files that aren't in sight
 abbrev pub blind_but : (FileName → Bool) → AppView → AppView
 blind_but sees v = record v {
   contents = map (blind_content sees) v.contents;
   below = map (blind_below sees) v.below;
+  files = map (blind_named sees) v.files;
 }
 
 abbrev pub blinded : AppView → AppView

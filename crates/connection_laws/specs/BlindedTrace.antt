@@ -9,10 +9,10 @@ use Rattle.portal_model.specs.Content.{Content, OfFile, OfFolder, NotThere}
 use Rattle.portal_model.specs.History.{makes}
 use Rattle.portal_model.specs.State.{State}
 use Rattle.portal_model.specs.Step.{after}
-use Rattle.app_world.specs.Effect.{Effect, Gained, Lost, Gone, Bytes}
+use Rattle.app_world.specs.Effect.{Effect, Gained, Lost, Gone, Bytes, Turned}
 use Rattle.app_world.specs.TraceItem as item
 use Rattle.app_world.specs.TraceItem.{TraceItem, item_of}
-use Rattle.app_world.specs.View.{AppView, view}
+use Rattle.app_world.specs.View.{AppView, NamedFile, view}
 use Rattle.app_world.specs.World.{Trace, own_of, touch}
 use Rattle.connection_laws.specs.Blinded.{blinded, file_of, hidden, hidden_holding, own_blinded, reads}
 
@@ -22,6 +22,7 @@ hidden_effect (Gained d rights holding) = Gained d rights (hidden_holding holdin
 hidden_effect (Lost id rights) = Lost id rights
 hidden_effect (Gone id) = Gone id
 hidden_effect (Bytes path generation content) = Bytes path generation (hidden content)
+hidden_effect (Turned path generation content) = Turned path generation (hidden content)
 
 -- the bytes of a file that is in sight
 abbrev pub sight_at : (FileName → Bool) → List ℕ → Content → List Effect
@@ -34,11 +35,15 @@ sight_at sees path (NotThere room) = []
 abbrev pub sight_of : (FileName → Bool) → File → List Effect
 sight_of sees f = sight_at sees f.path (OfFile f.generation f.bytes f.moment)
 
+abbrev pub sight_of_named : (FileName → Bool) → NamedFile → List Effect
+sight_of_named sees f = sight_at sees f.name.path (OfFile f.name.generation f.bytes f.moment)
+
 -- the bytes of all that is in sight of a view
 abbrev pub sights : AppView → List Effect
 sights v =
     flat_map (λ c. sight_at (reads v) c.path c.content) v.contents
-    ++ flat_map (λ b. flat_map (sight_of (reads v)) b.files) v.below
+    ++ (flat_map (λ b. flat_map (sight_of (reads v)) b.files) v.below
+    ++ flat_map (sight_of_named (reads v)) v.files)
 
 -- What others change, where they change anything: all but bytes, and then what is in sight of the
 -- view after it. So where the right to read is gained, the bytes come as news.

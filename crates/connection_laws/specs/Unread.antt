@@ -14,7 +14,7 @@ use Rattle.portal_model.specs.Step.{after, reply_at}
 use Rattle.portal_model.specs.Valid.{Valid}
 use Rattle.app_world.specs.Effect.{apply_all, file_of}
 use Rattle.app_world.specs.Own.{Own}
-use Rattle.app_world.specs.View.{AppView, PathBelow, PathContent, view}
+use Rattle.app_world.specs.View.{AppView, NamedFile, PathBelow, PathContent, view}
 use Rattle.app_world.specs.World.{Trace, app_run, app_step, own_of, touch}
 use Rattle.session.specs.declared.act.Client.{Client}
 use Rattle.session.specs.declared.served.Stop.{Stop}
@@ -45,6 +45,13 @@ with_file_below v front back folder first last name bytes moment =
       below = front ++ record { path = folder; files = first ++ file ∷ last } ∷ back;
     }
 
+-- and one that knows it by its name
+abbrev pub with_file_named :
+    AppView → List NamedFile → List NamedFile → FileName → List ℕ → ℕ → AppView
+with_file_named v front back name bytes moment = record v {
+  files = front ++ record { name = name; bytes = bytes; moment = moment } ∷ back;
+}
+
 -- an entry that the application makes, over a tree that tells its files
 pub record IsOwnEntry (app : List ℕ) (s : State) (e : Entry) : Type 0 where
   pub told : s.told ≡ true
@@ -65,6 +72,11 @@ pub record UnreadBytesAreInNoReply : Type 0 where
       reads v name ≡ false → length bytes ≡ length other →
       (app_step (with_file_below v front back folder first last name bytes moment) own).1
       ≡ (app_step (with_file_below v front back folder first last name other moment) own).1
+  pub named :
+      (v : AppView) (front back : List NamedFile) (name : FileName) (bytes other : List ℕ)
+      (moment : ℕ) (own : Own) → reads v name ≡ false → length bytes ≡ length other →
+      (app_step (with_file_named v front back name bytes moment) own).1
+      ≡ (app_step (with_file_named v front back name other moment) own).1
   -- views that are equal when blinded give equal replies to requests that are
   pub reply :
       (v w : AppView) (own other : Own) → blinded v ≡ blinded w →

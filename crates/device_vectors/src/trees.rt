@@ -74,8 +74,11 @@ fn put_step<T: HostTree>(
     path: &str,
     rest: &str,
 ) -> Result<(), VectorError> {
+    let (path, generation) = match path.split_once('#') {
+        Some((path, generation)) => (path, number(generation)?),
+        None => (path, u64::from(kind == "later")),
+    };
     let path = given(alloc, HostPath::read(alloc, path.as_bytes()))?;
-    let generation = u64::from(kind == "later");
     let file = FileName { path, generation };
     let put = put_answer(alloc, out, tree, kind, &file, rest);
     drop(file);
@@ -84,7 +87,8 @@ fn put_step<T: HostTree>(
 
 /// `look PATH`, `list PATH`, `create PATH NOW`, `settle PATH`; and of the file of a path
 /// `attr PATH`, `read PATH OFFSET SIZE`, `write PATH OFFSET NOW BYTES`, `len PATH SIZE NOW`,
-/// `sync PATH`, `later PATH`, which asks for its generation 1.
+/// `sync PATH`, `fresh PATH NOW`, `turn PATH`, `later PATH`, which asks for its generation 1.
+/// Behind a path `#` and a number name a generation.
 fn put_answer<T: HostTree>(
     alloc: Global,
     out: &mut String,
@@ -180,6 +184,7 @@ fn put_change<T: HostTree>(
     rest: &str,
 ) -> Result<(), VectorError> {
     let (second, content) = cut(rest);
+<<<<<<< ours
     match kind {
         "create" => put_shown(out, &tree.create(&file.path, number(first)?)),
         "write" => put_write(alloc, out, tree, file, first, second, content),
@@ -202,4 +207,20 @@ fn put_write<T: HostTree>(
     let (offset, now) = (number(offset)?, number(now)?);
     let content = bytes(alloc, content)?;
     put_shown(out, &tree.write(file, offset, content.as_slice(), now))
+=======
+    let answer = match kind {
+        "write" => tree.write(
+            file,
+            number(first)?,
+            bytes(alloc, content)?.as_slice(),
+            number(second)?,
+        ),
+        "len" => tree.set_len(file, number(first)?, number(second)?),
+        "sync" => tree.sync(file),
+        "fresh" => tree.fresh(file, number(first)?),
+        "turn" => tree.turn(file),
+        _ => return bad(),
+    };
+    Ok(write!(out, "{answer:?}")?)
+>>>>>>> theirs
 }

@@ -7,6 +7,7 @@
 #![tactic(auto)]
 
 mod answers;
+mod beside;
 mod devices;
 mod folder;
 mod links;
@@ -39,6 +40,9 @@ fn answer<R: System>(
         "became" => replaced::became(rt, system, alloc, rest),
         "given-up" => replaced::given_up(rt, system, alloc, rest),
         "mode" => replaced::mode(rt, system, alloc, rest),
+        "beside" => beside::beside(rt, system, alloc, rest),
+        "kept" => beside::kept(system, alloc, rest),
+        "mode-of" => beside::mode_of(system, alloc, rest),
         "link" => folder::link(system, alloc, rest),
         "file" => folder::file(system, alloc, rest),
         "bind" => links::bind(system, alloc, rest),

@@ -66,13 +66,18 @@ fn answer_away<T: HostTree>(
 }
 
 /// `look PATH`, `list PATH`, `create PATH NOW`; and of the file of a path `attr PATH`, `later
-/// PATH`, which asks for its generation 1, `read PATH OFFSET SIZE`, and a change.
-fn answer<T: HostTree>(alloc: Global, tree: &mut T, step: &str) -> Result<String, VectorError> {
+/// PATH`, which asks for its generation 1, `read PATH OFFSET SIZE`, and a change. Behind a
+/// path `#` and a number name a generation.
+pub fn answer<T: HostTree>(alloc: Global, tree: &mut T, step: &str) -> Result<String, VectorError> {
     let (kind, rest) = cut(step);
     let (path, rest) = cut(rest);
+    let (path, generation) = match path.split_once('#') {
+        Some((path, generation)) => (path, number(generation)?),
+        None => (path, u64::from(kind == "later")),
+    };
     let file = FileName {
         path: given(alloc, HostPath::read(alloc, path.as_bytes()))?,
-        generation: u64::from(kind == "later"),
+        generation,
     };
     let told = answer_of(alloc, tree, kind, &file, rest);
     drop(file);
@@ -164,7 +169,8 @@ fn read_told(alloc: Global, answer: &TreeRead) -> Result<String, VectorError> {
     }
 }
 
-/// `write PATH OFFSET NOW BYTES`, `len PATH SIZE NOW`, `sync PATH`.
+/// `write PATH OFFSET NOW BYTES`, `len PATH SIZE NOW`, `sync PATH`, `fresh PATH NOW`, `turn
+/// PATH`.
 fn change<T: HostTree>(
     alloc: Global,
     tree: &mut T,
@@ -172,10 +178,13 @@ fn change<T: HostTree>(
     file: &FileName,
     rest: &str,
 ) -> Result<TreeDone, VectorError> {
-    if kind == "sync" {
-        return Ok(tree.sync(file));
-    }
     let (place, rest) = cut(rest);
+    match kind {
+        "sync" => return Ok(tree.sync(file)),
+        "turn" => return Ok(tree.turn(file)),
+        "fresh" => return Ok(tree.fresh(file, number(place)?)),
+        _ => {}
+    }
     let (now, content) = cut(rest);
     let (place, now) = (number(place)?, number(now)?);
     match kind {

@@ -18,7 +18,7 @@ use Rattle.portal_model.specs.NodeVerdict.{FileChange, FilesStay, Writes, Resize
 use Rattle.portal_model.specs.NodeOutside.{LawfulNode}
 use Rattle.portal_model.specs.Outside.{files_told}
 use Rattle.portal_model.specs.Place.{Exported, FolderOf, RootOf, Views, Sight, SightBelow, SightOfFile, SightOfFolder, sight_on}
-use Rattle.portal_model.specs.State.{State, connection_of, handle_of, held_of}
+use Rattle.portal_model.specs.State.{State, connection_of, held_in, held_of}
 use Rattle.portal_model.specs.Step.{after, all_told, mount_of, node_step}
 use Rattle.portal_model.specs.Valid.{Valid}
 use Rattle.portal_model.specs.Walk.{Gives}
@@ -33,36 +33,18 @@ use Rattle.app_world.specs.World.{touch}
 use Rattle.app_world.proofs.ContentLaws.{contents-found}
 use Rattle.app_world.proofs.NamedPaths.{HandleOn, SightOn}
 use Rattle.app_world.proofs.ShownLaws.{IsFoundSo, IsOneOf, covered-by-one}
-use Rattle.app_world.proofs.WalksAlong.{CanBe, CanChange, given-can, walk-along}
+use Rattle.app_world.proofs.WalksAlong.{AnyCall, AnyName, AnyPath, AnyTarget, CanBe, CanChange, all-along, given-can}
 use Rattle.file_laws.specs.Touches.{AreBytesOf, if_known, path_changed, path_changed_on, path_if, path_told}
 use Rattle.file_laws.proofs.ChangedContents.{made-now, resized-now, written-now}
 use Rattle.file_laws.proofs.ChangedPaths.{ChangesPath, path_of_change, walk-path}
 
 -- ---- what is done can be done
 
-abbrev Any : List ℕ → Type 0
-Any path = Unit {0}
-
-any-sight : (o : Option Sight) → SightOn Any Any o
-any-sight None = tt
-any-sight (Some (SightOfFile d may_write)) = tt
-any-sight (Some (SightBelow view d path may_write)) = tt
-any-sight (Some (SightOfFolder (RootOf view numbers has_views))) = tt
-any-sight (Some (SightOfFolder (Views applications))) = tt
-any-sight (Some (SightOfFolder (FolderOf view d may_write))) = tt
-any-sight (Some (SightOfFolder (Exported view d path may_write))) = tt
-
-any-handle : (o : Option Handle) → HandleOn Any o
-any-handle None = tt
-any-handle (Some (Handle.File name node document strict read write)) = tt
-any-handle (Some (Handle.Folder node entries)) = tt
-
-can-be : (t : State) (c : Connection) (r : NodeRequest) (given : Given) → LawfulNode t c r given → t.told ≡ true → CanBe t.files Any (node_given (walk_on_node t c r) given)
+can-be : (t : State) (c : Connection) (r : NodeRequest) (given : Given) → LawfulNode t c r given → t.told ≡ true → CanBe (held_in t) AnyName AnyName (node_given (walk_on_node t c r) given)
 can-be t c r given l told =
-    given-can t.files Any (λ target. Unit {0}) (λ call. Unit {0}) Any (walk_on_node t c r) (moment_given given.now) given.listed given.looks (is_tree given.fault)
-    (subst (λ (b : Bool). Gives (cond b (Some t.files) None) (walk_on_node t c r) given.looks (is_tree given.fault)) told l.looks)
-    (walk-along t.files Any (λ target. Unit {0}) (λ call. Unit {0}) Any Any (λ path h. tt) (λ path name p h e. tt) (λ path h. tt) (λ path h. tt) (λ name h. tt) (λ name h. tt) (λ name h. tt) (λ path h e. tt) (facts_of t c r.node) r r.op
-    (any-sight (sight_on t c r.node)) (λ fh. any-handle (handle_of t.handles c.seat fh)))
+    given-can (held_in t) AnyName AnyName AnyTarget AnyCall AnyPath (walk_on_node t c r) (moment_given given.now) given.listed given.looks (is_tree given.fault)
+    (subst (λ (b : Bool). Gives (cond b (Some (held_in t)) None) (walk_on_node t c r) given.looks (is_tree given.fault)) told l.looks)
+    (all-along (held_in t) AnyName (facts_of t c r.node) r r.op (λ path. tt))
 
 -- ---- what is told
 
@@ -99,7 +81,7 @@ module _ (app : List ℕ) (s : State) where
   name-told : (files : List File) (name : FileName) (bytes : List ℕ) (now : ℕ) → content_at files name.path ≡ OfFile name.generation bytes now → AreBytesOf v files (if_known v (Some name.path)) (bytes_at v name bytes now)
   name-told files name bytes now h = known-at files name bytes now (knows v name.path) refl h
 
-  change-told : IsDistinct is_same (map (λ (f : File). f.path) s.files) → (change : FileChange) → CanChange s.files change → AreBytesOf v (files_after true change s.files) (if_known v (path_of_change change)) (bytes_effects v (bytes_named s.files) change)
+  change-told : IsDistinct is_same (map (λ (f : File). f.path) s.files) → (change : FileChange) → CanChange (held_in s) AnyName AnyName change → AreBytesOf v (files_after true change s.files) (if_known v (path_of_change change)) (bytes_effects v (bytes_named s.files) change)
   change-told differ FilesStay h = refl
   change-told differ (Writes name offset [] now) h = refl
   change-told differ (Writes name offset (b ∷ bs) now) h = name-told (files_after true (Writes name offset (b ∷ bs) now) s.files) name (overlaid (bytes_named s.files name) offset (b ∷ bs)) now (written-now s.files differ name h offset b bs now)
@@ -107,12 +89,12 @@ module _ (app : List ℕ) (s : State) where
   change-told differ (Creates path now) h = name-told (files_after true (Creates path now) s.files) (record { path = path; generation = 0 }) [] now (made-now s.files path now h.0)
 
   -- over a tree that tells its files or not
-  told-by : IsDistinct is_same (map (λ (f : File). f.path) s.files) → (b : Bool) (change : FileChange) → (b ≡ true → CanChange s.files change) →
+  told-by : IsDistinct is_same (map (λ (f : File). f.path) s.files) → (b : Bool) (change : FileChange) → (b ≡ true → CanChange (held_in s) AnyName AnyName change) →
       AreBytesOf v (files_after b change s.files) (path_if b (if_known v (path_of_change change))) (cond b (bytes_effects v (bytes_named s.files) change) [])
   told-by differ true change h = change-told differ change (h refl)
   told-by differ false change h = refl
 
-  verdict-told : (tree : Option (List File)) (c : Connection) (path : Option (List ℕ)) (o : Option NodeVerdict) → IsDistinct is_same (map (λ (f : File). f.path) s.files) → IfMet tree (ChangesPath path) o → (s.told ≡ true → CanBe s.files Any o) →
+  verdict-told : (tree : Option (List File)) (c : Connection) (path : Option (List ℕ)) (o : Option NodeVerdict) → IsDistinct is_same (map (λ (f : File). f.path) s.files) → IfMet tree (ChangesPath path) o → (s.told ≡ true → CanBe (held_in s) AnyName AnyName o) →
       AreBytesOf v (settled_on_node (all_told c.seat s) c o).0.files (path_if (is_done (settled_on_node (all_told c.seat s) c o).1 && s.told) (if_known v path)) (cond (is_done (settled_on_node (all_told c.seat s) c o).1) (verdict_touch app s o) [])
   verdict-told tree c path None differ m h = refl
   verdict-told tree c path (Some (Errs errno)) differ m h = refl

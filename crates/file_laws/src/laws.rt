@@ -4,6 +4,7 @@ ghost use Rattle.file_laws.specs.KeptHandles.{OlderHandlesKeepTheirRights};
 ghost use Rattle.file_laws.specs.OnlyAllowed.{OnlyAllowedIsDone};
 ghost use Rattle.file_laws.specs.Revocations.{NoOpenAfterARevocation};
 ghost use Rattle.file_laws.specs.StrictHandles.{StrictHandlesFollowRevocations};
+ghost use Rattle.file_laws.specs.Temporaries.{TemporariesAreUntold};
 ghost use Rattle.file_laws.specs.Touches.{TouchesAreOfWhatIsHeld};
 
 /// What an application opens it may read then, and write where it opens to write
@@ -29,14 +30,21 @@ pub fn strict_handles_follow_revocations()
 {}
 
 /// What the entries of others tell an application: a file that a request changes,
-/// once and as the tree has it then, where a document or an open file of the
-/// application names its path, or a document of it is a folder at or above that
+/// once and as the tree has it then, where an open file of the application names it,
+/// or it stands at a path that a document or an open file of it names, or a document of
+/// it is a folder at or above that path; a file that becomes the present one of such a
 /// path; all the rights that a request lists, for the
 /// application that it names, and that it had not before, in the document that the
 /// request names, uses again or makes; the listed rights that it had and loses; and
 /// that a document is gone which the application held. Nothing else.
 pub fn touches_are_of_what_is_held()
     ensures { TouchesAreOfWhatIsHeld }
+{}
+
+/// Until a temporary is renamed onto the document's name no entry on it tells another
+/// application anything: it is the file of the connection that made it alone.
+pub fn temporaries_are_untold()
+    ensures { TemporariesAreUntold }
 {}
 
 /// Over a tree that tells its files, where no device fails, what a seat asks is done

@@ -19,6 +19,7 @@ use Rattle.portal_model.specs.declared.reply.Answer.{Answer}
 use Rattle.portal_model.specs.declared.reply.Attr.{Attr}
 use Rattle.portal_model.specs.declared.reply.NodeAnswer.TheVariants as NodeAnswer
 use Rattle.portal_model.specs.declared.request.NodeRequest.{NodeRequest}
+use Rattle.portal_model.specs.declared.temporary.OwnTemp.{OwnTemp}
 use Rattle.portal_model.specs.Attributes.{attr_of_file, on_node}
 use Rattle.portal_model.specs.Bus.{is_tree, moment_given}
 use Rattle.portal_model.specs.Create.{Made, child_made, create, create_at, create_in, create_there}
@@ -28,7 +29,7 @@ use Rattle.portal_model.specs.Node.{files_after}
 use Rattle.portal_model.specs.NodeVerdict.{Creates, HandlesStay, Names, NamesStay, NodeVerdict, Opens, Room, by_look, by_place, errs, errs_if, errs_on_file, is_too_long, names_path, next_handle, no_file, spot}
 use Rattle.portal_model.specs.Open.{file_handle, has_no_mode}
 use Rattle.portal_model.specs.Place.{Exported, Folder}
-use Rattle.portal_model.specs.SeatNames.{lacks_number}
+use Rattle.portal_model.specs.SeatNames.{SeatTemps, lacks_number}
 use Rattle.portal_model.specs.Walk.{Answers, AtPath, Looks, Walk, walked_with}
 use Rattle.node_looks.specs.Done.{Reads, name_change, room_in}
 use Rattle.node_looks.specs.OpenHandles.{Handled}
@@ -149,21 +150,21 @@ module _ (walk : List Naming → Walk NodeVerdict) (folder : List Naming → Fol
 
 -- ---- LOOKUP
 
-module _ (r : NodeRequest) (p : Parent) (name : List ℕ) (long : Bool) (tests : long ≡ is_too_long name) (seat : ℕ) (table : HandleTable) (names : List (ℕ × Named)) (old : TreeIs) (done : NodeDone) where
+module _ (r : NodeRequest) (p : Parent) (name : List ℕ) (temps : List OwnTemp) (long : Bool) (tests : long ≡ is_too_long name) (seat : ℕ) (table : HandleTable) (names : List (ℕ × Named)) (old : TreeIs) (done : NodeDone) where
   abbrev looks_up : List Naming → Walk NodeVerdict
-  looks_up has = by_place (Some (parent_sight p)) (no_file enotdir) (lookup_in r has name)
+  looks_up has = by_place (Some (parent_sight p)) (no_file enotdir) (lookup_in r has temps name)
 
   pub lookup-long : (below : TriedBelow) (tried : Tried) (ended : Ended) → long ≡ true → done ≡ done_of_below below → below ≡ record { first = None; then = tried } → tried ≡ record { look = None; ended = ended } → ended ≡ refuses enametoolong →
-      NumberingWith (λ has. lookup r has name (Some (parent_sight p))) seat table names old done table names old
+      NumberingWith (λ has. lookup r has temps name (Some (parent_sight p))) seat table names old done table names old
   lookup-long below tried ended t d b u f = λ has h.
-      at-once-so (lookup r has name (Some (parent_sight p))) enametoolong seat table names old done below tried ended (if-wrong (is_too_long name) long enametoolong (looks_up has) tests t) d b u f
+      at-once-so (lookup r has temps name (Some (parent_sight p))) enametoolong seat table names old done below tried ended (if-wrong (is_too_long name) long enametoolong (looks_up has) tests t) d b u f
 
   pub lookup-numbering : (l : LookAnswer) (below : TriedBelow) (after : HandleTable) (named : List (ℕ × Named)) (mid new : TreeIs) → long ≡ false → done ≡ done_of_below below → Asks TreeCall.Look old (is_look_fault l) mid → Shows old.told p.path l →
-      NumberingBelow (found_below r p (named_child p.path name)) l seat table names mid below after named new → NumberingWith (λ has. lookup r has name (Some (parent_sight p))) seat table names old done after named new
+      NumberingBelow (found_below r p (named_child p.path name)) l seat table names mid below after named new → NumberingWith (λ has. lookup r has temps name (Some (parent_sight p))) seat table names old done after named new
   lookup-numbering l below after named mid new f d a s n = λ has h.
-      numbering-along (lookup r has name (Some (parent_sight p))) (looks_up has) seat table names old done after named new (if-right (is_too_long name) long enametoolong (looks_up has) tests f)
+      numbering-along (lookup r has temps name (Some (parent_sight p))) (looks_up has) seat table names old done after named new (if-right (is_too_long name) long enametoolong (looks_up has) tests f)
       (subst (λ (x : NodeDone). Numbering (looks_up has) seat table names old x after named new) (sym d)
-      (below-numbering (found_below r p (named_child p.path name)) (λ named_there. lookup_in r named_there name) p (λ named_there. refl) seat table names below after named old mid new l a s n has h))
+      (below-numbering (found_below r p (named_child p.path name)) (λ named_there. lookup_in r named_there temps name) p (λ named_there. refl) seat table names below after named old mid new l a s n has h))
 
 -- the entry of what is there
 module _ (r : NodeRequest) (p : Parent) (path : List ℕ) (has : List Naming) (shown : Look) (there : IsThere shown) where
@@ -195,32 +196,32 @@ module _ (r : NodeRequest) (p : Parent) (path : List ℕ) (has : List Naming) (s
 
 -- ---- CREATE
 
-module _ (r : NodeRequest) (p : Parent) (name : List ℕ) (flags : ℕ) (room : Room) (none : Bool) (modes : none ≡ has_no_mode flags) (seat : ℕ) (table : HandleTable) (names : List (ℕ × Named)) (old : TreeIs) (done : NodeDone) where
+module _ (r : NodeRequest) (p : Parent) (name : List ℕ) (flags : ℕ) (room : Room) (temps : SeatTemps) (none : Bool) (modes : none ≡ has_no_mode flags) (seat : ℕ) (table : HandleTable) (names : List (ℕ × Named)) (old : TreeIs) (done : NodeDone) where
   abbrev makes : List Naming → Walk NodeVerdict
-  makes has = by_place (Some (parent_sight p)) (no_file enotdir) (create_in r name flags room has)
+  makes has = by_place (Some (parent_sight p)) (no_file enotdir) (create_in r name flags room has temps)
 
   abbrev measures : List Naming → Walk NodeVerdict
   measures has = errs_if (is_too_long name) enametoolong (makes has)
 
   pub create-none : (below : TriedBelow) (tried : Tried) (ended : Ended) → none ≡ true → done ≡ done_of_below below → below ≡ record { first = None; then = tried } → tried ≡ record { look = None; ended = ended } → ended ≡ refuses einval →
-      NumberingWith (create r name flags (Some (parent_sight p)) room) seat table names old done table names old
+      NumberingWith (λ has. create r name flags (Some (parent_sight p)) room has temps) seat table names old done table names old
   create-none below tried ended t d b u f = λ has h.
-      at-once-so (create r name flags (Some (parent_sight p)) room has) einval seat table names old done below tried ended (if-wrong (has_no_mode flags) none einval (measures has) modes t) d b u f
+      at-once-so (create r name flags (Some (parent_sight p)) room has temps) einval seat table names old done below tried ended (if-wrong (has_no_mode flags) none einval (measures has) modes t) d b u f
 
   module _ (has_mode : none ≡ false) (long : Bool) (tests : long ≡ is_too_long name) where
     pub create-long : (below : TriedBelow) (tried : Tried) (ended : Ended) → long ≡ true → done ≡ done_of_below below → below ≡ record { first = None; then = tried } → tried ≡ record { look = None; ended = ended } → ended ≡ refuses enametoolong →
-        NumberingWith (create r name flags (Some (parent_sight p)) room) seat table names old done table names old
+        NumberingWith (λ has. create r name flags (Some (parent_sight p)) room has temps) seat table names old done table names old
     create-long below tried ended t d b u f = λ has h.
-        at-once-so (create r name flags (Some (parent_sight p)) room has) enametoolong seat table names old done below tried ended
+        at-once-so (create r name flags (Some (parent_sight p)) room has temps) enametoolong seat table names old done below tried ended
         (if-right (has_no_mode flags) none einval (measures has) modes has_mode ∙ if-wrong (is_too_long name) long enametoolong (makes has) tests t) d b u f
 
     pub create-numbering : (l : LookAnswer) (below : TriedBelow) (after : HandleTable) (named : List (ℕ × Named)) (mid new : TreeIs) → long ≡ false → done ≡ done_of_below below → Asks TreeCall.Look old (is_look_fault l) mid → Shows old.told p.path l →
-        NumberingBelow (made_below r flags room p (named_child p.path name)) l seat table names mid below after named new → NumberingWith (create r name flags (Some (parent_sight p)) room) seat table names old done after named new
+        NumberingBelow (made_below r flags room p (named_child p.path name)) l seat table names mid below after named new → NumberingWith (λ has. create r name flags (Some (parent_sight p)) room has temps) seat table names old done after named new
     create-numbering l below after named mid new f d a s n = λ has h.
-        numbering-along (create r name flags (Some (parent_sight p)) room has) (makes has) seat table names old done after named new
+        numbering-along (create r name flags (Some (parent_sight p)) room has temps) (makes has) seat table names old done after named new
         (if-right (has_no_mode flags) none einval (measures has) modes has_mode ∙ if-right (is_too_long name) long enametoolong (makes has) tests f)
         (subst (λ (x : NodeDone). Numbering (makes has) seat table names old x after named new) (sym d)
-        (below-numbering (made_below r flags room p (named_child p.path name)) (create_in r name flags room) p (λ named_there. refl) seat table names below after named old mid new l a s n has h))
+        (below-numbering (made_below r flags room p (named_child p.path name)) (λ named_there. create_in r name flags room named_there temps) p (λ named_there. refl) seat table names below after named old mid new l a s n has h))
 
 -- by one who may not write there
 pub denied-child : (r : NodeRequest) (flags : ℕ) (room : Room) (p : Parent) (has : List Naming) (o : Option (List ℕ)) (path : List ℕ) → o ≡ Some path → p.may_write ≡ false → made_below r flags room p o has ≡ errs eacces
@@ -261,7 +262,7 @@ module _ (r : NodeRequest) (flags : ℕ) (p : Parent) (naming : Naming) (writes 
 
 -- where nothing stands at the path
 module _ (r : NodeRequest) (flags : ℕ) (table : HandleTable) (seat : ℕ) (p : Parent) (naming : Naming) (has : List Naming) (names : List (ℕ × Named)) (name : FileName) (now : ℕ) (old new : TreeIs) (d : TreeDone) (first : name ≡ record { path = naming.path; generation = 0 })
-    (missing : IfSome old.told (λ files. Look.Missing ≡ look_at files name.path)) (creates : Changes TreeCall.Create (λ files. may_create files name.path) (files_after true (Creates name.path now)) old d new) where
+    (missing : IfSome old.told (λ held. Look.Missing ≡ look_at held.present name.path)) (creates : Changes TreeCall.Create (λ held. may_create held.present name.path) (files_after true (Creates name.path now)) old d new) where
   abbrev made : Made
   made = child_made has p.document naming
 

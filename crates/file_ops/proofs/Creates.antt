@@ -1,11 +1,10 @@
--- How a CREATE follows its walk, and what it leaves of the open handles.
-use Rattle.std.specs.Option.{option_map}
+-- How a CREATE of a first file follows its walk, and what it leaves of the open handles.
 use Rattle.std.proofs.Common.{◌≡◌, ℕ, List, Bool, true, false, not, ◌&&◌, Option, Some, None, is_some, refl, sym, ap, subst, ◌∙◌, IfSome}
+use Rattle.file_generations.specs.Generations.{Held}
 use Rattle.portal_base.specs.Content.{content_of, file_at, has_room, is_folder, look_at, look_of}
 use Rattle.portal_base.specs.declared.files.File.{File}
 use Rattle.portal_base.specs.declared.files.FileName.{FileName}
 use Rattle.portal_base.specs.declared.files.Look.{Look}
-use Rattle.portal_base.specs.declared.who.Who.{Who}
 use Rattle.host_tree.specs.Trees.{Asks, Changes, Does as DoesFiles, Looks as Shows, TreeIs, is_look_fault, may_create}
 use Rattle.host_tree.specs.declared.tree.TreeCall.TheVariants as TreeCall
 use Rattle.host_tree.specs.declared.tree.LookAnswer.{LookAnswer}
@@ -16,34 +15,24 @@ use Rattle.open_handles.specs.Opened.{HandleTable}
 use Rattle.portal_model.specs.declared.reply.NodeAnswer.{NodeAnswer}
 use Rattle.portal_model.specs.declared.reply.Attr.{Attr}
 use Rattle.portal_model.specs.declared.handle.Handle.{Handle}
-use Rattle.portal_model.specs.declared.request.NodeOp.{NodeOp}
 use Rattle.portal_model.specs.declared.request.NodeRequest.{NodeRequest}
-use Rattle.portal_model.specs.declared.naming.Naming.{Naming}
+use Rattle.portal_model.specs.declared.state.Document.{Document}
 use Rattle.portal_model.specs.Attributes.{attr_of_file, on_node}
-use Rattle.portal_model.specs.Create.{Made, create, create_at, create_there, created}
-use Rattle.portal_model.specs.Errno.{emfile, enoent}
-use Rattle.portal_model.specs.Node.{files_after, room_of}
+use Rattle.portal_model.specs.Create.{Made, create_at, create_own, create_there, created, own_made}
+use Rattle.portal_model.specs.Errno.{eacces, emfile, enoent}
+use Rattle.portal_model.specs.Node.{files_after}
 use Rattle.portal_model.specs.NodeVerdict.{NodeVerdict, Creates, Errs, HandlesStay, Opens, Room, Yields, errs_if, next_handle}
 use Rattle.portal_model.specs.Open.{file_handle}
-use Rattle.portal_model.specs.Place.{Sight, naming_on, place_of}
-use Rattle.portal_model.specs.State.{State}
 use Rattle.portal_model.specs.Walk.{AtPath, Ends, Looks, Makes, Walk, is_found}
-use Rattle.app_view.specs.Books.{Lends}
-use Rattle.app_view.specs.declared.book.ViewBook.{ViewBook}
-use Rattle.file_ops.specs.Creates.{Opening, OpeningBehind, target_walk}
-use Rattle.node_looks.specs.Done.{DoesAt, room_in}
+use Rattle.file_ops.specs.Creates.{Opening, OpeningBehind}
+use Rattle.node_looks.specs.Done.{room_in}
 use Rattle.node_looks.specs.OpenHandles.{Handled}
 use Rattle.file_ops.specs.Tries.{Goes, done_behind, done_of_ended, ended_by, refuses}
-use Rattle.file_ops.specs.declared.created.Target.{Target as NewTarget}
-use Rattle.node_looks.specs.declared.served.FileBook.{FileBook}
-use Rattle.node_looks.specs.declared.served.NodeCall.{NodeCall}
 use Rattle.node_looks.specs.declared.served.NodeDone.{NodeDone}
-use Rattle.node_looks.specs.declared.sight.SeenPlace.{SeenPlace}
-use Rattle.node_looks.specs.Sights.{sight_of}
 use Rattle.file_ops.specs.declared.tried.Came.TheVariants as came
 use Rattle.file_ops.specs.declared.tried.Ended.{Ended}
-use Rattle.node_looks.proofs.DoneLemmas.{IsExact, done-in, handled-after, handles-stay, room-is, room-stays, walk-is}
-use Rattle.file_ops.proofs.Tries.{behind-goes, ends-done, ends-failed, ends-missing, goes-done, refuses-goes, shows-path}
+use Rattle.node_looks.proofs.DoneLemmas.{handled-after, handles-stay, room-stays}
+use Rattle.file_ops.proofs.Tries.{behind-goes, ends-done, ends-failed, ends-missing, if-may, refuses-goes, shows-path}
 
 -- ---- a file that isn't there
 
@@ -53,17 +42,17 @@ room-by None true room e = cc
 room-by None false room e = refl
 
 -- where nothing stands at a path, a file may be made there exactly where there is room for one
-makes-by : (path : List ℕ) (change : List File → List File) (told : Option (List File)) (d : TreeDone) (new : Option (List File)) → IfSome told (λ files. Look.Missing ≡ look_at files path) →
-    DoesFiles (λ files. may_create files path) change told d new → DoesFiles (λ files. is_found files (Makes path)) change told d new
+makes-by : (path : List ℕ) (change : Held → Held) (told : Option Held) (d : TreeDone) (new : Option Held) → IfSome told (λ held. Look.Missing ≡ look_at held.present path) →
+    DoesFiles (λ held. may_create held.present path) change told d new → DoesFiles (λ held. is_found held (Makes path)) change told d new
 makes-by path change None done.Done new m h = h
-makes-by path change (Some files) done.Done new m h = (h.0, sym (room-by (file_at files path) (is_folder files path) (has_room files path) m) ∙ h.1)
+makes-by path change (Some held) done.Done new m h = (h.0, sym (room-by (file_at held.present path) (is_folder held.present path) (has_room held.present path) m) ∙ h.1)
 makes-by path change None done.NotFile new m h = h
-makes-by path change (Some files) done.NotFile new m h = (h.0, sym (room-by (file_at files path) (is_folder files path) (has_room files path) m) ∙ h.1)
+makes-by path change (Some held) done.NotFile new m h = (h.0, sym (room-by (file_at held.present path) (is_folder held.present path) (has_room held.present path) m) ∙ h.1)
 makes-by path change told done.Failed new m h = h
 makes-by path change told done.Memory new m h = h
 
-makes : (path : List ℕ) (change : List File → List File) (old : TreeIs) (d : TreeDone) (new : TreeIs) → IfSome old.told (λ files. Look.Missing ≡ look_at files path) →
-    Changes TreeCall.Create (λ files. may_create files path) change old d new → Changes TreeCall.Create (λ files. is_found files (Makes path)) change old d new
+makes : (path : List ℕ) (change : Held → Held) (old : TreeIs) (d : TreeDone) (new : TreeIs) → IfSome old.told (λ held. Look.Missing ≡ look_at held.present path) →
+    Changes TreeCall.Create (λ held. may_create held.present path) change old d new → Changes TreeCall.Create (λ held. is_found held (Makes path)) change old d new
 makes path change old d new m h = record { goes = h.goes; does = makes-by path change old.told d new.told m h.does; fails = h.fails }
 
 -- ---- the last call
@@ -73,18 +62,18 @@ abbrev pub first_of : Made → FileName
 first_of made = record { path = made.path; generation = 0 }
 
 module _ (r : NodeRequest) (flags : ℕ) (table : HandleTable) (seat : ℕ) (made : Made) (name : FileName) (now : ℕ) (old new : TreeIs) (d : TreeDone) (first : name ≡ first_of made)
-    (missing : IfSome old.told (λ files. Look.Missing ≡ look_at files name.path)) (creates : Changes TreeCall.Create (λ files. may_create files name.path) (files_after true (Creates name.path now)) old d new) where
+    (missing : IfSome old.told (λ held. Look.Missing ≡ look_at held.present name.path)) (creates : Changes TreeCall.Create (λ held. may_create held.present name.path) (files_after true (Creates name.path now)) old d new) where
   abbrev there : Walk NodeVerdict
   there = Ends (Makes made.path) (created r flags (room_in table seat) made) (Errs enoent)
 
-  m : IfSome old.told (λ files. Look.Missing ≡ look_at files made.path)
-  m = subst (λ (n : FileName). IfSome old.told (λ files. Look.Missing ≡ look_at files n.path)) first missing
+  m : IfSome old.told (λ held. Look.Missing ≡ look_at held.present made.path)
+  m = subst (λ (n : FileName). IfSome old.told (λ held. Look.Missing ≡ look_at held.present n.path)) first missing
 
-  h : Changes TreeCall.Create (λ files. may_create files made.path) (files_after true (Creates made.path now)) old d new
-  h = subst (λ (n : FileName). Changes TreeCall.Create (λ files. may_create files n.path) (files_after true (Creates n.path now)) old d new) first creates
+  h : Changes TreeCall.Create (λ held. may_create held.present made.path) (files_after true (Creates made.path now)) old d new
+  h = subst (λ (n : FileName). Changes TreeCall.Create (λ held. may_create held.present n.path) (files_after true (Creates n.path now)) old d new) first creates
 
-  came-so : (x : TreeDone) → d ≡ x → Changes TreeCall.Create (λ files. is_found files (Makes made.path)) (files_after true (Creates made.path now)) old x new
-  came-so x e = subst (λ (y : TreeDone). Changes TreeCall.Create (λ files. is_found files (Makes made.path)) (files_after true (Creates made.path now)) old y new) e (makes made.path (files_after true (Creates made.path now)) old d new m h)
+  came-so : (x : TreeDone) → d ≡ x → Changes TreeCall.Create (λ held. is_found held (Makes made.path)) (files_after true (Creates made.path now)) old x new
+  came-so x e = subst (λ (y : TreeDone). Changes TreeCall.Create (λ held. is_found held (Makes made.path)) (files_after true (Creates made.path now)) old y new) e (makes made.path (files_after true (Creates made.path now)) old d new m h)
 
   pub made-done : (attr : Attr) (fh : ℕ) (handle : Handle) (ended : Ended) (after : HandleTable) → d ≡ done.Done → attr ≡ attr_of_file (on_node r made.node) true 0 now → fh ≡ next_handle (room_in table seat) →
       handle ≡ file_handle made.document name made.node flags → ended ≡ ended_by now came.Done (NodeAnswer.Created attr fh) → Handled seat (Opens handle) table after →
@@ -144,7 +133,7 @@ made-behind r flags room made a seat table ended after old mid new asks shows o 
 -- a copy of the path stands for it, and what was shown is still there
 pub shown-still : (path copy : List ℕ) (a : LookAnswer) (old mid : TreeIs) → copy ≡ path → Asks TreeCall.Look old (is_look_fault a) mid → Shows old.told path a → Shows mid.told copy a
 shown-still path copy a old mid e asks h =
-    subst (λ (p : List ℕ). Shows mid.told p a) (sym e) (subst (λ (t : Option (List File)). Shows t path a) (sym (ap (λ (t : TreeIs). t.told) asks.goes)) h)
+    subst (λ (p : List ℕ). Shows mid.told p a) (sym e) (subst (λ (t : Option Held). Shows t path a) (sym (ap (λ (t : TreeIs). t.told) asks.goes)) h)
 
 -- ---- behind the room for the handle
 
@@ -165,20 +154,23 @@ full-refuses w seat a b t free k f e = record {
   handled = k;
 }
 
--- ---- the request
+-- the document's own file
+pub own-opening : (r : NodeRequest) (flags seat : ℕ) (a b after : HandleTable) (view : ℕ) (d : Document) (may : Bool) (old : TreeIs) (done : NodeDone) (new : TreeIs) (free : Bool) → not may ≡ false → Handled seat HandlesStay a b → (room_in a seat).full ≡ not free → not free ≡ false →
+    Opening (create_at r flags (room_in b seat) (own_made view d)) seat b old done after new → Opening (create_own r flags (room_in a seat) view d may) seat a old done after new
+own-opening r flags seat a b after view d may old done new free m k f t o =
+    subst (λ (w : Walk NodeVerdict). Opening w seat a old done after new) (sym (if-may may eacces (errs_if (room_in a seat).full emfile (create_at r flags (room_in a seat) (own_made view d))) m))
+    (opening-after r flags seat a b after (own_made view d) old done new free k f (twice free t) o)
+  where
+    twice : (x : Bool) → not x ≡ false → x ≡ true
+    twice true e = refl
+    twice false e = cc
 
-pub create-does : (book : FileBook) (naming : Option Naming) (call : NodeCall) (name : List ℕ) (flags : ℕ) (place : Option SeenPlace) (target : NewTarget) (table : HandleTable) (old : TreeIs) (done : NodeDone) (after : HandleTable) (new : TreeIs) →
-    ((s : State) → Lends book.view s → place_of s call.who.now naming call.request.now.node ≡ option_map (sight_of book.view call.who.now) place) → call.request.now.op ≡ NodeOp.Create name flags →
-    ((b : ViewBook) (who : Who) (r : NodeRequest) (room : Room) (namings : List Naming) → create r name flags (option_map (sight_of b who) place) room namings ≡ target_walk r flags room target) →
-    Opening (target_walk call.request.now flags (room_in table call.seat) target) call.seat table old done after new → DoesAt naming book call table old done after new
-create-does book naming call name flags place target table old done after new seen op f o = λ s c a n.
-    let r = call.request.now in
-    let w : Walk NodeVerdict = target_walk r flags (room_in table call.seat) target in
-    done-in s c book call w table old done after new a
-    (walk-is s c r (NodeOp.Create name flags) op
-    ∙ (ap (λ (who : Who). create r name flags (place_of s who (naming_on c r.node) r.node) (room_of s c) c.namings) a.caller
-    ∙ (ap (λ (o : Option Naming). create r name flags (place_of s call.who.now o r.node) (room_of s c) c.namings) n
-    ∙ (ap (λ (sight : Option Sight). create r name flags sight (room_of s c) c.namings) (seen s a.lists)
-    ∙ (ap (λ (room : Room). create r name flags (option_map (sight_of book.view call.who.now) place) room c.namings) (sym (room-is s c book call table old.told a))
-    ∙ f book.view call.who.now r (room_in table call.seat) c.namings)))))
-    (goes-done w r.op call.seat table old done o.change after new (subst IsExact (sym op) tt) o.goes o.handled)
+pub own-full : (r : NodeRequest) (flags seat : ℕ) (a b : HandleTable) (view : ℕ) (d : Document) (may : Bool) (t : TreeIs) (free : Bool) → not may ≡ false → Handled seat HandlesStay a b → (room_in a seat).full ≡ not free → not free ≡ true →
+    Opening (create_own r flags (room_in a seat) view d may) seat a t (done_of_ended (refuses emfile)) b t
+own-full r flags seat a b view d may t free m k f n =
+    subst (λ (w : Walk NodeVerdict). Opening w seat a t (done_of_ended (refuses emfile)) b t) (sym (if-may may eacces (errs_if (room_in a seat).full emfile (create_at r flags (room_in a seat) (own_made view d))) m))
+    (full-refuses (create_at r flags (room_in a seat) (own_made view d)) seat a b t free k f (never free n))
+  where
+    never : (x : Bool) → not x ≡ true → x ≡ false
+    never true e = cc
+    never false e = refl

@@ -1,3 +1,4 @@
+mod EachEnd
 mod OneLook
 mod OpenedDirs
 mod Tries
@@ -5,9 +6,19 @@ mod Sets
 mod Creates
 mod Openings
 mod NeverNames
+mod SettledOwn
 mod DoesNames
 mod Numberings
+mod SparedWalks
 mod DoesBelow
 mod Numbers
 mod ChildWalks
 mod LowKinds
+mod Savings
+mod DoesSaving
+mod SeenHomes
+mod Moves
+mod Removals
+mod EntryOrder
+mod OwnSeats
+mod Beside

@@ -1,7 +1,6 @@
 -- How a request that may name something follows its walk, and what connections have named behind it.
-use Rattle.std.proofs.Common.{◌≡◌, ◌==◌, ℕ, List, Bool, true, false, cond, Option, Some, None, refl, sym, ap, subst, arith, ◌∙◌}
+use Rattle.std.proofs.Common.{◌≡◌, ℕ, List, false, Option, Some, None, refl, sym, ap, subst, ◌∙◌}
 use Rattle.std.specs.Option.{option_map}
-use Rattle.std.proofs.lemmas.Bool.Decides.{nat_tests}
 use Rattle.portal_base.specs.declared.files.Look.{Look}
 use Rattle.host_tree.specs.Trees.{Asks, Looks as Shows, TreeIs, is_look_fault}
 use Rattle.host_tree.specs.declared.tree.LookAnswer.{LookAnswer}
@@ -14,24 +13,23 @@ use Rattle.portal_model.specs.declared.reply.Attr.{Attr}
 use Rattle.portal_model.specs.declared.reply.NodeAnswer.TheVariants as NodeAnswer
 use Rattle.portal_model.specs.declared.state.Connection.{Connection}
 use Rattle.portal_model.specs.Bus.{is_tree, moment_given}
-use Rattle.portal_model.specs.Node.{connections_after, connections_named, named_on, settled_on_node, walk_on_node}
-use Rattle.portal_model.specs.NodeVerdict.{NameChange, Names, NamesStay, NodeVerdict, Errs, HandlesStay, Yields, errs, names_path}
-use Rattle.portal_model.specs.SeatNames.{with_naming}
-use Rattle.portal_model.specs.State.{State, connection_of}
+use Rattle.portal_model.specs.Node.{walk_on_node}
+use Rattle.portal_model.specs.NodeVerdict.{NameChange, Names, NamesStay, NodeVerdict, HandlesStay, errs, names_path}
+use Rattle.portal_model.specs.State.{State}
 use Rattle.portal_model.specs.Walk.{Answers, AtPath, Looks, Walk, walked_with}
 use Rattle.node_looks.specs.Done.{IsCalled, name_change}
 use Rattle.node_looks.specs.OpenHandles.{Handled}
 use Rattle.node_looks.specs.declared.served.FileBook.{FileBook}
 use Rattle.node_looks.specs.declared.served.NodeCall.{NodeCall}
 use Rattle.node_looks.specs.declared.served.NodeDone.{NodeDone}
-use Rattle.node_looks.proofs.DoneLemmas.{IsExact, done-in, handles-stay, named-found, told-still}
-use Rattle.node_looks.proofs.OpenTable.{seat-of}
+use Rattle.node_looks.proofs.DoneLemmas.{IsExact, done-in, handles-stay, told-still}
 use Rattle.file_ops.specs.Creates.{Numbering, NumberingBehind}
-use Rattle.file_ops.specs.SeatNames.{AreNamed, DoneNaming, SeatNamed, namings_after, namings_in, namings_on}
+use Rattle.file_ops.specs.SeatNames.{AreOwn, DoneNaming, OwnTables, SeatNamed, namings_after, namings_on, own_tables}
 use Rattle.file_ops.specs.Tries.{done_after, done_behind, done_of_ended, refuses, says}
 use Rattle.file_ops.specs.declared.tried.Ended.{Ended}
-use Rattle.file_ops.proofs.NeverNames.{handled-names}
+use Rattle.file_ops.proofs.EachEnd.{Each, each-walked, spares_temps}
 use Rattle.file_ops.proofs.Openings.{opens-after}
+use Rattle.file_ops.proofs.SettledOwn.{own-settled, temps-same}
 use Rattle.file_ops.proofs.Tries.{after-goes, behind-goes, goes-done, refuses-goes, shows-path}
 
 -- ---- what a seat has named
@@ -49,52 +47,6 @@ named-behind seat change old mid new k h = record {
   there = h.there ∙ ap (option_map (namings_after change)) (k.there ∙ sym (stays-same (namings_on old seat)));
   elsewhere = λ other e. h.elsewhere other e ∙ k.elsewhere other e;
 }
-
--- ---- what a state has
-
-same-seat : (x n seat : ℕ) → x ≡ seat → (x == n) ≡ (n == seat)
-same-seat x n seat e = grind (arith, nat_tests)
-
-named-at : (n seat : ℕ) (naming : Naming) (o : Option Connection) → ((x : Connection) → o ≡ Some x → x.seat ≡ seat) →
-    option_map (λ c. c.namings) (option_map (named_on n naming) o) ≡ cond (n == seat) (option_map (namings_after (Names naming)) (option_map (λ c. c.namings) o)) (option_map (λ c. c.namings) o)
-named-at n seat naming None h = none (n == seat)
-  where
-    none : (b : Bool) → ◌≡◌ {A = Option (List Naming)} None (cond b None None)
-    none true = refl
-    none false = refl
-named-at n seat naming (Some x) h =
-    ap (λ (b : Bool). Some (cond b (record x { namings = with_naming x.namings naming }) x).namings) (same-seat x.seat n seat (h x refl))
-    ∙ elim (n == seat) as (λ b. Some (cond b (record x { namings = with_naming x.namings naming }) x).namings ≡ cond b (Some (with_naming x.namings naming)) (Some x.namings)) [ true ↦ refl | false ↦ refl ]
-
-changed-names : (c : Connection) (change : NameChange) (cs : List Connection) (seat : ℕ) →
-    option_map (λ c. c.namings) (connection_of (connections_named c change cs) seat) ≡ cond (c.seat == seat) (option_map (namings_after change) (option_map (λ c. c.namings) (connection_of cs seat))) (option_map (λ c. c.namings) (connection_of cs seat))
-changed-names c NamesStay cs seat = elim (c.seat == seat) as (λ b. option_map (λ (x : Connection). x.namings) (connection_of cs seat) ≡ cond b (option_map (namings_after NamesStay) (option_map (λ (x : Connection). x.namings) (connection_of cs seat))) (option_map (λ (x : Connection). x.namings) (connection_of cs seat)))
-    [ true ↦ stays-same _ | false ↦ refl ]
-changed-names c (Names naming) cs seat =
-    ap (option_map (λ (x : Connection). x.namings)) (named-found c.seat seat naming cs) ∙ named-at c.seat seat naming (connection_of cs seat) (λ x e. seat-of cs seat x e)
-
-settled-changes : (s : State) (c : Connection) (v : Option NodeVerdict) (seat : ℕ) →
-    namings_in (settled_on_node s c v).0 seat ≡ cond (c.seat == seat) (option_map (namings_after (name_change v)) (namings_in s seat)) (namings_in s seat)
-settled-changes s c None seat = changed-names c NamesStay s.connections seat
-settled-changes s c (Some (Errs errno)) seat = changed-names c NamesStay s.connections seat
-settled-changes s c (Some (Yields d)) seat =
-    changed-names c d.names (connections_after c d.handle s.connections) seat
-    ∙ ap (λ (o : Option (List Naming)). cond (c.seat == seat) (option_map (namings_after d.names) o) o) (handled-names c d.handle seat s.connections)
-
-pub settled-named : (s : State) (c : Connection) (v : Option NodeVerdict) (change : NameChange) (names named : List (ℕ × Named)) → name_change v ≡ change → SeatNamed c.seat change names named → AreNamed s names → AreNamed (settled_on_node s c v).0 named
-settled-named s c v change names named e h a = λ seat. by seat (c.seat == seat) refl
-  where
-    by : (seat : ℕ) (b : Bool) → (c.seat == seat) ≡ b → namings_on named seat ≡ namings_in (settled_on_node s c v).0 seat
-    by seat true t =
-        let is : c.seat ≡ seat = grind (arith, nat_tests) in
-        subst (λ (n : ℕ). namings_on named n ≡ option_map (namings_after change) (namings_on names n)) is h.there
-        ∙ (ap (option_map (namings_after change)) (a seat)
-        ∙ (ap (λ (x : NameChange). option_map (namings_after x) (namings_in s seat)) (sym e)
-        ∙ (ap (λ (b : Bool). cond b (option_map (namings_after (name_change v)) (namings_in s seat)) (namings_in s seat)) (sym t) ∙ sym (settled-changes s c v seat))))
-    by seat false t =
-        h.elsewhere seat t
-        ∙ (a seat
-        ∙ (ap (λ (b : Bool). cond b (option_map (namings_after (name_change v)) (namings_in s seat)) (namings_in s seat)) (sym t) ∙ sym (settled-changes s c v seat)))
 
 -- ---- by a walk
 
@@ -120,6 +72,7 @@ entry-numbering naming attr seat table names named t h = record {
       gives = (refl, refl);
       lists = refl;
       clock = refl;
+      generation = refl;
       keeper = λ e. cc;
       verdict = Some (names_path naming (NodeAnswer.Entry attr));
       comes = refl;
@@ -180,11 +133,14 @@ numbering-behind path next look.Failed seat table names ended after named old mi
 
 -- ---- the request
 
-pub numbering-done : (s : State) (c : Connection) (book : FileBook) (call : NodeCall) (w : Walk NodeVerdict) (table : HandleTable) (names : List (ℕ × Named)) (old : TreeIs) (done : NodeDone) (after : HandleTable) (named : List (ℕ × Named)) (new : TreeIs) →
-    IsCalled s c book call table old.told → AreNamed s names → walk_on_node s c call.request.now ≡ w → IsExact call.request.now.op → Numbering w call.seat table names old done after named new → DoneNaming s c call old done after named new
-numbering-done s c book call w table names old done after named new a m e x n = record {
-  done = done-in s c book call w table old done after new a e (goes-done w call.request.now.op call.seat table old done n.opening.change after new x n.opening.goes n.opening.handled);
-  names = settled-named s c (walked_with (walk_on_node s c call.request.now) (moment_given done.now) done.listed done.looks (is_tree done.fault)) n.change names named
-      (ap (λ (v : Walk NodeVerdict). name_change (walked_with v (moment_given done.now) done.listed done.looks (is_tree done.fault))) e ∙ n.naming)
-      (subst (λ (k : ℕ). SeatNamed k n.change names named) (sym (seat-of s.connections call.seat c a.here)) n.names) m;
-}
+pub numbering-done : (s : State) (c : Connection) (book : FileBook) (call : NodeCall) (w : Walk NodeVerdict) (table : HandleTable) (had : OwnTables) (old : TreeIs) (done : NodeDone) (after : HandleTable) (named : List (ℕ × Named)) (new : TreeIs) →
+    IsCalled s c book call table old.told → AreOwn s had → walk_on_node s c call.request.now ≡ w → IsExact call.request.now.op → Each spares_temps w → Numbering w call.seat table had.names old done after named new →
+    DoneNaming s c call old done after (own_tables named had.temps) new
+numbering-done s c book call w table had old done after named new a m e x q n =
+    let v : Option NodeVerdict = walked_with w (moment_given done.now) done.listed done.looks (is_tree done.fault) in
+    record {
+      done = done-in s c book call w table old done after new a e (goes-done w call.request.now.op call.seat table old done n.opening.change after new x n.opening.goes n.opening.handled);
+      own = own-settled s c call.seat call.request.now w done v had (own_tables named had.temps) a.here e refl
+          (subst (λ (change : NameChange). SeatNamed call.seat change had.names named) (sym n.naming) n.names)
+          (temps-same call.seat v had.temps (each-walked spares_temps w (moment_given done.now) done.listed done.looks (is_tree done.fault) q)) m;
+    }

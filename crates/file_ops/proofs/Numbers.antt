@@ -1,16 +1,24 @@
 -- What a table of namings has of a seat is what a connection has named, and its numbers are those of the nodes.
-use Rattle.std.proofs.Common.{◌≡◌, ◌==◌, ◌&&◌, ◌<◌, ◌≤◌, ℕ, nat_lt, List, length, Bool, true, false, not, Option, Some, None, IfSome, IsSomeAnd, refl, sym, ap, arith, ◌∙◌}
+use Rattle.std.proofs.Common.{◌≡◌, ◌&&◌, ◌<◌, ◌≤◌, ℕ, nat_lt, List, length, Bool, true, false, not, Option, Some, None, IfSome, IsSomeAnd, refl, sym, ap, arith, ◌∙◌}
 use Rattle.std.specs.Option.{option_map}
 use Rattle.std.proofs.lemmas.Bool.Decides.{nat_tests}
-use Rattle.folder_documents.specs.Named.{AtSeat, Both, CanName, Keeps, Named, Names as GetsNumber, named_on, number_of, with_naming as with_other}
+use Rattle.folder_documents.specs.Named.{AtSeat, Both, CanName, Keeps, Named, Names as GetsNumber, named_on, naming_at, number_of, with_naming as with_other}
 use Rattle.folder_documents.specs.NamingErrors.{Refuses}
 use Rattle.folder_documents.specs.declared.named.NamingError.TheVariants.{Full}
 use Rattle.portal_model.specs.declared.naming.Naming.{Naming}
 use Rattle.portal_model.specs.Lookup.{node_of_naming}
 use Rattle.portal_model.specs.NodeVerdict.{Names, NamesStay}
 use Rattle.portal_model.specs.Place.{named_node}
-use Rattle.portal_model.specs.SeatNames.{is_named_before, lacks_number, with_naming}
+use Rattle.portal_model.specs.SeatNames.{is_named_before, lacks_number, naming_of, with_naming}
 use Rattle.file_ops.specs.SeatNames.{SeatNamed, namings_after, namings_on}
+
+-- ---- a name by its number
+
+pub named-there : (k : ℕ) (o : Option Named) (has : List Naming) → option_map (λ n. n.namings) o ≡ Some has → naming_at o k ≡ naming_of has k
+named-there k None has e = cc
+named-there k (Some a) has e =
+    let own : a.namings ≡ has = cc in
+    ap (λ (ns : List Naming). naming_of ns k) own
 
 -- ---- whether there is a number
 

@@ -1,5 +1,6 @@
 -- A SETATTR on the file of a document, and on an open file.
 use Rattle.std.proofs.Common.{◌≡◌, ℕ, List, Bool, true, false, not, nat_lt, ◌&&◌, ◌||◌, cond, refl, sym, ap, subst, ◌∙◌}
+use Rattle.portal_base.specs.declared.files.FileName.{FileName}
 use Rattle.portal_base.specs.declared.files.Look.{Look}
 use Rattle.host_tree.specs.Trees.{TreeIs}
 use Rattle.host_tree.specs.declared.tree.LookAnswer.{LookAnswer}
@@ -19,7 +20,7 @@ use Rattle.node_looks.specs.Opened.{IsAllowed}
 use Rattle.node_looks.specs.declared.opened.Allowed.{Allowed}
 use Rattle.node_looks.specs.declared.served.NodeDone.{NodeDone}
 use Rattle.file_ops.specs.Sets.{denial_of, generation_of, set_subject}
-use Rattle.file_ops.specs.Tries.{Goes, GoesBehind, done_of_ended}
+use Rattle.file_ops.specs.Tries.{Goes, GoesBehind, IsOfGeneration, done_of_ended}
 use Rattle.file_ops.specs.declared.resized.Subject.{Subject}
 use Rattle.file_ops.specs.declared.tried.Ended.{Ended}
 
@@ -39,6 +40,16 @@ placed-behind r a d copy w look generation old ended change new e n h =
     named-behind r a d w look old ended change new
     (subst (λ (k : ℕ). GoesBehind (if_file (set_subject r a (record { node = r.node; may_write = w; denial = eacces }) (record { path = d.path; generation = k }))) look old ended change new) n
     (subst (λ (p : List ℕ). GoesBehind (if_file (set_subject r a (record { node = r.node; may_write = w; denial = eacces }) (record { path = p; generation = generation }))) look old ended change new) e h))
+
+-- a temporary is looked at by its name, so a file that is shown is of its generation
+pub temp-behind : (r : NodeRequest) (a : SetsAttr) (d : Document) (name : FileName) (w : Bool) (look : LookAnswer) (old : TreeIs) (ended : Ended) (change : HandleChange) (new : TreeIs) → IsOfGeneration name.generation look →
+    GoesBehind (if_file (set_subject r a (record { node = r.node; may_write = w; denial = eacces }) name)) look old ended change new →
+    GoesBehind (if_file (set_attr_at r a (spot d name.path w))) look old ended change new
+temp-behind r a d name w (look.Is (Look.File generation size moment)) old ended change new i h =
+    subst (λ (n : ℕ). Goes (set_attr_at r a (spot d name.path w) n size moment) old (done_of_ended ended) change new) (sym i) h
+temp-behind r a d name w (look.Is Look.Folder) old ended change new i h = h
+temp-behind r a d name w (look.Is Look.Missing) old ended change new i h = h
+temp-behind r a d name w look.Failed old ended change new i h = h
 
 -- ---- at and below a folder
 

@@ -1,10 +1,11 @@
 -- How a request that may change a file follows its walk.
-use Rattle.std.proofs.Common.{◌≡◌, ◌+◌, ℕ, List, [], ◌∷◌, Bool, true, false, cond, Option, Some, None, refl, sym, ap, subst, ◌∙◌, IfSome, Result, Ok, Err, length, map, take, unwrap_or, not, nat_lt, ◌≤◌, arith, inl, inr}
+use Rattle.std.proofs.Common.{◌≡◌, ◌+◌, ℕ, List, [], ◌∷◌, Bool, true, false, cond, Option, Some, None, is_some, refl, sym, ap, subst, ◌∙◌, IfSome, Result, Ok, Err, length, map, take, unwrap_or, not, nat_lt, ◌≤◌, arith, inl, inr}
 use Rattle.std.specs.Option.{option_map}
 use Rattle.std.proofs.lemmas.Bool.Decides.{nat_tests}
 use Rattle.std.proofs.lemmas.Result.{on_err_weaker}
 use Rattle.std.specs.List.{slice_set}
 use Rattle.std.specs.Result.{IfOk, OnErr}
+use Rattle.file_generations.specs.Generations.{Held, all_held}
 use Rattle.portal_base.specs.Calls.{FailsAsTold}
 use Rattle.portal_base.specs.Content.{file_named, is_named}
 use Rattle.portal_base.specs.declared.files.File.{File}
@@ -23,13 +24,14 @@ use Rattle.portal_model.specs.declared.reply.Answer.{Answer}
 use Rattle.portal_model.specs.declared.reply.Code.TheVariants as Code
 use Rattle.portal_model.specs.declared.reply.NodeAnswer.{NodeAnswer}
 use Rattle.portal_model.specs.Attributes.{is_writable}
-use Rattle.portal_model.specs.Bus.{is_tree}
+use Rattle.portal_model.specs.Bus.{is_tree, moment_given}
 use Rattle.portal_model.specs.Errno.{eacces, ebadf, eio, enoent}
 use Rattle.portal_model.specs.Node.{files_after}
-use Rattle.portal_model.specs.NodeVerdict.{NodeVerdict, Errs, FileChange, FilesStay, HandleChange, HandlesStay, NamesStay, NodeDoing, OnFile, OnHandle, Spot, Yields, at_file, by_file_handle, by_place, changes, errs, errs_if, errs_on_file, if_file, tells, told}
+use Rattle.portal_model.specs.NodeVerdict.{NodeVerdict, Errs, FileChange, FilesStay, HandleChange, HandlesStay, NamesStay, NodeDoing, OnFile, OnHandle, Spot, Yields, at_file, at_name, by_file_handle, by_place, changes, errs, errs_if, errs_on_file, if_file, tells, told}
 use Rattle.portal_model.specs.declared.naming.Naming.{Naming}
-use Rattle.portal_model.specs.Place.{Folder, Sight, SightOfFolder, naming_on, place_of, reach_at}
-use Rattle.portal_model.specs.Walk.{AtPath, Ends, Gives, GivesNames, IsFound, IsShown, LastCall, Looks, Named, Target, Walk, changes_file, is_found, look_of_file}
+use Rattle.portal_model.specs.declared.temporary.Temp.{Temp}
+use Rattle.portal_model.specs.Place.{Folder, Sight, SightOfFolder, place_of, reach_at, sight_on}
+use Rattle.portal_model.specs.Walk.{AtPath, Ends, Gives, GivesNames, IsFound, IsShown, LastCall, Looks, Named, Target, Walk, changes_file, generation_made, is_found, look_of_file}
 use Rattle.app_view.specs.declared.book.ViewBook.{ViewBook}
 use Rattle.node_looks.specs.TreeCalls.{Call, Calling, CallsAsTold, WasCalledOnce, WasCalledUpTo, after_calls, call_at, call_doing, unfailed, with_files}
 use Rattle.open_handles.specs.Opened.{HandleTable, handle_of as handle_in, opened_on}
@@ -49,9 +51,15 @@ use Rattle.node_looks.specs.Done.{Does, DoesAt, DoneBy, Wants, answer_of, file_c
 use Rattle.node_looks.specs.Opened.{IsAllowed, by_open_file, file_of}
 use Rattle.node_looks.specs.OpenHandles.{Handled}
 use Rattle.node_looks.proofs.DoneLemmas.{IsExact, done-in, handle-is, handles-stay, same-answer, walk-is}
+use Rattle.node_looks.proofs.Follow.{seen-by-caller}
 use Rattle.node_looks.specs.Sights.{sight_of}
+<<<<<<< ours
 use Rattle.file_ops.specs.Wanting.{calls_by}
 use Rattle.file_ops.specs.Tries.{Goes, GoesBehind, ShowsAt, done_after, done_behind, done_of_ended, ended_by, fault_of_call, found_nothing, refuses, says, shown_behind, tree_done}
+=======
+use Rattle.file_ops.specs.Wanting.{calls_in_vain}
+use Rattle.file_ops.specs.Tries.{Goes, GoesBehind, ShowsAt, done_after, done_behind, done_of_ended, ended_by, ended_of, found_nothing, refuses, says, shown_behind, tree_done}
+>>>>>>> theirs
 use Rattle.node_looks.specs.declared.served.NodeDone.{NodeDone}
 use Rattle.node_looks.specs.declared.sight.SeenPlace.{SeenPlace}
 use Rattle.file_ops.specs.declared.tried.Came.{Came}
@@ -61,14 +69,14 @@ use Rattle.file_ops.specs.declared.tried.Ended.{Ended}
 
 -- ---- files that stay, and calls
 
-pub same-told : (t : Option (List File)) → t ≡ option_map (files_after true FilesStay) t
+pub same-told : (t : Option Held) → t ≡ option_map (files_after true FilesStay) t
 same-told None = refl
-same-told (Some files) = refl
+same-told (Some held) = refl
 
 one-call : {kind : TreeCall} (old : TreeIs) (failed : Bool) (new : TreeIs) → new ≡ after_call old kind failed new.told → FailsAsTold old.calls failed → Calling old ((kind, failed) ∷ []) new.told new
 one-call old failed new g f = record { goes = g; fails = (f, tt) }
 
-pub more-calls : {kind : TreeCall} (old : TreeIs) (failed : Bool) (mid : TreeIs) (calls : List Call) (files : Option (List File)) (new : TreeIs) → Asks kind old failed mid → Calling mid calls files new → Calling old ((kind, failed) ∷ calls) files new
+pub more-calls : {kind : TreeCall} (old : TreeIs) (failed : Bool) (mid : TreeIs) (calls : List Call) (files : Option Held) (new : TreeIs) → Asks kind old failed mid → Calling mid calls files new → Calling old ((kind, failed) ∷ calls) files new
 more-calls old failed mid calls files new a c = record {
   goes = c.goes ∙ ap (λ (t : TreeIs). with_files (after_calls t calls) files) a.goes;
   fails = (a.fails, subst (λ x. CallsAsTold x calls) (ap (λ (t : TreeIs). t.calls) a.goes) c.fails);
@@ -128,6 +136,7 @@ refuses-goes errno t = record {
   gives = (refl, refl);
   lists = refl;
   clock = refl;
+  generation = refl;
   keeper = λ e. cc;
   verdict = Some (Errs errno);
   comes = refl;
@@ -142,6 +151,7 @@ told-goes answer t = record {
   gives = (refl, refl);
   lists = refl;
   clock = refl;
+  generation = refl;
   keeper = λ e. cc;
   verdict = Some (tells answer);
   comes = refl;
@@ -156,18 +166,32 @@ as-refused errno answer t e = subst (λ (x : Answer). Goes (errs errno) t (done_
 
 -- ---- the last call
 
-found-told : (t : Option (List File)) (call : LastCall) (found : Bool) → IfSome t (λ files. is_found files call ≡ found) → IsFound t call found
+found-told : (t : Option Held) (call : LastCall) (found : Bool) → IfSome t (λ held. is_found held call ≡ found) → IsFound t call found
 found-told None call found h = tt
-found-told (Some files) call found h = sym h
+found-told (Some held) call found h = sym h
 
-pub ends-done : (call : LastCall) (f : ℕ → NodeVerdict) (d : NodeDoing) (now : ℕ) (old new : TreeIs) → changes_file call ≡ true → f now ≡ Yields d →
-    ChangesFiles (call_doing (f 0)) (λ files. is_found files call) (files_after true d.file) old done.Done new → Goes (Ends call f (Errs enoent)) old (done_of_ended (ended_by now came.Done d.answer)) d.handle new
-ends-done call f d now old new k e h = record {
+-- a call with this moment and this generation, where it has them, that came to this
+abbrev made_so : Option ℕ → Option ℕ → Came → CallMade
+made_so now number c = record { now = now; generation = number; came = c }
+
+-- it has those that the last call of a walk asks for
+pub record Suits (call : LastCall) (now number : Option ℕ) : Type 0 where
+  pub clock : is_some now ≡ changes_file call
+  pub makes : number ≡ generation_made call
+
+-- the files are changed so by the last call, or stay
+abbrev pub Ending : LastCall → (ℕ → NodeVerdict) → (Held → Held) → TreeIs → TreeDone → TreeIs → Type 0
+Ending call f change old answer new = ChangesFiles (call_doing (f 0)) (λ held. is_found held call) change old answer new
+
+pub ends-so : (call : LastCall) (f : ℕ → NodeVerdict) (d : NodeDoing) (now number : Option ℕ) (old new : TreeIs) → Suits call now number → f (moment_given now) ≡ Yields d →
+    Ending call f (files_after true d.file) old done.Done new → Goes (Ends call f (Errs enoent)) old (done_of_ended (ended_of (made_so now number came.Done) d.answer)) d.handle new
+ends-so call f d now number old new k e h = record {
   gives = found-told old.told call true h.does.1;
   lists = refl;
-  clock = sym k;
+  clock = k.clock;
+  generation = k.makes;
   keeper = λ e. cc;
-  verdict = Some (f now);
+  verdict = Some (f (moment_given now));
   comes = refl;
   answer = sym (ap (λ (v : NodeVerdict). answer_of (Some v)) e);
   handles = ap (λ (v : NodeVerdict). handle_change (Some v)) e;
@@ -175,12 +199,13 @@ ends-done call f d now old new k e h = record {
   calls = one-call old false new h.goes h.fails;
 }
 
-pub ends-missing : (call : LastCall) (f : ℕ → NodeVerdict) (change : List File → List File) (answer : NodeAnswer) (now : ℕ) (old new : TreeIs) → changes_file call ≡ true →
-    ChangesFiles (call_doing (f 0)) (λ files. is_found files call) change old done.NotFile new → Goes (Ends call f (Errs enoent)) old (done_of_ended (ended_by now came.NotFile answer)) HandlesStay new
-ends-missing call f change answer now old new k h = record {
+pub misses-so : (call : LastCall) (f : ℕ → NodeVerdict) (change : Held → Held) (answer : NodeAnswer) (now number : Option ℕ) (old new : TreeIs) → Suits call now number →
+    Ending call f change old done.NotFile new → Goes (Ends call f (Errs enoent)) old (done_of_ended (ended_of (made_so now number came.NotFile) answer)) HandlesStay new
+misses-so call f change answer now number old new k h = record {
   gives = (refl, refl, refl, found-told old.told call false h.does.1);
   lists = refl;
-  clock = sym k;
+  clock = k.clock;
+  generation = k.makes;
   keeper = λ e. cc;
   verdict = Some (Errs enoent);
   comes = refl;
@@ -190,12 +215,13 @@ ends-missing call f change answer now old new k h = record {
   calls = one-call old false new h.goes h.fails;
 }
 
-pub ends-failed : (call : LastCall) (f : ℕ → NodeVerdict) (change : List File → List File) (answer : NodeAnswer) (now : ℕ) (old new : TreeIs) → changes_file call ≡ true →
-    ChangesFiles (call_doing (f 0)) (λ files. is_found files call) change old done.Failed new → Goes (Ends call f (Errs enoent)) old (done_of_ended (ended_by now came.Failed answer)) HandlesStay new
-ends-failed call f change answer now old new k h = record {
+pub fails-so : (call : LastCall) (f : ℕ → NodeVerdict) (change : Held → Held) (answer : NodeAnswer) (now number : Option ℕ) (old new : TreeIs) → Suits call now number →
+    Ending call f change old done.Failed new → Goes (Ends call f (Errs enoent)) old (done_of_ended (ended_of (made_so now number came.Failed) answer)) HandlesStay new
+fails-so call f change answer now number old new k h = record {
   gives = tt;
   lists = refl;
-  clock = sym k;
+  clock = k.clock;
+  generation = k.makes;
   keeper = λ e. cc;
   verdict = None;
   comes = refl;
@@ -205,17 +231,40 @@ ends-failed call f change answer now old new k h = record {
   calls = one-call old true new h.goes h.fails;
 }
 
-ends-goes : (call : LastCall) (f : ℕ → NodeVerdict) (change : FileChange) (answer : NodeAnswer) (now : ℕ) (c : Came) (old new : TreeIs) → changes_file call ≡ true → f now ≡ changes change answer →
-    ChangesFiles (call_doing (f 0)) (λ files. is_found files call) (files_after true change) old (tree_done c) new → Goes (Ends call f (Errs enoent)) old (done_of_ended (ended_by now c answer)) HandlesStay new
+-- whether it asks for the moment, and which generation it makes
+abbrev pub asked_of : LastCall → Bool × Option ℕ
+asked_of call = (changes_file call, generation_made call)
+
+-- it changes or makes a present file, at a moment
+abbrev pub at_moment : Bool × Option ℕ
+at_moment = (true, None)
+
+suits-moment : (call : LastCall) (now : ℕ) → asked_of call ≡ at_moment → Suits call (Some now) None
+suits-moment call now k = record { clock = sym (ap (λ (p : Bool × Option ℕ). p.0) k); makes = sym (ap (λ (p : Bool × Option ℕ). p.1) k) }
+
+pub ends-done : (call : LastCall) (f : ℕ → NodeVerdict) (d : NodeDoing) (now : ℕ) (old new : TreeIs) → asked_of call ≡ at_moment → f now ≡ Yields d →
+    Ending call f (files_after true d.file) old done.Done new → Goes (Ends call f (Errs enoent)) old (done_of_ended (ended_by now came.Done d.answer)) d.handle new
+ends-done call f d now old new k e h = ends-so call f d (Some now) None old new (suits-moment call now k) e h
+
+pub ends-missing : (call : LastCall) (f : ℕ → NodeVerdict) (change : Held → Held) (answer : NodeAnswer) (now : ℕ) (old new : TreeIs) → asked_of call ≡ at_moment →
+    Ending call f change old done.NotFile new → Goes (Ends call f (Errs enoent)) old (done_of_ended (ended_by now came.NotFile answer)) HandlesStay new
+ends-missing call f change answer now old new k h = misses-so call f change answer (Some now) None old new (suits-moment call now k) h
+
+pub ends-failed : (call : LastCall) (f : ℕ → NodeVerdict) (change : Held → Held) (answer : NodeAnswer) (now : ℕ) (old new : TreeIs) → asked_of call ≡ at_moment →
+    Ending call f change old done.Failed new → Goes (Ends call f (Errs enoent)) old (done_of_ended (ended_by now came.Failed answer)) HandlesStay new
+ends-failed call f change answer now old new k h = fails-so call f change answer (Some now) None old new (suits-moment call now k) h
+
+ends-goes : (call : LastCall) (f : ℕ → NodeVerdict) (change : FileChange) (answer : NodeAnswer) (now : ℕ) (c : Came) (old new : TreeIs) → asked_of call ≡ at_moment → f now ≡ changes change answer →
+    ChangesFiles (call_doing (f 0)) (λ held. is_found held call) (files_after true change) old (tree_done c) new → Goes (Ends call f (Errs enoent)) old (done_of_ended (ended_by now c answer)) HandlesStay new
 ends-goes call f change answer now came.Done old new k e h = ends-done call f (record { answer = answer; file = change; handle = HandlesStay; names = NamesStay }) now old new k e h
 ends-goes call f change answer now came.NotFile old new k e h = ends-missing call f (files_after true change) answer now old new k h
 ends-goes call f change answer now came.Failed old new k e h = ends-failed call f (files_after true change) answer now old new k h
 
-pub changed-goes : (call : LastCall) (f : ℕ → NodeVerdict) (change : FileChange) (answer : NodeAnswer) (now : ℕ) (c : Came) (d : TreeDone) (ended : Ended) (old new : TreeIs) → changes_file call ≡ true → f now ≡ changes change answer →
-    d ≡ tree_done c → ended ≡ ended_by now c answer → ChangesFiles (call_doing (f 0)) (λ files. is_found files call) (files_after true change) old d new → Goes (Ends call f (Errs enoent)) old (done_of_ended ended) HandlesStay new
+pub changed-goes : (call : LastCall) (f : ℕ → NodeVerdict) (change : FileChange) (answer : NodeAnswer) (now : ℕ) (c : Came) (d : TreeDone) (ended : Ended) (old new : TreeIs) → asked_of call ≡ at_moment → f now ≡ changes change answer →
+    d ≡ tree_done c → ended ≡ ended_by now c answer → ChangesFiles (call_doing (f 0)) (λ held. is_found held call) (files_after true change) old d new → Goes (Ends call f (Errs enoent)) old (done_of_ended ended) HandlesStay new
 changed-goes call f change answer now c d ended old new k e s a h =
     subst (λ (x : Ended). Goes (Ends call f (Errs enoent)) old (done_of_ended x) HandlesStay new) (sym a)
-    (ends-goes call f change answer now c old new k e (subst (λ (x : TreeDone). ChangesFiles (call_doing (f 0)) (λ files. is_found files call) (files_after true change) old x new) s h))
+    (ends-goes call f change answer now c old new k e (subst (λ (x : TreeDone). ChangesFiles (call_doing (f 0)) (λ held. is_found held call) (files_after true change) old x new) s h))
 
 -- ---- a look ahead
 
@@ -223,9 +272,10 @@ changed-goes call f change answer now c d ended old new k e s a h =
 pub after-goes : (target : Target) (next : Look → Walk NodeVerdict) (shown : Look) (done : NodeDone) (change : HandleChange) (old mid new : TreeIs) → Asks (call_at target) old false mid → IsShown old.told target shown →
     Goes (next shown) mid done change new → Goes (Looks target next) old (done_after shown done) change new
 after-goes target next shown done change old mid new a i g = record {
-  gives = (i, subst (λ (t : Option (List File)). Gives t (next shown) done.looks (is_tree done.fault)) (told-stays old false mid a) g.gives);
-  lists = subst (λ (t : Option (List File)). GivesNames t (next shown) done.looks done.listed (is_tree done.fault)) (told-stays old false mid a) g.lists;
+  gives = (i, subst (λ (t : Option Held). Gives t (next shown) done.looks (is_tree done.fault)) (told-stays old false mid a) g.gives);
+  lists = subst (λ (t : Option Held). GivesNames t (next shown) done.looks done.listed (is_tree done.fault)) (told-stays old false mid a) g.lists;
   clock = g.clock;
+  generation = g.generation;
   keeper = g.keeper;
   verdict = g.verdict;
   comes = g.comes;
@@ -244,6 +294,7 @@ failed-goes target next old new a = record {
   gives = refl;
   lists = refl;
   clock = refl;
+  generation = refl;
   keeper = λ e. cc;
   verdict = None;
   comes = refl;
@@ -253,14 +304,14 @@ failed-goes target next old new a = record {
   calls = more-calls old true new [] new.told new a (record { goes = refl; fails = tt });
 }
 
-pub shows-path : (t : Option (List File)) (path : List ℕ) (a : LookAnswer) → Shows t path a → ShowsAt t (AtPath path) a
+pub shows-path : (t : Option Held) (path : List ℕ) (a : LookAnswer) → Shows t path a → ShowsAt t (AtPath path) a
 shows-path None path (look.Is shown) h = tt
-shows-path (Some files) path (look.Is shown) h = h
+shows-path (Some held) path (look.Is shown) h = h
 shows-path t path look.Failed h = tt
 
-pub named-shown : (t : Option (List File)) (name : FileName) (size moment : ℕ) → Attrs t name (attr.Is size moment) → IsShown t (Named name) (Look.File name.generation size moment)
+pub named-shown : (t : Option Held) (name : FileName) (size moment : ℕ) → Attrs t name (attr.Is size moment) → IsShown t (Named name) (Look.File name.generation size moment)
 named-shown None name size moment h = refl
-named-shown (Some files) name size moment h = in-files files h
+named-shown (Some held) name size moment h = in-files (all_held held) h
   where
     in-files : (fs : List File) → option_map attributes_of (file_named fs name) ≡ Some (size, moment) → Look.File name.generation size moment ≡ look_of_file (file_named fs name)
     in-files [] e = cc
@@ -294,6 +345,11 @@ pub on-file-goes : (path : List ℕ) (errno : ℕ) (a : LookAnswer) (answer : An
     Goes (at_file path (errs_on_file errno)) old (done_behind (Some a) (record { answer = answer; call = None })) HandlesStay new
 on-file-goes path errno a answer old new asks shows h = behind-goes (AtPath path) (if_file (errs_on_file errno)) a (record { answer = answer; call = None }) HandlesStay old new new asks (shows-path old.told path a shows) (on-file errno a answer new h)
 
+-- the same of a file that is looked at by its name
+pub on-name-goes : (name : FileName) (errno : ℕ) (a : LookAnswer) (answer : Answer) (old new : TreeIs) → Asks TreeCall.Attr old (is_look_fault a) new → ShowsAt old.told (Named name) a → ComesToBehind (errs_on_file errno) a answer →
+    Goes (at_name name (errs_on_file errno)) old (done_behind (Some a) (record { answer = answer; call = None })) HandlesStay new
+on-name-goes name errno a answer old new asks shows h = behind-goes (Named name) (if_file (errs_on_file errno)) a (record { answer = answer; call = None }) HandlesStay old new new asks shows (on-file errno a answer new h)
+
 -- ---- want of memory
 
 pub on-err : {A : Type 0} (r : Result A WantOfMemory) (P : Type 0) → P → OnErr r P
@@ -305,7 +361,7 @@ called-behind {kind} old mid new failed f a w =
     let asked : Asks kind old false mid = subst (λ (b : Bool). Asks kind old b mid) f a in (
       kind ∷ w.0,
       more-calls old false mid (map unfailed w.0) old.told new asked
-          (subst (λ (t : Option (List File)). Calling mid (map unfailed w.0) t new) (told-stays old false mid asked) w.1),
+          (subst (λ (t : Option Held). Calling mid (map unfailed w.0) t new) (told-stays old false mid asked) w.1),
       omega (arith, w.2),
     )
 
@@ -315,16 +371,16 @@ called-more {kind} most old mid new failed f a w =
     let asked : Asks kind old false mid = subst (λ (b : Bool). Asks kind old b mid) f a in (
       kind ∷ w.0,
       more-calls old false mid (map unfailed w.0) old.told new asked
-          (subst (λ (t : Option (List File)). Calling mid (map unfailed w.0) t new) (told-stays old false mid asked) w.1),
+          (subst (λ (t : Option Held). Calling mid (map unfailed w.0) t new) (told-stays old false mid asked) w.1),
       omega (arith, w.2),
     )
 
 -- a call that wanted memory
-pub wanted-memory : {kind : TreeCall} (allows : List File → Bool) (change : List File → List File) (d : TreeDone) (old new : TreeIs) → d ≡ done.Memory → ChangesFiles kind allows change old d new → WasCalledUpTo 1 old new
+pub wanted-memory : {kind : TreeCall} (allows : Held → Bool) (change : Held → Held) (d : TreeDone) (old new : TreeIs) → d ≡ done.Memory → ChangesFiles kind allows change old d new → WasCalledUpTo 1 old new
 wanted-memory {kind} allows change d old new e c =
     let h : ChangesFiles kind allows change old done.Memory new = subst (λ (x : TreeDone). ChangesFiles kind allows change old x new) e c in (
       kind ∷ [],
-      record { goes = h.goes ∙ ap (λ (t : Option (List File)). after_call old kind false t) h.does; fails = (h.fails, tt) },
+      record { goes = h.goes ∙ ap (λ (t : Option Held). after_call old kind false t) h.does; fails = (h.fails, tt) },
       omega arith,
     )
 
@@ -390,6 +446,9 @@ walk-goes v w old done change new e g = subst (λ (x : Walk NodeVerdict). Goes x
 pub picked : (b r : Bool) (w v : Walk NodeVerdict) → r ≡ b → r ≡ true → cond b w v ≡ w
 picked b r w v e t = ap (λ (c : Bool). cond c w v) (sym e ∙ t)
 
+pub passed : (b r : Bool) (w v : Walk NodeVerdict) → r ≡ b → r ≡ false → cond b w v ≡ v
+passed b r w v e t = ap (λ (c : Bool). cond c w v) (sym e ∙ t)
+
 -- by the open file of a handle
 pub by-open : (next : OnHandle) (handle : Option Handle) (o : Option FileLent) (file : FileLent) (old : TreeIs) (done : NodeDone) (change : HandleChange) (new : TreeIs) → by_file_handle handle next ≡ by_open_file o next → o ≡ Some file →
     Goes (next (file_of file)) old done change new → Goes (by_file_handle handle next) old done change new
@@ -412,6 +471,7 @@ goes-done w op seat table old done change after new x g h = record {
     gives = g.gives;
     lists = g.lists;
     clock = g.clock;
+    generation = g.generation;
     keeper = g.keeper;
     comes = g.comes;
     answer = same-answer old.told op (answer_of g.verdict) done.answer x g.answer;
@@ -438,18 +498,18 @@ pub open-writes : (reach : Reaching) (limit offset : ℕ) (content : List ℕ) (
 open-writes reach limit offset content file allowed old done new i g =
     subst (λ (b : Bool). Goes (errs_if (not file.write) ebadf (errs_if (not b) eacces (write_content limit file.name offset content))) old done HandlesStay new) i.write_is g
 
-pub set_attr-does : (naming : Option Naming) (book : FileBook) (call : NodeCall) (table : HandleTable) (valid fh size : ℕ) (handle : Option Handle) (old : TreeIs) (done : NodeDone) (new : TreeIs) → handle_in (opened_on table.seats call.seat) fh ≡ handle →
+pub set_attr-does : (naming : Option Naming) (temp : Option Temp) (book : FileBook) (call : NodeCall) (table : HandleTable) (valid fh size : ℕ) (handle : Option Handle) (old : TreeIs) (done : NodeDone) (new : TreeIs) → handle_in (opened_on table.seats call.seat) fh ≡ handle →
     call.request.now.op ≡ NodeOp.SetAttr valid fh size →
-    ((s : State) → Lends book.view s → Goes (set_attr (reach_at s call.who.now) call.request.now (record { valid = valid; size = size; limit = book.file_limit }) (place_of s call.who.now naming call.request.now.node) handle) old done HandlesStay new) →
-    DoesAt naming book call table old done table new
-set_attr-does naming book call table valid fh size handle old done new h op f = λ s c a n.
+    ((s : State) → Lends book.view s → Goes (set_attr (reach_at s call.who.now) call.request.now (record { valid = valid; size = size; limit = book.file_limit }) (place_of s call.who.now naming temp call.request.now.node) handle) old done HandlesStay new) →
+    DoesAt naming temp book call table old done table new
+set_attr-does naming temp book call table valid fh size handle old done new h op f = λ s c a n.
     let r = call.request.now in
     let asks : SetsAttr = record { valid = valid; size = size; limit = book.file_limit } in
     let reach = reach_at s call.who.now in
-    done-in s c book call (set_attr reach r asks (place_of s call.who.now naming r.node) handle) table old done table new a
+    done-in s c book call (set_attr reach r asks (place_of s call.who.now naming temp r.node) handle) table old done table new a
     (walk-is s c r (NodeOp.SetAttr valid fh size) op
-    ∙ (ap (λ (n : ℕ). set_attr (reach_at s c.who) r (record { valid = valid; size = size; limit = n }) (place_of s c.who (naming_on c r.node) r.node) (handle_of s.handles c.seat fh)) a.limit
-    ∙ (ap (λ (w : Who). set_attr (reach_at s w) r asks (place_of s w (naming_on c r.node) r.node) (handle_of s.handles c.seat fh)) a.caller
-    ∙ (ap (λ (o : Option Naming). set_attr reach r asks (place_of s call.who.now o r.node) (handle_of s.handles c.seat fh)) n
-    ∙ ap (set_attr reach r asks (place_of s call.who.now naming r.node)) (sym (handle-is s c book call table old.told a fh) ∙ h)))))
-    (goes-done (set_attr reach r asks (place_of s call.who.now naming r.node) handle) r.op call.seat table old done HandlesStay table new (subst IsExact (sym op) tt) (f s a.lists) (handles-stay call.seat table))
+    ∙ (ap (λ (n : ℕ). set_attr (reach_at s c.who) r (record { valid = valid; size = size; limit = n }) (sight_on s c r.node) (handle_of s.handles c.seat fh)) a.limit
+    ∙ (ap (λ (w : Who). set_attr (reach_at s w) r asks (sight_on s c r.node) (handle_of s.handles c.seat fh)) a.caller
+    ∙ (ap (λ (o : Option Sight). set_attr reach r asks o (handle_of s.handles c.seat fh)) (seen-by-caller s c call.who.now r.node naming temp a.caller n.naming_is n.temp_is)
+    ∙ ap (set_attr reach r asks (place_of s call.who.now naming temp r.node)) (sym (handle-is s c book call table old.told a fh) ∙ h)))))
+    (goes-done (set_attr reach r asks (place_of s call.who.now naming temp r.node) handle) r.op call.seat table old done HandlesStay table new (subst IsExact (sym op) tt) (f s a.lists) (handles-stay call.seat table))

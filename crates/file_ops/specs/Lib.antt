@@ -1,5 +1,9 @@
 pub mod OpenedFolders
 pub mod SeatNames
+pub mod SeatTemps
+pub mod Temporaries
+pub mod Homes
+pub mod Renames
 pub mod Sets
 pub mod Tries
 pub mod Children

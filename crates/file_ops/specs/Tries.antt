@@ -5,7 +5,7 @@ use Rattle.host_tree.specs.declared.tree.LookAnswer.{LookAnswer}
 use Rattle.host_tree.specs.declared.tree.LookAnswer.TheVariants as look
 use Rattle.host_tree.specs.declared.tree.TreeDone.{TreeDone}
 use Rattle.host_tree.specs.declared.tree.TreeDone.TheVariants as done
-use Rattle.portal_base.specs.declared.files.File.{File}
+use Rattle.file_generations.specs.Generations.{Held}
 use Rattle.portal_base.specs.declared.files.Look.{Look}
 use Rattle.portal_model.specs.declared.entry.Fault.{Fault}
 use Rattle.portal_model.specs.declared.reply.Answer.{Answer}
@@ -15,7 +15,7 @@ use Rattle.portal_model.specs.Bus.{is_tree, moment_given}
 use Rattle.portal_model.specs.Errno.{eio, enoent}
 use Rattle.portal_model.specs.Node.{files_after}
 use Rattle.portal_model.specs.NodeVerdict.{NodeVerdict, HandleChange, HandlesStay}
-use Rattle.portal_model.specs.Walk.{Gives, GivesNames, IsShown, Target, Walk, reads_clock, walked_with}
+use Rattle.portal_model.specs.Walk.{Gives, GivesNames, IsShown, Target, Walk, generation_reached, reads_clock, walked_with}
 use Rattle.node_looks.specs.Done.{answer_of, file_change, handle_change}
 use Rattle.node_looks.specs.TreeCalls.{Calling, calls_of}
 use Rattle.node_looks.specs.Walks.{taken}
@@ -50,7 +50,12 @@ shown_behind call = cond (found_nothing call) (Look.Missing ∷ []) []
 
 abbrev pub moment_of : Option CallMade → Option ℕ
 moment_of None = None
-moment_of (Some call) = Some call.now
+moment_of (Some call) = call.now
+
+-- the generation of the file that it was to make beside the present ones
+abbrev pub generation_in : Option CallMade → Option ℕ
+generation_in None = None
+generation_in (Some call) = call.generation
 
 abbrev pub fault_by : Came → Fault
 fault_by came.Done = Fault.None
@@ -68,9 +73,16 @@ fault_behind (Some (look.Is shown)) call = fault_of_call call
 fault_behind (Some look.Failed) call = Fault.Tree
 
 -- what the answer to a look shows of what was looked at
-abbrev pub ShowsAt : Option (List File) → Target → LookAnswer → Type 0
+abbrev pub ShowsAt : Option Held → Target → LookAnswer → Type 0
 ShowsAt told target (look.Is shown) = IsShown told target shown
 ShowsAt told target look.Failed = Unit {0}
+
+-- a file that is shown is of this generation
+abbrev pub IsOfGeneration : ℕ → LookAnswer → Type 0
+IsOfGeneration number (look.Is (Look.File generation size moment)) = generation ≡ number
+IsOfGeneration number (look.Is Look.Folder) = Unit {0}
+IsOfGeneration number (look.Is Look.Missing) = Unit {0}
+IsOfGeneration number look.Failed = Unit {0}
 
 -- ---- what is done
 
@@ -81,6 +93,7 @@ done_behind look ended = record {
   looks = taken look ++ shown_behind ended.call;
   listed = None;
   now = moment_of ended.call;
+  generation = generation_in ended.call;
   fault = fault_behind look ended.call;
 }
 
@@ -114,11 +127,24 @@ answer_by came.Done answer = Answer.Node answer
 answer_by came.NotFile answer = Answer.Refused (Code.Errno enoent)
 answer_by came.Failed answer = Answer.Refused (Code.Errno eio)
 
+abbrev pub ended_of : CallMade → NodeAnswer → Ended
+ended_of call answer = record { answer = answer_by call.came answer; call = Some call }
+
+-- a call that changes or makes a present file, at a moment
+abbrev pub called_at : ℕ → Came → CallMade
+called_at now came = record { now = Some now; generation = None; came = came }
+
 abbrev pub ended_by : ℕ → Came → NodeAnswer → Ended
-ended_by now came answer = record {
-  answer = answer_by came answer;
-  call = Some (record { now = now; came = came });
-}
+ended_by now came answer = ended_of (called_at now came) answer
+
+-- one that makes a file beside the present ones
+abbrev pub freshened_at : ℕ → ℕ → Came → CallMade
+freshened_at now generation came =
+    record { now = Some now; generation = Some generation; came = came }
+
+-- one by which a file becomes the present one of its path
+abbrev pub turned_so : Came → CallMade
+turned_so came = record { now = None; generation = None; came = came }
 
 -- ---- by a walk
 
@@ -129,6 +155,7 @@ pub record Goes (walk : Walk NodeVerdict) (old : TreeIs) (done : NodeDone) (chan
   pub gives : Gives old.told walk done.looks (is_tree done.fault)
   pub lists : GivesNames old.told walk done.looks done.listed (is_tree done.fault)
   pub clock : is_some done.now ≡ reads_clock walk done.looks
+  pub generation : done.generation ≡ generation_reached walk done.looks
   pub keeper : done.fault ≡ Fault.Keeper → ⊥
   pub verdict : Option NodeVerdict
   pub comes :

@@ -4,7 +4,7 @@ use Rattle.portal_model.specs.declared.request.NodeOp.{NodeOp}
 use Rattle.portal_model.specs.declared.request.NodeRequest.{NodeRequest}
 use Rattle.portal_model.specs.NodeNumbers.{kind_of_node}
 
--- the requests that may change or make a file: no other reads the clock
+-- the requests that may change bytes or make a file: no other reads the clock
 abbrev pub may_change_file : NodeOp → Bool
 may_change_file (NodeOp.SetAttr valid fh size) = true
 may_change_file (NodeOp.Open flags) = true
@@ -22,9 +22,36 @@ may_change_file NodeOp.OpenDir = false
 may_change_file (NodeOp.ReadDir fh offset size) = false
 may_change_file (NodeOp.ReleaseDir fh) = false
 may_change_file (NodeOp.Access mask) = false
+may_change_file (NodeOp.Rename new_parent flags old_name new_name) = false
+may_change_file (NodeOp.Unlink name) = false
 
+<<<<<<< ours
+=======
+-- How often the tree was called at most where memory is wanted: by a call that wants it, and the
+-- looks ahead of one that lists, cuts or makes or names a file, or makes one present.
+abbrev pub calls_in_vain : NodeOp → ℕ
+calls_in_vain (NodeOp.Create name flags) = 3
+calls_in_vain (NodeOp.Lookup name) = 2
+calls_in_vain (NodeOp.SetAttr valid fh size) = 2
+calls_in_vain (NodeOp.Open flags) = 2
+calls_in_vain NodeOp.OpenDir = 2
+calls_in_vain (NodeOp.Read fh offset size) = 1
+calls_in_vain (NodeOp.Write fh offset content) = 1
+calls_in_vain (NodeOp.Fsync fh) = 1
+calls_in_vain (NodeOp.Rename new_parent flags old_name new_name) = 1
+calls_in_vain (NodeOp.Forget count) = 0
+calls_in_vain (NodeOp.BatchForget nodes) = 0
+calls_in_vain (NodeOp.GetAttr flags fh) = 0
+calls_in_vain (NodeOp.Flush fh) = 0
+calls_in_vain (NodeOp.Release fh) = 0
+calls_in_vain (NodeOp.ReadDir fh offset size) = 0
+calls_in_vain (NodeOp.ReleaseDir fh) = 0
+calls_in_vain (NodeOp.Access mask) = 0
+calls_in_vain (NodeOp.Unlink name) = 0
+
+>>>>>>> theirs
 -- a node that is none of a root, of the folder of all views or of a document's folder: an exported
--- folder or a name below it may be there
+-- folder, a name below it or a temporary may be there
 abbrev pub may_be_below : ℕ → Bool
 may_be_below node = not (nat_lt (kind_of_node node) 2)
 
@@ -71,6 +98,8 @@ fits_by below (NodeOp.Write fh offset content) = false
 fits_by below (NodeOp.Fsync fh) = false
 fits_by below NodeOp.OpenDir = false
 fits_by below (NodeOp.ReadDir fh offset size) = false
+fits_by below (NodeOp.Rename new_parent flags old_name new_name) = false
+fits_by below (NodeOp.Unlink name) = false
 
 abbrev pub fits_in_room : NodeRequest → Bool
 fits_in_room r = fits_by (may_be_below r.node) r.op
@@ -86,6 +115,7 @@ vain_by below (NodeOp.Read fh offset size) = true
 vain_by below (NodeOp.Write fh offset content) = true
 vain_by below (NodeOp.Fsync fh) = true
 vain_by below NodeOp.OpenDir = true
+vain_by below (NodeOp.Rename new_parent flags old_name new_name) = true
 vain_by below (NodeOp.Forget count) = false
 vain_by below (NodeOp.BatchForget nodes) = false
 vain_by below (NodeOp.GetAttr flags fh) = false
@@ -94,6 +124,7 @@ vain_by below (NodeOp.Release fh) = false
 vain_by below (NodeOp.ReadDir fh offset size) = false
 vain_by below (NodeOp.ReleaseDir fh) = false
 vain_by below (NodeOp.Access mask) = false
+vain_by below (NodeOp.Unlink name) = false
 
 abbrev pub may_call_in_vain : NodeRequest → Bool
 may_call_in_vain r = vain_by (may_be_below r.node) r.op

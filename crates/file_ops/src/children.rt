@@ -8,6 +8,8 @@ ghost use Rattle.portal_base.specs.declared.files.Look.TheVariants as Look;
 ghost use Rattle.open_handles.specs.Opened.{CanAdd, HandleTable, opened_on};
 ghost use Rattle.folder_documents.specs.Named.{CanName, named_on};
 ghost use Rattle.portal_model.specs.declared.naming.Naming.{Naming as NamingNow};
+ghost use Rattle.portal_model.specs.declared.temporary.OwnTemp.{OwnTemp as OwnTempNow};
+ghost use Rattle.portal_model.specs.SeatNames.{SeatTemps as SeatTempsNow};
 ghost use Rattle.portal_model.specs.Attributes.{on_node};
 ghost use Rattle.portal_model.specs.Create.{create};
 ghost use Rattle.portal_model.specs.Lookup.{lookup};
@@ -84,10 +86,10 @@ pub(crate) fn lookup_below<T: HostTree>(
 ) -> Result<NodeDone, WantOfMemory>
     requires named { IsSome (named_on namings.old call.now.seat) }
     requires view { parent.now.view < 2 ^ 28 }
-    ensures ok { (table : HandleTable) → IfOk result (λ done. NumberingWith
-        (λ has. lookup call.now.request.now has name.now (Some (parent_sight parent.now)))
-        call.now.seat table namings.old (T.is tree.old) done table namings.new
-        (T.is tree.new)) }
+    ensures ok { (table : HandleTable) (temps : List OwnTempNow) → IfOk result (λ done.
+        NumberingWith (λ has. lookup call.now.request.now has temps name.now
+        (Some (parent_sight parent.now))) call.now.seat table namings.old (T.is tree.old) done
+        table namings.new (T.is tree.new)) }
     ensures err { OnErr result (WasCalledUpTo 2 (T.is tree.old) (T.is tree.new)) }
     ensures names_err { OnErr result
         (SeatNamed call.now.seat NamesStay namings.old namings.new) }
@@ -291,9 +293,9 @@ pub(crate) fn create_below<T: HostTree, C: Clock>(
     requires entered { IsSome (opened_on handles.old.seats call.now.seat) }
     requires named { IsSome (named_on namings.old call.now.seat) }
     requires view { parent.now.view < 2 ^ 28 }
-    ensures ok { IfOk result (λ done. NumberingWith
-        (create call.now.request.now name.now flags (Some (parent_sight parent.now))
-        (room_in handles.old call.now.seat)) call.now.seat handles.old namings.old
+    ensures ok { (temps : SeatTempsNow) → IfOk result (λ done. NumberingWith
+        (λ has. create call.now.request.now name.now flags (Some (parent_sight parent.now))
+        (room_in handles.old call.now.seat) has temps) call.now.seat handles.old namings.old
         (T.is tree.old) done handles.new namings.new (T.is tree.new)) }
     ensures clock { IfOk result (λ done. Reads C.reads clock.old done.now clock.new) }
     ensures err { OnErr result (WasCalledUpTo 3 (T.is tree.old) (T.is tree.new)) }
@@ -520,8 +522,8 @@ fn made_file<T: HostTree, C: Clock>(
     requires number { IsSomeAnd (named_on namings.old call.now.seat) (CanName naming) }
     requires view { naming.view < 2 ^ 28 }
     requires first { file ≡ record { path = naming.path; generation = 0 } }
-    requires missing { IfSome (T.is tree.old).told (λ files.
-        Look.Missing ≡ look_at files file.path) }
+    requires missing { IfSome (T.is tree.old).told (λ held.
+        Look.Missing ≡ look_at held.present file.path) }
     ensures ok { (has : List NamingNow) → namings_on namings.old call.now.seat ≡ Some has →
         IfOk result (λ ended. Numbering
         (there_below call.now.request.now flags (room_in handles.old call.now.seat) parent.now

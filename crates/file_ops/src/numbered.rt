@@ -1,26 +1,41 @@
-//! Numbers that are given to names below folders that are documents.
+//! Numbers that are given to names below folders that are documents, and what connections
+//! have by numbers.
 
-ghost use Rattle.std.specs.Prelude.{◌≡◌, ◌<◌, ◌^◌, IfOk, IsSome, IsSomeAnd, List, Some, not, option_copied, true};
+ghost use Rattle.std.specs.Prelude.{◌≡◌, ◌<◌, ◌^◌, IfOk, IsSome, IsSomeAnd, List, Some, not, true};
 ghost use Rattle.folder_documents.specs.Named.{CanName, named_on};
 ghost use Rattle.portal_model.specs.declared.naming.Naming.{Naming as NamingNow};
 ghost use Rattle.portal_model.specs.Lookup.{node_of_naming};
 ghost use Rattle.portal_model.specs.NodeVerdict.{Names, NamesStay};
 ghost use Rattle.portal_model.specs.Place.{id_of_node};
-ghost use Rattle.portal_model.specs.SeatNames.{lacks_number, naming_of};
+ghost use Rattle.portal_model.specs.SeatNames.{lacks_number, naming_of, temp_of};
 ghost use Rattle.file_ops.specs.SeatNames.{SeatNamed, namings_on};
+ghost use Rattle.file_ops.specs.SeatTemps.{HeldTemps, temps_on};
+ghost use Rattle.node_looks.specs.Sights.{naming_by, temp_by};
 
 use app_view::{id_of, node_of};
 use folder_documents::{NamingError, Namings};
+use node_looks::served::ByNumber;
 use portal_base::memory::WantOfMemory;
 use portal_model::naming::Naming;
 use portal_model::place::Place;
+use save_files::Temps;
 
-/// What the connection of a seat has named by the number in a node, wherever that is.
-pub(crate) fn naming_of(namings: &Namings, seat: u32, node: u64) -> Option<&Naming>
-    ensures { (has : List NamingNow) → namings_on namings.now seat ≡ Some has →
-        option_copied result ≡ naming_of has (id_of_node node) }
+/// What the connection of a seat has by the number in a node, whatever kind that is of.
+pub(crate) fn by_number<'a>(
+    namings: &'a Namings,
+    temps: &'a Temps,
+    seat: u32,
+    node: u64,
+) -> ByNumber<'a>
+    ensures naming { (has : List NamingNow) → namings_on namings.now seat ≡ Some has →
+        naming_by result ≡ naming_of has (id_of_node node) }
+    ensures temp { (has : HeldTemps) → temps_on temps.now.seats seat ≡ Some has →
+        temp_by result ≡ temp_of has.temps (id_of_node node) }
 {
-    namings.get(seat, id_of(node))
+    let number = id_of(node);
+    let naming = namings.get(seat, number);
+    let temp = temps.get(seat, number);
+    ByNumber { naming, temp }
 }
 
 /// Takes room for the number of a name on a seat; `false` exactly where the seat may name

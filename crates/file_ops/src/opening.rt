@@ -1,27 +1,28 @@
 //! FUSE_OPEN: a file is opened, by the flags of open(2).
 
-ghost use Rattle.std.specs.Prelude.{◌≡◌, ℕ, IfOk, IsSome, IsSomeAnd, OnErr, false, option_copied, true};
+ghost use Rattle.std.specs.Prelude.{◌≡◌, ℕ, IfOk, IsSome, IsSomeAnd, OnErr, false, true};
 ghost use Rattle.host_tree.specs.Trees.{is_look_fault};
 ghost use Rattle.open_handles.specs.Opened.{CanAdd, opened_on};
 ghost use Rattle.portal_model.specs.declared.reply.NodeAnswer.TheVariants as NodeAnswer;
 ghost use Rattle.portal_model.specs.declared.request.NodeOp.TheVariants as NodeOp;
-ghost use Rattle.portal_model.specs.NodeVerdict.{Opens, at_file, by_look, if_file, next_handle, spot};
+ghost use Rattle.portal_model.specs.NodeVerdict.{Opens, at_file, at_name, by_look, if_file, next_handle, spot};
 ghost use Rattle.portal_model.specs.Open.{file_handle, open_file, open_folder, open_name, open_node, truncates};
-ghost use Rattle.portal_model.specs.Place.{place_of};
 ghost use Rattle.portal_model.specs.State.{State};
 ghost use Rattle.portal_model.specs.Walk.{AtPath, Looks};
 ghost use Rattle.app_view.specs.Books.{Lends};
 ghost use Rattle.node_looks.specs.Done.{DoesAt, MayRead, Reads, Wants, room_in};
 ghost use Rattle.node_looks.specs.OpenHandles.{Handled};
+ghost use Rattle.node_looks.specs.Sights.{naming_by, node_seen, temp_by};
 ghost use Rattle.file_ops.specs.Creates.{Opening, OpeningBehind};
 ghost use Rattle.file_ops.specs.Tries.{done_of_ended, done_of_tried, moment_of};
 
+use crate::opened::look_named;
 use crate::tried::{Came, Ended, Tried, came_of, room_for_looks};
-use app_view::{SeenBelow, SeenDocument, ViewBook};
+use app_view::{SeenBelow, SeenDocument, SeenTemp, ViewBook};
 use document_records::Document;
 use host_tree::{HostTree, LookAnswer};
 use node_looks::handed::{hand_out, take_room};
-use node_looks::served::{FileBook, NodeCall, NodeDone};
+use node_looks::served::{ByNumber, FileBook, NodeCall, NodeDone};
 use node_looks::sight::{SeenPlace, seen_place};
 use open_handles::Handles;
 use open_handles::open_flags::{file_handle, has_no_mode, is_denied, truncates};
@@ -30,7 +31,6 @@ use portal_base::memory::{Replica, WantOfMemory};
 use portal_base::names::HostPath;
 use portal_base::outside::Clock;
 use portal_model::errno::{EACCES, EINVAL, EIO, EISDIR, EMFILE, ENOENT};
-use portal_model::naming::Naming;
 use portal_model::reply::NodeAnswer;
 use std::alloc::Global;
 
@@ -39,10 +39,9 @@ use std::alloc::Global;
 /// neither to write nor to cut it; of a document that is a folder these are the files
 /// below it.
 ///
-/// `naming` is what the connection has named by the number in the node. It takes a look
-/// at the file, and room for the handle; with O_TRUNC then one more
-/// call of the tree, and for that the moment of now. Of n documents it takes about n
-/// steps.
+/// `own` is what the connection has by the number in the node. It takes a look at the
+/// file, and room for the handle; with O_TRUNC then one more call of the tree, and for
+/// that the moment of now. Of n documents it takes about n steps.
 pub fn open<T: HostTree, C: Clock>(
     alloc: Global,
     book: &FileBook,
@@ -50,20 +49,20 @@ pub fn open<T: HostTree, C: Clock>(
     tree: &mut T,
     clock: &mut C,
     call: &NodeCall,
-    naming: Option<&Naming>,
+    own: ByNumber,
     flags: u32,
 ) -> Result<NodeDone, WantOfMemory>
     requires { IsSome (opened_on handles.old.seats call.now.seat) }
     ensures ok { call.now.request.now.op ≡ NodeOp.Open flags → IfOk result (λ done.
-        DoesAt (option_copied naming.entry) book.now call.now handles.old (T.is tree.old) done
-        handles.new (T.is tree.new)) }
+        DoesAt (naming_by own.entry) (temp_by own.entry) book.now call.now handles.old
+        (T.is tree.old) done handles.new (T.is tree.new)) }
     ensures clock { IfOk result (λ done. Reads C.reads clock.old done.now clock.new) }
     ensures err { OnErr result
         (Wants 2 handles.old (T.is tree.old) handles.new (T.is tree.new)) }
     ensures clock_err { OnErr result (MayRead C.reads clock.old clock.new) }
 {
     let room = room_for_looks(alloc)?;
-    let tried = opened(alloc, &book.view, handles, tree, clock, call, naming, flags)?;
+    let tried = opened(alloc, &book.view, handles, tree, clock, call, own, flags)?;
     Ok(tried.done(room))
 }
 
@@ -75,13 +74,13 @@ fn opened<T: HostTree, C: Clock>(
     tree: &mut T,
     clock: &mut C,
     call: &NodeCall,
-    naming: Option<&Naming>,
+    own: ByNumber,
     flags: u32,
 ) -> Result<Tried, WantOfMemory>
     requires { IsSome (opened_on handles.old.seats call.now.seat) }
     ensures ok { IfOk result (λ tried. (s : State) → Lends book.now s → Opening
         (open_node call.now.request.now flags
-        (place_of s call.now.who.now (option_copied naming.entry) call.now.request.now.node)
+        (node_seen s call.now.who.now own.entry call.now.request.now.node)
         (room_in handles.old call.now.seat)) call.now.seat handles.old (T.is tree.old)
         (done_of_tried tried) handles.new (T.is tree.new)) }
     ensures clock { IfOk result (λ tried.
@@ -93,13 +92,16 @@ fn opened<T: HostTree, C: Clock>(
     if has_no_mode(flags) {
         return Ok(Tried::unlooked(Ended::refused(EINVAL)));
     }
-    match seen_place(book, call.who, call.request.node, naming) {
+    match seen_place(book, call.who, call.request.node, own) {
         None => Ok(Tried::unlooked(Ended::refused(ENOENT))),
         Some(SeenPlace::File { seen, .. }) => {
             open_document(alloc, handles, tree, clock, call, flags, seen)
         }
         Some(SeenPlace::Below { below, .. }) => {
             open_below(alloc, handles, tree, clock, call, flags, below)
+        }
+        Some(SeenPlace::Temporary { temp, .. }) => {
+            open_temp(alloc, handles, tree, clock, call, flags, temp)
         }
         Some(SeenPlace::Folder { .. } | SeenPlace::Root { .. } | SeenPlace::Views) => {
             Ok(Tried::unlooked(Ended::refused(EISDIR)))
@@ -129,8 +131,41 @@ fn open_document<T: HostTree, C: Clock>(
         (Wants 2 handles.old (T.is tree.old) handles.new (T.is tree.new)) }
     ensures clock_err { OnErr result (MayRead C.reads clock.old clock.new) }
 {
-    let look = tree.look(&seen.document.path);
-    let ended = open_looked(alloc, handles, tree, clock, call, flags, seen, look)?;
+    let path = &seen.document.path;
+    let look = tree.look(path);
+    let ended = open_looked(alloc, handles, tree, clock, call, flags, seen, path, look)?;
+    Ok(Tried {
+        look: Some(look),
+        ended,
+    })
+}
+
+/// How the request ends on a temporary.
+fn open_temp<T: HostTree, C: Clock>(
+    alloc: Global,
+    handles: &mut Handles,
+    tree: &mut T,
+    clock: &mut C,
+    call: &NodeCall,
+    flags: u32,
+    temp: SeenTemp,
+) -> Result<Tried, WantOfMemory>
+    requires { IsSome (opened_on handles.old.seats call.now.seat) }
+    ensures ok { IfOk result (λ tried. Opening (at_name temp.entry.file.now
+        (open_file call.now.request.now flags (room_in handles.old call.now.seat)
+        (spot temp.entry.seen.document.now temp.entry.file.now.path temp.entry.seen.may_write)))
+        call.now.seat handles.old (T.is tree.old) (done_of_tried tried) handles.new
+        (T.is tree.new)) }
+    ensures clock { IfOk result (λ tried.
+        Reads C.reads clock.old (moment_of tried.ended.call) clock.new) }
+    ensures err { OnErr result
+        (Wants 2 handles.old (T.is tree.old) handles.new (T.is tree.new)) }
+    ensures clock_err { OnErr result (MayRead C.reads clock.old clock.new) }
+{
+    let SeenTemp { seen, file } = temp;
+    let path = &file.path;
+    let look = look_named(tree, file);
+    let ended = open_looked(alloc, handles, tree, clock, call, flags, seen, path, look)?;
     Ok(Tried {
         look: Some(look),
         ended,
@@ -146,12 +181,13 @@ fn open_looked<T: HostTree, C: Clock>(
     call: &NodeCall,
     flags: u32,
     seen: SeenDocument,
+    path: &HostPath,
     look: LookAnswer,
 ) -> Result<Ended, WantOfMemory>
     requires { IsSome (opened_on handles.old.seats call.now.seat) }
     ensures ok { IfOk result (λ ended. OpeningBehind (if_file
         (open_file call.now.request.now flags (room_in handles.old call.now.seat)
-        (spot seen.entry.document.now seen.entry.document.now.path seen.entry.may_write)))
+        (spot seen.entry.document.now path.now seen.entry.may_write)))
         look call.now.seat handles.old (T.is tree.old) ended handles.new (T.is tree.new)) }
     ensures clock { IfOk result (λ ended. Reads C.reads clock.old
         (moment_of ended.call) clock.new) }
@@ -161,12 +197,9 @@ fn open_looked<T: HostTree, C: Clock>(
     ensures clock_err { OnErr result (MayRead C.reads clock.old clock.new) }
 {
     match look {
-        LookAnswer::Is(Look::File { generation, .. }) => {
-            let path = &seen.document.path;
-            open_shown(
-                alloc, handles, tree, clock, call, flags, seen, path, generation,
-            )
-        }
+        LookAnswer::Is(Look::File { generation, .. }) => open_shown(
+            alloc, handles, tree, clock, call, flags, seen, path, generation,
+        ),
         LookAnswer::Is(Look::Folder | Look::Missing) => Ok(Ended::refused(ENOENT)),
         LookAnswer::Failed => Ok(Ended::refused(EIO)),
     }

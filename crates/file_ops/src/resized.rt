@@ -8,7 +8,7 @@ ghost use Rattle.portal_model.specs.declared.state.Document.{Document as Documen
 ghost use Rattle.portal_model.specs.Attributes.{is_writable, on_node};
 ghost use Rattle.portal_model.specs.Errno.{eacces};
 ghost use Rattle.portal_model.specs.NodeVerdict.{HandlesStay, at_file, at_name, by_file_handle, by_look, by_place, errs_if, if_file, spot};
-ghost use Rattle.portal_model.specs.Place.{Folder, place_of, reach_at};
+ghost use Rattle.portal_model.specs.Place.{Folder, reach_at};
 ghost use Rattle.portal_model.specs.SetAttr.{set_attr, set_attr_at, set_attr_of_folder, set_attr_open, sets_by_handle, sets_owner_or_mode, sets_size};
 ghost use Rattle.portal_model.specs.State.{State};
 ghost use Rattle.portal_model.specs.Walk.{AtPath, Looks};
@@ -16,18 +16,18 @@ ghost use Rattle.app_view.specs.Books.{Lends};
 ghost use Rattle.node_looks.specs.Done.{DoesAt, MayRead, Reads};
 ghost use Rattle.node_looks.specs.Opened.{file_of};
 ghost use Rattle.file_ops.specs.Sets.{denial_of, generation_of, set_subject, sets_file, sets_length, sets_of};
-ghost use Rattle.node_looks.specs.Sights.{sight_of};
+ghost use Rattle.node_looks.specs.Sights.{naming_by, node_seen, sight_of, temp_by};
 ghost use Rattle.node_looks.specs.TreeCalls.{WasCalledUpTo};
 ghost use Rattle.file_ops.specs.Tries.{Goes, GoesBehind, done_of_ended, done_of_tried, moment_of};
 
 use crate::opened::look_named;
 use crate::tried::{Ended, Tried, came_of, room_for_looks};
-use app_view::{SeenBelow, ViewBook};
+use app_view::{SeenBelow, SeenTemp, ViewBook};
 use document_records::Document;
 use host_tree::{HostTree, LookAnswer};
 use node_looks::attributes::{attr_of_file, attr_of_folder};
 use node_looks::opened::{OpenFile, allowed_now, open_file};
-use node_looks::served::{FileBook, NodeCall, NodeDone};
+use node_looks::served::{ByNumber, FileBook, NodeCall, NodeDone};
 use node_looks::sight::{SeenPlace, seen_place};
 use portal_base::files::{FileName, Look};
 use portal_base::memory::{Replica, WantOfMemory};
@@ -35,7 +35,6 @@ use portal_base::outside::Clock;
 use portal_base::who::Who;
 use portal_model::errno::{EACCES, EBADF, EFBIG, EIO, EISDIR, ENOENT, EPERM};
 use portal_model::handle::Handle;
-use portal_model::naming::Naming;
 use portal_model::reply::NodeAnswer;
 use portal_model::request::NodeRequest;
 use std::alloc::Global;
@@ -58,8 +57,8 @@ struct Setting {
 /// is EACCES where the subject of the node's view may not read the document now, and
 /// for a length where it may not write it.
 ///
-/// `naming` is what the connection has named by the number in the node. It takes a look
-/// at the file, and where the length is to be set one more call of the tree, and for that
+/// `own` is what the connection has by the number in the node. It takes a look at the
+/// file, and where the length is to be set one more call of the tree, and for that
 /// the moment of now. Where memory is wanting the tree was called twice at most, and no
 /// file has changed. Of n documents it takes about n steps.
 pub fn set_attr<T: HostTree, C: Clock>(
@@ -68,7 +67,7 @@ pub fn set_attr<T: HostTree, C: Clock>(
     tree: &mut T,
     clock: &mut C,
     call: &NodeCall,
-    naming: Option<&Naming>,
+    own: ByNumber,
     handle: Option<&Handle>,
     valid: u32,
     size: u64,
@@ -76,8 +75,8 @@ pub fn set_attr<T: HostTree, C: Clock>(
     ensures ok { (table : HandleTable) (fh : ℕ) →
         handle_of (opened_on table.seats call.now.seat) fh ≡ option_copied handle.entry →
         call.now.request.now.op ≡ NodeOp.SetAttr valid fh size → IfOk result (λ done.
-        DoesAt (option_copied naming.entry) book.now call.now table (T.is tree.old) done table
-        (T.is tree.new)) }
+        DoesAt (naming_by own.entry) (temp_by own.entry) book.now call.now table
+        (T.is tree.old) done table (T.is tree.new)) }
     ensures clock { IfOk result (λ done. Reads C.reads clock.old done.now clock.new) }
     ensures err { OnErr result (WasCalledUpTo 2 (T.is tree.old) (T.is tree.new)) }
     ensures clock_err { OnErr result (MayRead C.reads clock.old clock.new) }
@@ -95,7 +94,7 @@ pub fn set_attr<T: HostTree, C: Clock>(
         clock,
         call.who,
         call.request,
-        naming,
+        own,
         setting,
         handle,
     )?;
@@ -110,13 +109,13 @@ fn set<T: HostTree, C: Clock>(
     clock: &mut C,
     who: &Who,
     request: &NodeRequest,
-    naming: Option<&Naming>,
+    own: ByNumber,
     setting: Setting,
     handle: Option<&Handle>,
 ) -> Result<Tried, WantOfMemory>
     ensures ok { IfOk result (λ tried. (s : State) → Lends book.now s →
         Goes (set_attr (reach_at s who.now) request.now (sets_of setting)
-        (place_of s who.now (option_copied naming.entry) request.now.node)
+        (node_seen s who.now own.entry request.now.node)
         (option_copied handle.entry)) (T.is tree.old) (done_of_tried tried) HandlesStay
         (T.is tree.new)) }
     ensures clock { IfOk result (λ tried.
@@ -131,7 +130,7 @@ fn set<T: HostTree, C: Clock>(
     if sets_by_handle(setting.valid) {
         return set_open(book, tree, clock, who, request, setting, handle);
     }
-    match seen_place(book, who, request.node, naming) {
+    match seen_place(book, who, request.node, own) {
         Some(place) => set_place(alloc, book, tree, clock, who, request, setting, place),
         None => Ok(Tried::unlooked(Ended::refused(ENOENT))),
     }
@@ -404,6 +403,7 @@ fn set_place<T: HostTree, C: Clock>(
             seen.may_write,
         ),
         SeenPlace::Below { below, .. } => { set_below(alloc, tree, clock, request, setting, below) }
+        SeenPlace::Temporary { temp, .. } => set_temp(tree, clock, request, setting, temp),
         SeenPlace::Folder { .. } => Ok(set_plain(request, setting)),
         SeenPlace::Root { .. } => Ok(set_plain(request, setting)),
         SeenPlace::Views => Ok(set_plain(request, setting)),
@@ -502,6 +502,36 @@ fn set_looked_below<T: HostTree, C: Clock>(
         LookAnswer::Is(Look::Missing) => Ok(Ended::refused(ENOENT)),
         LookAnswer::Failed => Ok(Ended::refused(EIO)),
     }
+}
+
+/// How the request ends on a temporary.
+fn set_temp<T: HostTree, C: Clock>(
+    tree: &mut T,
+    clock: &mut C,
+    request: &NodeRequest,
+    setting: Setting,
+    temp: SeenTemp,
+) -> Result<Tried, WantOfMemory>
+    ensures ok { IfOk result (λ tried. Goes (at_name temp.entry.file.now
+        (set_attr_at request.now (sets_of setting) (spot temp.entry.seen.document.now
+        temp.entry.file.now.path temp.entry.seen.may_write))) (T.is tree.old)
+        (done_of_tried tried) HandlesStay (T.is tree.new)) }
+    ensures clock { IfOk result (λ tried.
+        Reads C.reads clock.old (moment_of tried.ended.call) clock.new) }
+    ensures err { OnErr result (WasCalledUpTo 2 (T.is tree.old) (T.is tree.new)) }
+    ensures clock_err { OnErr result (MayRead C.reads clock.old clock.new) }
+{
+    let look = look_named(tree, temp.file);
+    let subject = Subject {
+        node: request.node,
+        may_write: temp.seen.may_write,
+        denial: EACCES,
+    };
+    let ended = set_looked(tree, clock, request, setting, temp.file, subject, look)?;
+    Ok(Tried {
+        look: Some(look),
+        ended,
+    })
 }
 
 /// How the request ends on the file of a document.

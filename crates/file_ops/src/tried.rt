@@ -4,15 +4,16 @@ ghost use Rattle.std.specs.Prelude.{◌≡◌, ◌∷◌, ◌++◌, IfOk, OnErr,
 ghost use Rattle.host_tree.specs.declared.tree.TreeDone.TheVariants as TreeDone;
 ghost use Rattle.host_tree.specs.Trees.{TreeIs};
 ghost use Rattle.portal_model.specs.declared.reply.NodeAnswer.TheVariants as NodeAnswer;
-ghost use Rattle.portal_model.specs.NodeVerdict.{HandlesStay, at_file, errs, errs_on_file, told};
-ghost use Rattle.file_ops.specs.Tries.{Goes, done_after, done_of_below, done_of_ended, done_of_tried, ended_by, fault_by, fault_behind, fault_of_call, found_nothing, is_not_file, moment_of, refuses, says, shown_behind, tree_done};
+ghost use Rattle.portal_model.specs.NodeVerdict.{HandlesStay, at_file, at_name, errs, errs_on_file, told};
+ghost use Rattle.file_ops.specs.Tries.{Goes, done_after, done_of_below, done_of_ended, done_of_tried, ended_by, fault_by, fault_behind, ended_of, called_at, fault_of_call, found_nothing, generation_in, is_not_file, moment_of, refuses, says, shown_behind, tree_done};
 ghost use Rattle.node_looks.specs.Walks.{taken};
 ghost use Rattle.file_ops.specs.declared.tried.Came.TheVariants as came;
 
+use crate::opened::look_named;
 use host_tree::{HostTree, LookAnswer, TreeDone};
 use node_looks::asked::{refusal, refusal_on_file, room_for_look};
 use node_looks::served::NodeDone;
-use portal_base::files::Look;
+use portal_base::files::{FileName, Look};
 use portal_base::list::List;
 use portal_base::memory::WantOfMemory;
 use portal_base::names::HostPath;
@@ -36,8 +37,10 @@ pub(crate) enum Came {
 /// A call that changes or makes a file.
 #[derive(Clone, Copy)]
 pub(crate) struct CallMade {
-    /// The moment that was read for it.
-    pub now: u64,
+    /// The moment that was read for it, which is needed where bytes change.
+    pub now: Option<u64>,
+    /// The generation of the file that it was to make beside the present ones.
+    pub generation: Option<u64>,
     /// What came of it.
     pub came: Came,
 }
@@ -106,44 +109,56 @@ impl Ended {
         }
     }
 
-    /// A call at a moment; the answer is that of the request where it was done.
+    /// A call; the answer is that of the request where it was done.
+    pub(crate) fn of_call(call: CallMade, answer: NodeAnswer) -> Ended
+        ensures { result ≡ ended_of call answer }
+    {
+        match call.came {
+            Came::Done => Ended {
+                answer: Answer::Node(answer),
+                call: Some(call),
+            },
+            Came::NotFile => Ended {
+                answer: refusal(ENOENT),
+                call: Some(call),
+            },
+            Came::Failed => Ended {
+                answer: refusal(EIO),
+                call: Some(call),
+            },
+        }
+    }
+
+    /// A call that changes or makes a present file, at a moment.
     pub(crate) fn by_call(now: u64, came: Came, answer: NodeAnswer) -> Ended
         ensures { result ≡ ended_by now came answer }
     {
-        match came {
-            Came::Done => Ended {
-                answer: Answer::Node(answer),
-                call: Some(CallMade { now, came }),
-            },
-            Came::NotFile => Ended::missing(now),
-            Came::Failed => Ended::failed(now),
-        }
+        Ended::of_call(called_at(now, came), answer)
     }
 
-    /// A call at a moment that found no file, or no place for one.
+    /// Such a call that found no file, or no place for one.
     pub(crate) fn missing(now: u64) -> Ended
         ensures { result ≡ ended_by now came.NotFile NodeAnswer.Empty }
     {
-        Ended {
-            answer: refusal(ENOENT),
-            call: Some(CallMade {
-                now,
-                came: Came::NotFile,
-            }),
-        }
+        Ended::by_call(now, Came::NotFile, NodeAnswer::Empty)
     }
 
-    /// A call at a moment in which the tree failed.
+    /// Such a call in which the tree failed.
     pub(crate) fn failed(now: u64) -> Ended
         ensures { result ≡ ended_by now came.Failed NodeAnswer.Empty }
     {
-        Ended {
-            answer: refusal(EIO),
-            call: Some(CallMade {
-                now,
-                came: Came::Failed,
-            }),
-        }
+        Ended::by_call(now, Came::Failed, NodeAnswer::Empty)
+    }
+}
+
+/// A call that changes or makes a present file, at a moment.
+fn called_at(now: u64, came: Came) -> CallMade
+    ensures { result ≡ called_at now came }
+{
+    CallMade {
+        now: Some(now),
+        generation: None,
+        came,
     }
 }
 
@@ -171,6 +186,22 @@ impl Tried {
         }
     }
 
+    /// A refusal of each request on a file, where the look shows one of this name.
+    pub(crate) fn refused_on_name<T: HostTree>(tree: &mut T, name: &FileName, errno: u32) -> Tried
+        ensures goes { Goes (at_name name.now (errs_on_file errno)) (T.is tree.old)
+            (done_of_tried result) HandlesStay (T.is tree.new) }
+        ensures call { result.ended.call ≡ None }
+    {
+        let look = look_named(tree, name);
+        Tried {
+            look: Some(look),
+            ended: Ended {
+                answer: refusal_on_file(look, errno),
+                call: None,
+            },
+        }
+    }
+
     /// What was done, with the looks in the room that was taken for them.
     pub(crate) fn done(self, room: List<Look>) -> NodeDone
         requires { length room ≡ 2 }
@@ -183,6 +214,7 @@ impl Tried {
             looks: looks_in(room, look, call),
             listed: None,
             now: moment_of(call),
+            generation: generation_in(call),
             fault: fault_behind(look, call),
         }
     }
@@ -194,6 +226,16 @@ impl TriedBelow {
         ensures { result ≡ record { first = None; then = then } }
     {
         TriedBelow { first: None, then }
+    }
+
+    /// A refusal with no look and no call.
+    pub(crate) fn refused(errno: u32) -> TriedBelow
+        ensures { result ≡ record {
+          first = None;
+          then = record { look = None; ended = refuses errno };
+        } }
+    {
+        TriedBelow::at_once(Tried::unlooked(Ended::refused(errno)))
     }
 
     /// What was done, with the looks in the room that was taken for them.
@@ -230,6 +272,7 @@ fn done_after(room: List<Look>, shown: Look, then: Tried) -> NodeDone
         looks: looks_after(room, shown, look, call),
         listed: None,
         now: moment_of(call),
+        generation: generation_in(call),
         fault: fault_behind(look, call),
     }
 }
@@ -359,7 +402,17 @@ fn moment_of(call: Option<CallMade>) -> Option<u64>
     ensures { result ≡ moment_of call }
 {
     match call {
-        Some(call) => Some(call.now),
+        Some(call) => call.now,
+        None => None,
+    }
+}
+
+/// The generation of the file that was to be made beside the present ones.
+fn generation_in(call: Option<CallMade>) -> Option<u64>
+    ensures { result ≡ generation_in call }
+{
+    match call {
+        Some(call) => call.generation,
         None => None,
     }
 }

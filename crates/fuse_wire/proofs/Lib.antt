@@ -1,1 +1,2 @@
 mod Nodes
+mod Zeros

@@ -1,11 +1,12 @@
 -- What a frame asks, by its opcode.
 use Rattle.std.specs.Prelude.{ℕ, ◌+◌, ◌*◌, ◌==◌, nat_le, List, length, drop, Option, Some, None, if◌then◌else◌}
 use Rattle.std.specs.Option.{option_map}
-use Rattle.fuse_wire.specs.Bodies.{access_in, batch_forget_in, create_in, flush_in, forget_in, forget_ones, fsync_in, getattr_in, name_of, open_in, read_in, release_in, setattr_in, write_in}
-use Rattle.fuse_wire.specs.Bodies.{access_in_len, batch_forget_in_len, create_in_len, flush_in_len, forget_in_len, forget_one_len, fsync_in_len, getattr_in_len, open_in_len, read_in_len, release_in_len, setattr_in_len, write_in_len}
+use Rattle.fuse_wire.specs.Bodies.{access_in, batch_forget_in, create_in, flush_in, forget_in, forget_ones, fsync_in, getattr_in, name_of, names_of, open_in, read_in, release_in, rename_in, rename2_in, setattr_in, write_in}
+use Rattle.fuse_wire.specs.Bodies.{access_in_len, batch_forget_in_len, create_in_len, flush_in_len, forget_in_len, forget_one_len, fsync_in_len, getattr_in_len, open_in_len, read_in_len, release_in_len, rename_in_len, rename2_in_len, setattr_in_len, write_in_len}
 use Rattle.fuse_wire.specs.Frames.{header_len, header_of}
 use Rattle.fuse_wire.specs.Init.{init_ask}
 use Rattle.fuse_wire.specs.Opcodes.{opcode_of}
+use Rattle.fuse_wire.specs.declared.body.TwoNames.{TwoNames}
 use Rattle.fuse_wire.specs.declared.frame.InHeader.{InHeader}
 use Rattle.fuse_wire.specs.declared.opcode.Opcode.{Opcode}
 use Rattle.fuse_wire.specs.declared.request.FuseAsk.{FuseAsk}
@@ -48,6 +49,22 @@ create_op body = option_map (λ name. op.Create name (create_in body).flags)
 abbrev pub lookup_op : List ℕ → Option NodeOp
 lookup_op body = option_map op.Lookup (name_of body)
 
+-- FUSE_UNLINK: the name
+abbrev pub unlink_op : List ℕ → Option NodeOp
+unlink_op body = option_map op.Unlink (name_of body)
+
+-- FUSE_RENAME and FUSE_RENAME2: the struct and two names
+abbrev pub renames : ℕ → ℕ → TwoNames → NodeOp
+renames newdir flags names = op.Rename newdir flags names.old names.new
+
+abbrev pub rename_op : List ℕ → Option NodeOp
+rename_op body =
+    option_map (renames (rename_in body).newdir 0) (names_of (drop rename_in_len body))
+
+abbrev pub rename2_op : List ℕ → Option NodeOp
+rename2_op body = option_map (renames (rename2_in body).newdir (rename2_in body).flags)
+    (names_of (drop rename2_in_len body))
+
 -- ---- who answers
 
 -- the portal, of the header's node and for its user
@@ -86,9 +103,9 @@ IsFuse Opcode.SetAttr header body =
     (op.SetAttr (setattr_in body).valid (setattr_in body).fh (setattr_in body).size))
 IsFuse Opcode.MkNod header body = Local (Error eperm)
 IsFuse Opcode.MkDir header body = Local (Error eperm)
-IsFuse Opcode.Unlink header body = Local (Error eperm)
+IsFuse Opcode.Unlink header body = portal header (unlink_op body)
 IsFuse Opcode.RmDir header body = Local (Error eperm)
-IsFuse Opcode.Rename header body = Local (Error eperm)
+IsFuse Opcode.Rename header body = portal header (rename_op body)
 IsFuse Opcode.Open header body =
     portal header (sized open_in_len body (op.Open (open_in body).flags))
 IsFuse Opcode.Read header body =
@@ -115,7 +132,7 @@ IsFuse Opcode.Create header body = portal header (create_op body)
 IsFuse Opcode.Interrupt header body = Ignore
 IsFuse Opcode.Destroy header body = Local Empty
 IsFuse Opcode.BatchForget header body = quiet header (batch_forget_op body)
-IsFuse Opcode.Rename2 header body = Local (Error eperm)
+IsFuse Opcode.Rename2 header body = portal header (rename2_op body)
 IsFuse Opcode.Other header body = Local (Error enosys)
 
 -- what a whole frame asks

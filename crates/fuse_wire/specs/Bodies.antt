@@ -1,7 +1,9 @@
 -- The bodies of requests: the structs of include/uapi/linux/fuse.h, field by field in their order,
 -- each field at its offset from the end of the header.
 use Rattle.std.specs.Prelude.{ℕ, zero, suc, ◌+◌, ◌*◌, ◌-◌, ◌==◌, ◌&&◌, nat_lt, List, [], ◌∷◌, length, take, drop, slice_index, Bool, not, Option, Some, None, if◌then◌else◌}
-use Rattle.std.specs.List.{list_all}
+use Rattle.std.specs.List.{list_all, position}
+use Rattle.std.specs.Option.{option_map}
+use Rattle.fuse_wire.specs.declared.body.TwoNames.{TwoNames}
 use Rattle.fuse_wire.specs.Frames.{number_at}
 use Rattle.portal_model.specs.declared.request.ForgetItem.{ForgetItem}
 
@@ -99,6 +101,32 @@ create_in body = record {
   flags = number_at 0 4 body;
   mode = number_at 4 4 body;
   umask = number_at 8 4 body;
+  padding = number_at 12 4 body;
+}
+
+-- struct fuse_rename_in; the old name follows, and then the new one
+pub record RenameIn : Type 0 where
+  pub newdir : ℕ
+
+abbrev pub rename_in_len : ℕ
+rename_in_len = 8
+
+abbrev pub rename_in : List ℕ → RenameIn
+rename_in body = record { newdir = number_at 0 8 body }
+
+-- struct fuse_rename2_in; the names follow likewise
+pub record Rename2In : Type 0 where
+  pub newdir : ℕ
+  pub flags : ℕ
+  pub padding : ℕ
+
+abbrev pub rename2_in_len : ℕ
+rename2_in_len = 16
+
+abbrev pub rename2_in : List ℕ → Rename2In
+rename2_in body = record {
+  newdir = number_at 0 8 body;
+  flags = number_at 8 4 body;
   padding = number_at 12 4 body;
 }
 
@@ -249,3 +277,16 @@ is_name bytes = nat_lt 1 (length bytes)
 
 abbrev pub name_of : List ℕ → Option (List ℕ)
 name_of bytes = if is_name bytes then Some (name_in bytes) else None
+
+-- two names: the first ends with the first zero byte, and is not empty either
+abbrev pub two_names : List ℕ → List ℕ → TwoNames
+two_names old new = record { old = old; new = new }
+
+abbrev pub names_at : List ℕ → Option ℕ → Option TwoNames
+names_at bytes None = None
+names_at bytes (Some end) =
+    if end == 0 then None
+    else option_map (two_names (take end bytes)) (name_of (drop (end + 1) bytes))
+
+abbrev pub names_of : List ℕ → Option TwoNames
+names_of bytes = names_at bytes (position (λ b. b == 0) bytes)

@@ -1,10 +1,11 @@
 //! The bodies of requests, by the structs of `include/uapi/linux/fuse.h`. A
 //! body of another form is answered `None`.
 
-ghost use Rattle.std.specs.Prelude.{◌≡◌, ◌*◌, ◌≤◌, length, IfOk};
-ghost use Rattle.fuse_wire.specs.Asks.{sized, lookup_op, create_op, write_op, batch_forget_op};
+ghost use Rattle.std.specs.Prelude.{◌≡◌, ◌==◌, ◌*◌, ◌<◌, ◌≤◌, length, Some, IfOk};
+ghost use Rattle.std.specs.List.{position};
+ghost use Rattle.fuse_wire.specs.Asks.{sized, lookup_op, create_op, rename_op, rename2_op, unlink_op, write_op, batch_forget_op};
 ghost use Rattle.fuse_wire.specs.Bodies.{access_in, access_in_len, flush_in, flush_in_len, forget_in, forget_in_len, forget_one, forget_one_len, forget_ones, fsync_in, fsync_in_len, getattr_in, getattr_in_len};
-ghost use Rattle.fuse_wire.specs.Bodies.{is_name, name_of, open_in, open_in_len, read_in, read_in_len, release_in, release_in_len, setattr_in, setattr_in_len};
+ghost use Rattle.fuse_wire.specs.Bodies.{is_name, name_of, names_at, names_of, open_in, open_in_len, read_in, read_in_len, release_in, release_in_len, setattr_in, setattr_in_len};
 ghost use Rattle.portal_model.specs.declared.request.NodeOp.TheVariants as op;
 
 use crate::frame::{behind, u32_at, u64_at};
@@ -24,6 +25,10 @@ const SETATTR_IN_LEN: usize = 88;
 const OPEN_IN_LEN: usize = 8;
 
 const CREATE_IN_LEN: usize = 16;
+
+const RENAME_IN_LEN: usize = 8;
+
+const RENAME2_IN_LEN: usize = 16;
 
 const RELEASE_IN_LEN: usize = 24;
 
@@ -158,6 +163,52 @@ pub fn create(alloc: Global, body: &[u8]) -> Result<Option<NodeOp>, WantOfMemory
         Some(name) => Ok(Some(NodeOp::Create {
             name,
             flags: u32_at(body, 0),
+        })),
+        None => Ok(None),
+    }
+}
+
+/// FUSE_UNLINK: a name.
+pub fn unlink(alloc: Global, body: &[u8]) -> Result<Option<NodeOp>, WantOfMemory>
+    ensures { IfOk result (λ asked. asked ≡ unlink_op body.now) }
+{
+    match name_of(alloc, body)? {
+        Some(name) => Ok(Some(NodeOp::Unlink { name })),
+        None => Ok(None),
+    }
+}
+
+/// FUSE_RENAME: a `fuse_rename_in`, and two names.
+pub fn rename(alloc: Global, body: &[u8]) -> Result<Option<NodeOp>, WantOfMemory>
+    ensures { IfOk result (λ asked. asked ≡ rename_op body.now) }
+{
+    if body.len() < RENAME_IN_LEN {
+        return Ok(None);
+    }
+    match names_of(alloc, behind(body, RENAME_IN_LEN))? {
+        Some(TwoNames { old, new }) => Ok(Some(NodeOp::Rename {
+            new_parent: u64_at(body, 0),
+            flags: 0,
+            old_name: old,
+            new_name: new,
+        })),
+        None => Ok(None),
+    }
+}
+
+/// FUSE_RENAME2: a `fuse_rename2_in`, and two names.
+pub fn rename2(alloc: Global, body: &[u8]) -> Result<Option<NodeOp>, WantOfMemory>
+    ensures { IfOk result (λ asked. asked ≡ rename2_op body.now) }
+{
+    if body.len() < RENAME2_IN_LEN {
+        return Ok(None);
+    }
+    match names_of(alloc, behind(body, RENAME2_IN_LEN))? {
+        Some(TwoNames { old, new }) => Ok(Some(NodeOp::Rename {
+            new_parent: u64_at(body, 0),
+            flags: u32_at(body, 8),
+            old_name: old,
+            new_name: new,
         })),
         None => Ok(None),
     }
@@ -304,4 +355,47 @@ fn is_name(bytes: &[u8]) -> bool
         return false;
     }
     has_no_zero(&bytes[..last])
+}
+
+/// Two names, one behind the other.
+#[derive(Drop)]
+pub struct TwoNames {
+    /// The first.
+    pub old: ByteList,
+    /// The second.
+    pub new: ByteList,
+}
+
+/// Two names, each without the zero byte that ends it.
+fn names_of(alloc: Global, bytes: &[u8]) -> Result<Option<TwoNames>, WantOfMemory>
+    ensures { IfOk result (λ names. names ≡ names_of bytes.now) }
+{
+    match first_zero(bytes) {
+        Some(end) => names_at(alloc, bytes, end),
+        None => Ok(None),
+    }
+}
+
+/// Two names, of which the first ends at a place.
+fn names_at(alloc: Global, bytes: &[u8], end: usize) -> Result<Option<TwoNames>, WantOfMemory>
+    requires { end < length bytes.now }
+    ensures { IfOk result (λ names. names ≡ names_at bytes.now (Some end)) }
+{
+    if end == 0 {
+        return Ok(None);
+    }
+    match name_of(alloc, behind(bytes, end + 1))? {
+        Some(new) => Ok(Some(TwoNames {
+            old: List::copied(alloc, &bytes[..end])?,
+            new,
+        })),
+        None => Ok(None),
+    }
+}
+
+/// Where the first zero byte stands.
+fn first_zero(bytes: &[u8]) -> Option<usize>
+    ensures { result ≡ position (λ b. b == 0) bytes.now }
+{
+    bytes.iter().position(|byte| *byte == 0)
 }

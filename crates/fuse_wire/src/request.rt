@@ -55,12 +55,10 @@ fn asked_by(
         Opcode::Forget => Ok(quiet(header, body::forget(body))),
         Opcode::GetAttr => Ok(portal(header, body::getattr(body))),
         Opcode::SetAttr => Ok(portal(header, body::setattr(body))),
-        Opcode::MkNod
-        | Opcode::MkDir
-        | Opcode::Unlink
-        | Opcode::RmDir
-        | Opcode::Rename
-        | Opcode::Rename2 => Ok(refused(EPERM)),
+        Opcode::MkNod | Opcode::MkDir | Opcode::RmDir => Ok(refused(EPERM)),
+        Opcode::Unlink => Ok(portal(header, body::unlink(alloc, body)?)),
+        Opcode::Rename => Ok(portal(header, body::rename(alloc, body)?)),
+        Opcode::Rename2 => Ok(portal(header, body::rename2(alloc, body)?)),
         Opcode::Open => Ok(portal(header, body::open(body))),
         Opcode::Read => Ok(portal(header, body::read(body))),
         Opcode::Write => Ok(portal(header, body::write(alloc, body)?)),

@@ -1,7 +1,7 @@
 -- What a replay of a history keeps.
 use Rattle.std.specs.Prelude.{◌≡◌, ◌≤◌, ℕ, List, [], ◌∷◌, ◌++◌, map, true, Some, IfSome}
 use Rattle.host_tree.specs.Devices.{QuietState}
-use Rattle.portal_base.specs.declared.files.File.{File}
+use Rattle.file_generations.specs.Generations.{Held}
 use Rattle.portal_model.specs.declared.entry.Entry.{Entry}
 use Rattle.portal_model.specs.declared.entry.Fault.TheVariants as Fault
 use Rattle.portal_model.specs.declared.opening.OpeningState.{OpeningState}
@@ -9,7 +9,8 @@ use Rattle.portal_model.specs.declared.reply.Reply.{Reply}
 use Rattle.portal_model.specs.declared.request.Request.{Request}
 use Rattle.portal_model.specs.History.{cost, run}
 use Rattle.portal_model.specs.Lawful.{Lawful}
-use Rattle.portal_model.specs.Opening.{file_of, is_told, opened}
+use Rattle.portal_model.specs.Opening.{held_items, is_told, opened}
+use Rattle.portal_model.specs.State.{held_in}
 use Rattle.portal_model.specs.Step.{after, reply_at}
 use Rattle.app_trace.specs.Told.{item_told}
 use Rattle.app_trace.specs.declared.trace.TraceItem.{TraceItem}
@@ -21,8 +22,8 @@ use Rattle.portal_steps.specs.Story.{PortalIs, Story, cost_with, limit_of, state
 -- ---- how it begins
 
 -- a tree that has these files, of which no call came
-abbrev pub tree_with : List File → QuietState
-tree_with files = record { began = files; files = files; made = 0 }
+abbrev pub tree_with : Held → QuietState
+tree_with tree = record { began = tree; files = tree; made = 0 }
 
 -- the opening state without its list of files
 abbrev pub without_files : OpeningState → OpeningState
@@ -31,7 +32,7 @@ without_files o = record o { files = [] }
 -- the portal has the files of the opening state and no history, and its state is the one that this
 -- stands for
 pub record Begins (o : OpeningState) (p : Story) : Type 0 where
-  pub began : p.began ≡ Some (map file_of o.files)
+  pub began : p.began ≡ Some (held_items o.files)
   pub limit : limit_of p ≡ o.limits.history
   pub state : state_now p ≡ opened o
   pub history : p.history ≡ []
@@ -60,10 +61,10 @@ pub record IsAt (o : OpeningState) (h : List Entry) (p : Story) : Type 0 where
 -- the front of a history was replayed: the portal is in its state, the number of each open handle
 -- of that state is kept, these are its files, and its items are told
 pub record IsReplayed (app : List ℕ) (o : OpeningState) (h : List Entry) (p : Story)
-    (numbers : OpenNumbers) (files : List File) (told : List TraceItem) : Type 0 where
+    (numbers : OpenNumbers) (files : Held) (told : List TraceItem) : Type 0 where
   pub at : IsAt o h p
   pub covered : Cover numbers (run (opened o) h).handles
-  pub files_are : files ≡ (run (opened o) h).files
+  pub files_are : files ≡ held_in (run (opened o) h)
   pub items_are : map item_told told ≡ items app (opened o) h
 
 -- ---- one request, asked again

@@ -3,11 +3,11 @@
 ghost use Rattle.std.specs.Prelude.{◌≡◌, [], map, true, Some, IfOk, OnOk};
 ghost use Rattle.std.specs.List.{list_all};
 ghost use Rattle.portal_base.specs.Content.{ArePlaced, paths_of};
+ghost use Rattle.portal_base.specs.FileChanges.{put_file};
 ghost use Rattle.portal_base.specs.Names.{is_host_path};
 ghost use Rattle.host_tree.specs.Devices.{quiet_with_file};
-ghost use Rattle.host_tree.specs.Trees.{put_file};
 ghost use Rattle.portal_desk.specs.Opening.{IsOpeningState};
-ghost use Rattle.portal_model.specs.Opening.{file_of, opened};
+ghost use Rattle.portal_model.specs.Opening.{file_of, held_items, is_first_item, opened};
 ghost use Rattle.portal_model.specs.Valid.{Valid};
 ghost use Rattle.history_trace.specs.Replayed.{Begins, tree_with, without_files};
 
@@ -24,13 +24,14 @@ use std::alloc::Global;
 /// A portal over devices that never fail.
 pub(crate) type QuietPortal = Portal<QuietTree, IdleKeeper, SetClock, ListWords>;
 
-/// A portal that opens with a state, and has the files of that state.
+/// A portal that opens with a state, and has the files of that state, each the first of its path.
 pub(crate) fn opened_portal(
     alloc: Global,
     opening: &OpeningState,
 ) -> Result<QuietPortal, WantOfMemory>
     requires valid { Valid (opened opening.now) }
     requires started { IsOpeningState (opened opening.now) }
+    requires first { list_all is_first_item opening.now.files ≡ true }
     ensures { IfOk result (λ portal. Begins opening.now portal.story) }
 {
     let tree = tree_of(alloc, opening.files.as_slice())?;
@@ -67,11 +68,12 @@ fn lists_copied(alloc: Global, opening: &OpeningState) -> Result<OpeningState, W
     })
 }
 
-/// A tree that has these files, which stand in the order of a tree.
+/// A tree that has these files, which stand in the order of a tree, each the first of its path.
 fn tree_of(alloc: Global, files: &[FileItem]) -> Result<QuietTree, WantOfMemory>
     requires placed { ArePlaced (paths_of (map file_of files.now)) }
     requires names { list_all is_host_path (paths_of (map file_of files.now)) ≡ true }
-    ensures { IfOk result (λ tree. tree ≡ tree_with (map file_of files.now)) }
+    requires first { list_all is_first_item files.now ≡ true }
+    ensures { IfOk result (λ tree. tree ≡ tree_with (held_items files.now)) }
 {
     let mut tree = QuietTree::new(alloc);
     for file in files {
@@ -83,9 +85,10 @@ fn tree_of(alloc: Global, files: &[FileItem]) -> Result<QuietTree, WantOfMemory>
 /// Adds a file to those that the tree began with.
 fn add_file(alloc: Global, tree: &mut QuietTree, file: &FileItem) -> Result<(), WantOfMemory>
     requires path { is_host_path file.now.path ≡ true }
+    requires first { is_first_item file.now ≡ true }
     requires fresh { tree.old.made ≡ 0 }
-    requires began { ArePlaced (paths_of (put_file (file_of file.now) tree.old.began)) }
-    requires files { ArePlaced (paths_of (put_file (file_of file.now) tree.old.files)) }
+    requires began { ArePlaced (paths_of (put_file (file_of file.now) tree.old.began.present)) }
+    requires files { ArePlaced (paths_of (put_file (file_of file.now) tree.old.files.present)) }
     ensures { OnOk result (tree.new ≡ quiet_with_file (file_of file.now) tree.old) }
 {
     let content = file.content.replica(alloc)?;

@@ -2,7 +2,7 @@
 
 ghost use Rattle.std.specs.Prelude.{◌≡◌, ◌++◌, ◌≤◌, ◌≢◌, false, map, true, IfOk, OnOk};
 ghost use Rattle.named_paths.specs.OpenNumbers.{Cover};
-ghost use Rattle.portal_model.specs.State.{State};
+ghost use Rattle.portal_model.specs.State.{State, held_in};
 ghost use Rattle.trace_items.specs.Awaited.{Shows};
 ghost use Rattle.app_trace.specs.Told.{item_told};
 ghost use Rattle.app_world.specs.Touched.{is_done as was_done};
@@ -42,12 +42,12 @@ pub(crate) fn replay(
     requires lawful { Lawful (state_now portal.old.story) entry.now }
     requires room { HasRoom portal.old.story entry.now }
     requires covered { Cover numbers.old (state_now portal.old.story).handles }
-    requires files { (state_now portal.old.story).files ≡ files.old }
+    requires files { held_in (state_now portal.old.story) ≡ files.old }
     ensures goes { OnOk result (GoesOn portal.old.story entry.now portal.new.story) }
     ensures covered { OnOk result (Cover numbers.new
         (after (state_now portal.old.story) entry.now).handles) }
     ensures files { OnOk result (files.new
-        ≡ (after (state_now portal.old.story) entry.now).files) }
+        ≡ held_in (after (state_now portal.old.story) entry.now)) }
     ensures items { OnOk result (map item_told items.new ≡ map item_told items.old
         ++ items_of app.now (state_now portal.old.story) entry.now) }
 {
@@ -70,10 +70,10 @@ fn tell_again(
     requires lawful { Lawful (state_now portal.old.story) entry.now }
     requires room { HasRoom portal.old.story entry.now }
     requires covered { Cover numbers.now (state_now portal.old.story).handles }
-    requires files { (state_now portal.old.story).files ≡ files.old }
+    requires files { held_in (state_now portal.old.story) ≡ files.old }
     ensures goes { OnOk result (GoesOn portal.old.story entry.now portal.new.story) }
     ensures files { OnOk result (files.new
-        ≡ (after (state_now portal.old.story) entry.now).files) }
+        ≡ held_in (after (state_now portal.old.story) entry.now)) }
     ensures items { OnOk result (map item_told items.new ≡ map item_told items.old
         ++ items_of app.now (state_now portal.old.story) entry.now) }
 {
@@ -119,7 +119,7 @@ fn follow_entry(
 fn lent<'a>(portal: &'a QuietPortal, numbers: &'a OpenNumbers, files: &'a TreeFiles) -> Lent<'a>
     requires told { is_told portal.now.story.began ≡ true }
     requires covered { Cover numbers.now (state_now portal.now.story).handles }
-    requires files { (state_now portal.now.story).files ≡ files.now }
+    requires files { held_in (state_now portal.now.story) ≡ files.now }
     ensures { Shows result (state_now portal.now.story) }
 {
     Lent {
@@ -127,6 +127,7 @@ fn lent<'a>(portal: &'a QuietPortal, numbers: &'a OpenNumbers, files: &'a TreeFi
         connections: portal.connections(),
         handles: portal.handles(),
         namings: portal.namings(),
+        temps: portal.temps(),
         numbers,
         files,
     }

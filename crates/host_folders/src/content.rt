@@ -2,16 +2,22 @@
 
 ghost use Rattle.std.specs.Prelude.{◌≤◌, length, IfOk};
 
-use crate::error::TreeError;
+use crate::error::{TreeError, fault};
 use portal_base::list::{ByteList, List};
 use std::alloc::Global;
-use std::fs::{File, FileTimes};
-use std::io::{ErrorKind, Seek, SeekFrom};
-use std::os::unix::fs::FileExt;
+use std::fs::{File, FileTimes, Metadata, Permissions};
+use std::io::{Seek, SeekFrom};
+use std::os::unix::fs::{FileExt, MetadataExt, PermissionsExt, fchown};
 use std::time::{Duration, UNIX_EPOCH};
 
 /// The most bytes that room is made for ahead of reading them.
 const MOST_AT_ONCE: usize = 131_072;
+
+/// The most bytes that are copied at once.
+const PIECE: u32 = 131_072;
+
+/// The bits of a mode that say who may read, write and run a file.
+const MODE_BITS: u32 = 0o777;
 
 /// The bytes from an offset on, at most `size`.
 pub fn read(alloc: Global, file: &File, offset: u64, size: u32) -> Result<ByteList, TreeError>
@@ -109,6 +115,46 @@ pub fn sync(file: &File) -> Result<(), TreeError> {
     }
 }
 
+/// Gives a file the mode of another, and, where the system allows it, its owner, its group and when
+/// it was read last. When it changed last stays its own.
+pub fn set_like(file: &File, other: &Metadata) -> Result<(), TreeError> {
+    // A member of a group may set that, and only root sets the owner. A new owner takes bits of the
+    // mode away, so the mode comes behind it.
+    let _ = fchown(file, None, Some(other.gid()));
+    let _ = fchown(file, Some(other.uid()), None);
+    // As a write does: what is new in the file doesn't run as its owner.
+    let mode = Permissions::from_mode(other.mode() & MODE_BITS);
+    if let Err(error) = file.set_permissions(mode) {
+        return Err(fault(error.kind()));
+    }
+    if let Ok(accessed) = other.accessed() {
+        let _ = file.set_times(FileTimes::new().set_accessed(accessed));
+    }
+    Ok(())
+}
+
+/// Copies the bytes of a file behind each other into another, which is empty, and when it changed
+/// last.
+pub fn copy(alloc: Global, from: &File, to: &File) -> Result<(), TreeError> {
+    let mut at = 0u64;
+    for _ in 0..u64::MAX {
+        let bytes = read(alloc, from, at, PIECE)?;
+        if bytes.len() == 0 {
+            break;
+        }
+        if let Err(error) = to.write_all_at(bytes.as_slice(), at) {
+            return Err(fault(error.kind()));
+        }
+        at = at.saturating_add(bytes.len() as u64);
+    }
+    if let Ok(metadata) = from.metadata() {
+        if let Ok(modified) = metadata.modified() {
+            let _ = to.set_times(FileTimes::new().set_modified(modified));
+        }
+    }
+    Ok(())
+}
+
 /// Sets when a file changed last. Where the system refuses it, the moment stays
 /// the one that the system itself gave to the change.
 pub fn set_moment(file: &File, now: u64) {
@@ -116,14 +162,5 @@ pub fn set_moment(file: &File, now: u64) {
         // Where the system refuses, as of a file of another owner, its own moment stays, and
         // nobody is told of a fault.
         let _ = file.set_times(FileTimes::new().set_modified(moment));
-    }
-}
-
-/// Why a call on a file that is open gave nothing: there is one, so it isn't missing.
-fn fault(kind: ErrorKind) -> TreeError {
-    if kind == ErrorKind::OutOfMemory {
-        TreeError::Memory
-    } else {
-        TreeError::System
     }
 }

@@ -101,3 +101,12 @@ pub fn is_missing(error: &io::Error) -> bool {
 pub fn is_refused(error: &io::Error) -> bool {
     error.kind() == ErrorKind::PermissionDenied
 }
+
+/// Why a call on a file that is there gave nothing: there is one, so it isn't missing.
+pub fn fault(kind: ErrorKind) -> TreeError {
+    if kind == ErrorKind::OutOfMemory {
+        TreeError::Memory
+    } else {
+        TreeError::System
+    }
+}

@@ -2,6 +2,7 @@
 
 ghost use Rattle.std.specs.Prelude.{◌≤◌, length, IfOk};
 
+use std::alloc::AllocError;
 use std::io;
 
 /// A folder that is open, by its number, until it is dropped.
@@ -40,6 +41,14 @@ impl Folder {
         }
     }
 
+    /// Takes the name of what is no folder out of it.
+    pub fn remove(&self, name: &[u8]) -> io::Result<()> {
+        if os::unlink_at(self.number, name) < 0 {
+            return Err(last_error());
+        }
+        Ok(())
+    }
+
     /// Brings its names to rest.
     pub fn sync(&self) -> io::Result<()> {
         if libc::fsync(self.number) < 0 {
@@ -62,6 +71,17 @@ fn opened(folder: i32, name: &str) -> io::Result<Folder> {
         return Err(last_error());
     }
     Ok(Folder { number })
+}
+
+/// Writes the link in `/proc` to what is open by a number, or to a name in it.
+pub fn write_link(link: &mut String, number: i32, name: &str) -> Result<(), AllocError> {
+    link.clear();
+    write!(link, "/proc/self/fd/{number}")?;
+    if !name.is_empty() {
+        link.push('/')?;
+        link.push_str(name)?;
+    }
+    Ok(())
 }
 
 fn last_error() -> io::Error {

@@ -6,7 +6,7 @@
 //! | Room | Holds |
 //! |---|---|
 //! | `way`, `folder` | the one way down to a name: [`way::Way`], and [`folder::Folder`] |
-//! | `mounts` | the devices that no way leads onto |
+//! | `mounts`, `own` | the devices and the names that no way leads to |
 //! | `sight` | what stands at a name, and which file it is |
 //! | `numbers` | the numbers by which files and paths are told apart |
 //! | `content` | the bytes of a file that is open |
@@ -23,5 +23,6 @@ pub mod error;
 pub mod folder;
 mod mounts;
 pub mod numbers;
+pub mod own;
 pub mod sight;
 pub mod way;

@@ -9,6 +9,11 @@ use std::random::RandomSource;
 /// What the generation of each look has. Generations that are counted up from 1 don't.
 const LOOKED_AT: u64 = 1 << 63;
 
+/// Says whether a generation is one of a look.
+pub fn is_of_look(generation: u64) -> bool {
+    generation & LOOKED_AT != 0
+}
+
 /// Numbers that nobody can find two of the same of: the keys are this tree's own.
 #[derive(Clone, Copy)]
 pub struct Numbers {
@@ -31,6 +36,14 @@ impl Numbers {
         hasher.write_u64(file.birth.as_secs());
         hasher.write_u32(file.birth.subsec_nanos());
         hasher.finish() | LOOKED_AT
+    }
+
+    /// The number of a path and a generation, by which a file was made.
+    pub fn name(&self, path: &HostPath, generation: u64) -> u64 {
+        let mut hasher = self.keys.build_hasher();
+        hasher.write_u64(generation);
+        hasher.write(path.as_bytes());
+        hasher.finish()
     }
 
     /// The number of a path.

@@ -1,14 +1,15 @@
 //! The one way down from the root to a name, by folders that are open.
 
 use crate::error::{OpenError, TreeError, is_missing, is_refused};
-use crate::folder::Folder;
+use crate::folder::{Folder, write_link};
 use crate::mounts::kernels_own;
+use crate::own::{is_own, leads_by_own};
 use crate::sight::{Kind, Sight, seen};
 use libc::PATH_MAX;
 use portal_base::list::List;
 use portal_base::names::HostPath;
 use std::alloc::{AllocError, Global};
-use std::fs::File;
+use std::fs::{File, Metadata};
 use std::io::ErrorKind;
 use std::os::fd::AsRawFd;
 use std::os::unix::fs::MetadataExt;
@@ -63,7 +64,7 @@ impl Way {
 
     /// Looks whether the root can be entered, and reached by its number.
     fn try_root(&mut self) -> Result<(), OpenError> {
-        let root = match Folder::open(self.root.as_str()) {
+        let root = match self.root() {
             Ok(root) => root,
             Err(error) if is_missing(&error) => return Err(OpenError::NotFolder),
             Err(error) => return Err(OpenError::System(error)),
@@ -75,12 +76,15 @@ impl Way {
         }
     }
 
-    /// Where a path leads: nowhere where a part of it is no folder but a link or a file, and
-    /// where a step would lead onto the kernel's own. A root that is gone is a fault, since a
-    /// tree always has one.
+    /// Where a path leads: nowhere where a part of it is no folder but a link or a file, or a
+    /// name of the tree's own, and where a step would lead onto the kernel's own. A root that
+    /// is gone is a fault, since a tree always has one.
     pub fn to<'a>(&mut self, path: &'a HostPath) -> Result<Option<Place<'a>>, TreeError> {
         let text = text_of(path)?;
-        let Ok(mut folder) = Folder::open(self.root.as_str()) else {
+        if leads_by_own(text) {
+            return Ok(None);
+        }
+        let Ok(mut folder) = self.root() else {
             return Err(TreeError::System);
         };
         let mut from = 1;
@@ -160,7 +164,7 @@ impl Way {
     /// the way that a link may have taken the place of. Where it is none, only the way tells why.
     pub fn file_in_root(&mut self, path: &HostPath) -> Option<Sight> {
         let name = text_of(path).ok()?.strip_prefix('/')?;
-        if name.is_empty() || name.contains('/') {
+        if name.is_empty() || name.contains('/') || is_own(name) {
             return None;
         }
         self.link.clear();
@@ -178,7 +182,7 @@ impl Way {
 
     /// Says whether what is open by a number stands at a path below the root just now.
     pub fn is_at(&mut self, number: i32, path: &str) -> Result<bool, TreeError> {
-        let Ok(root) = Folder::open(self.root.as_str()) else {
+        let Ok(root) = self.root() else {
             return Err(TreeError::System);
         };
         let mut above = [0; PATH_MAX];
@@ -208,14 +212,20 @@ impl Way {
         }
     }
 
+    /// The root, open.
+    pub fn root(&self) -> io::Result<Folder> {
+        Folder::open(self.root.as_str())
+    }
+
+    /// What the system holds of what stands at a place; a link at its end isn't followed.
+    pub fn metadata(&mut self, place: &Place<'_>) -> io::Result<Metadata> {
+        self.link_to(place.folder.number(), place.name)?;
+        fs::symlink_metadata(&self.system, self.link.as_str())
+    }
+
     /// The link to what is open by a number, or to a name in it.
     pub fn link_to(&mut self, number: i32, name: &str) -> Result<&str, AllocError> {
-        self.link.clear();
-        write!(self.link, "/proc/self/fd/{number}")?;
-        if !name.is_empty() {
-            self.link.push('/')?;
-            self.link.push_str(name)?;
-        }
+        write_link(&mut self.link, number, name)?;
         Ok(self.link.as_str())
     }
 

@@ -12,6 +12,7 @@
 //! | `listing` | the names in a folder |
 //! | `opener` | opens that don't hold up the one who asks |
 //! | `kept`, `made` | the files that are kept open, and those that were made here |
+//! | `aside`, `stored` | the folder of the files that aren't present, and which lie in it |
 //! | `writing` | the file of the last write, which stays open to write until it rests |
 //! | `system` | what the tree takes of the system |
 //! | `descriptors` | how many files may be kept open |
@@ -22,12 +23,14 @@
 //! ```
 #![tactic(auto)]
 
+mod aside;
 mod below;
 mod descriptors;
 mod kept;
 mod listing;
 mod made;
 mod opener;
+mod stored;
 mod system;
 mod tree;
 mod writing;

@@ -2,6 +2,7 @@
 
 use host_folders::error::{TreeError, is_missing};
 use host_folders::folder::Folder;
+use host_folders::own::is_own;
 use host_folders::sight::Kind;
 use host_folders::way::Way;
 use host_tree::names::FolderNames;
@@ -12,7 +13,7 @@ const MOST_BYTES: usize = 8_192;
 
 /// The names of the files and folders in a folder that is open. What is neither has no
 /// name here: a link, a pipe, a socket, a device, and what the kernel mounts as its own.
-/// Nor has what has no name in UTF-8.
+/// Nor has what has no name in UTF-8, or a name of the tree's own.
 pub fn names(alloc: Global, way: &mut Way, folder: &Folder) -> Result<FolderNames, TreeError> {
     let mut names = FolderNames::new(alloc);
     let mut buffer = [0u8; MOST_BYTES];
@@ -47,6 +48,9 @@ fn put(
     let Ok(text) = str::from_utf8(name) else {
         return Ok(());
     };
+    if is_own(text) {
+        return Ok(());
+    }
     let sight = match way.sight_in(folder, text) {
         Ok(sight) => sight,
         // It went since.

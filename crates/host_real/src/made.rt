@@ -4,7 +4,7 @@ use indexmap::IndexMap;
 use std::alloc::{AllocError, Global};
 
 /// The most of them that are known.
-const MOST: usize = 1_024;
+const MOST: usize = 4_096;
 
 /// A file that was made.
 #[derive(Clone, Copy)]
@@ -14,7 +14,7 @@ struct Made {
     turn: u64,
 }
 
-/// The files that were made here, by the numbers of their paths: the last at each.
+/// The files that were made here, by the numbers of the names by which they were made.
 #[derive(Drop)]
 pub struct MadeFiles {
     /// There is room for all from the start.
@@ -31,26 +31,26 @@ impl MadeFiles {
         })
     }
 
-    /// The generation of the file that was made at the path of a number.
-    pub fn at(&mut self, path: u64) -> Option<u64> {
+    /// The generation that a look shows of the file that was made by the name of a number.
+    pub fn by(&mut self, name: u64) -> Option<u64> {
         self.turn = self.turn.saturating_add(1);
-        let made = self.files.get_mut(&path)?;
+        let made = self.files.get_mut(&name)?;
         made.turn = self.turn;
         Some(made.generation)
     }
 
-    /// A file was made at the path of a number. Where there is no room for it, the one that
+    /// A file was made by the name of a number. Where there is no room for it, the one that
     /// wasn't asked for the longest time isn't known any more.
-    pub fn add(&mut self, path: u64, generation: u64) -> Result<(), AllocError> {
+    pub fn add(&mut self, name: u64, generation: u64) -> Result<(), AllocError> {
         self.turn = self.turn.saturating_add(1);
-        if self.files.len() >= MOST && self.files.get(&path).is_none() {
+        if self.files.len() >= MOST && self.files.get(&name).is_none() {
             self.forget_one();
         }
         let made = Made {
             generation,
             turn: self.turn,
         };
-        self.files.insert(path, made)?;
+        self.files.insert(name, made)?;
         Ok(())
     }
 

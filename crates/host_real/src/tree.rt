@@ -21,7 +21,9 @@ use std::marker::Model;
 /// link below the root, and what is neither a file nor a folder, is answered as nothing
 /// there, and no file is made in its place. The generation of a look is a number of the
 /// file, and never 0; by it the file is reached whatever stands at its path since. By the
-/// generation 0 the file is reached that was made here at the path last. A call that the
+/// generation 0 the file is reached that was made here at the path last, and by another that no
+/// look has the one that was made by it. Those that aren't present lie in a folder of the root
+/// that is never shown, of which the tree takes all files away when it is opened. A call that the
 /// system interrupts is made again; each other error of the system is a fault, but for
 /// those that say that no file is there.
 #[derive(Drop)]
@@ -151,6 +153,16 @@ impl<R: Waiter> HostTree for RealTree<R> {
 
     fn create(&mut self, path: &HostPath, now: u64) -> TreeDone {
         let outcome = self.below.create(path, now);
+        self.done(outcome)
+    }
+
+    fn fresh(&mut self, file: &FileName, now: u64) -> TreeDone {
+        let outcome = self.below.fresh(file, now);
+        self.done(outcome)
+    }
+
+    fn turn(&mut self, file: &FileName) -> TreeDone {
+        let outcome = self.below.turn(file);
         self.done(outcome)
     }
 

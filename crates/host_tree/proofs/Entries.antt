@@ -1,5 +1,5 @@
 -- The entries of a map by path, and the files that they are.
-use Rattle.std.proofs.Common.{◌≡◌, ℕ, ◌==◌, List, [], ◌∷◌, ◌++◌, Bool, true, false, not, ◌&&◌, cond, Option, Some, None, option_map, is_some, length, Result, Ok, Err, OnOk, OnErr, refl, sym, ap, subst, ◌∙◌, arith}
+use Rattle.std.proofs.Common.{◌≡◌, ℕ, ◌==◌, List, [], ◌∷◌, ◌++◌, Bool, true, false, not, ◌&&◌, cond, Option, Some, None, map, option_map, is_some, length, Result, Ok, Err, OnOk, OnErr, refl, sym, ap, subst, ◌∙◌, arith}
 use Rattle.std.proofs.lemmas.Bool.Decides.{nat_tests}
 use Rattle.std.proofs.lemmas.Map.Steps.{set_value_same}
 use Rattle.std.specs.BTreeMap.{is_at, insert_entry}
@@ -17,8 +17,9 @@ use Rattle.portal_base.specs.Content.{file_at, file_named, is_named, paths_of, i
 use Rattle.portal_base.specs.declared.files.File.{File}
 use Rattle.portal_base.specs.declared.files.FileName.{FileName}
 use Rattle.portal_base.specs.declared.files.Look.{Look}
-use Rattle.host_tree.specs.Stored.{file_of, files_of, stored_of, stored_written}
-use Rattle.host_tree.specs.Trees.{Does, has_file, written, change_named, put_file, without}
+use Rattle.host_tree.specs.Stored.{DoesStored, file_of, files_of, of_generation, stored_of, stored_resized, stored_written}
+use Rattle.file_generations.specs.Generations.{in_place}
+use Rattle.host_tree.specs.Trees.{DoesFiles, has_file, written, resized, change_named, put_file, without}
 use Rattle.host_tree.specs.declared.tree.TreeDone.{TreeDone}
 use Rattle.host_tree.specs.declared.tree.TreeDone.TheVariants as done
 use Rattle.host_tree.specs.declared.files.Stored.{Stored}
@@ -43,14 +44,6 @@ found-one true false true e o l h k i = absurd (cc)
 found-one false true true e o l h k i = absurd (cc)
 found-one b c false e o l h k i = absurd (cc)
 
-zero-is : (g : ℕ) → g ≡ 0 → (0 == g) ≡ true
-zero-is g e = grind (arith, nat_tests)
-
-pub found-named : (name : FileName) → name.generation ≡ 0 → (es : List (List ℕ × Stored)) → option_map stored_of (file_named (files_of es) name) ≡ lookup (is_at (path_order name.path)) es
-found-named name z [] = refl
-found-named name z (e ∷ es) = found-one (is_same e.0 name.path) (is_at (path_order name.path) e.0) (0 == name.generation) e (file_named (files_of es) name) (lookup (is_at (path_order name.path)) es)
-    (zero-is name.generation z) (same-key name.path e.0) (found-named name z es)
-
 and-true : (b : Bool) → b ≡ (b && true)
 and-true true = refl
 and-true false = refl
@@ -61,14 +54,45 @@ found-at p (e ∷ es) =
     ap (λ (b : Bool). option_map stored_of (cond b (Some (file_of e)) (file_at (files_of es) p))) (and-true (is_same e.0 p))
     ∙ found-one (is_same e.0 p) (is_at (path_order p) e.0) true e (file_at (files_of es) p) (lookup (is_at (path_order p)) es) refl (same-key p e.0) (found-at p es)
 
-not-one : (b d : Bool) (f : File) (o : Option File) → d ≡ false → o ≡ None → cond (b && d) (Some f) o ≡ None
-not-one true false f o h k = k
-not-one false false f o h k = k
-not-one b true f o h k = absurd (cc)
+-- ---- whether there is one
 
-pub none-named : (name : FileName) → (0 == name.generation) ≡ false → (es : List (List ℕ × Stored)) → file_named (files_of es) name ≡ None
-none-named name z [] = refl
-none-named name z (e ∷ es) = not-one (is_same e.0 name.path) (0 == name.generation) (file_of e) (file_named (files_of es) name) z (none-named name z es)
+pub some-known : (o : Option File) (s : Stored) → Some s ≡ option_map stored_of o → true ≡ is_some o
+some-known None s e = absurd (cc)
+some-known (Some f) s e = refl
+
+pub none-known : (o : Option File) → None ≡ option_map stored_of o → false ≡ is_some o
+none-known None e = refl
+none-known (Some f) e = absurd (cc)
+
+-- ---- the file of a name, where each path has one
+
+apart-key : (p k : List ℕ) → path_order p k ≡ Less → is_same k p ≡ false
+apart-key p k e = same-key p k ∙ ap is_eq e
+
+unnamed : (b d : Bool) (f : File) (o : Option File) → b ≡ false → o ≡ None → cond (b && d) (Some f) o ≡ None
+unnamed false d f o h k = k
+unnamed true d f o h k = absurd (cc)
+
+-- paths behind that of a name are others
+named-behind : (name : FileName) (es : List (List ℕ × Stored)) → AllByRecursion (λ k. path_order name.path k ≡ Less) (keys_of es) → file_named (files_of es) name ≡ None
+named-behind name [] h = refl
+named-behind name (e ∷ es) h = unnamed (is_same e.0 name.path) (e.1.generation == name.generation) (file_of e) (file_named (files_of es) name) (apart-key name.path e.0 h.0) (named-behind name es h.1)
+
+pub found-named : (name : FileName) (es : List (List ℕ × Stored)) → IsStrictlySortedBy path_order (keys_of es) → option_map stored_of (file_named (files_of es) name) ≡ of_generation name.generation (lookup (is_at (path_order name.path)) es)
+unfolding IsStrictlySortedBy
+found-named name [] s = refl
+found-named name (e ∷ es) s = step (is_same e.0 name.path) (is_at (path_order name.path) e.0) refl (same-key name.path e.0) (found-named name es s.1)
+  where
+    first : (d : Bool) → is_same e.0 name.path ≡ true → option_map stored_of (cond (true && d) (Some (file_of e)) (file_named (files_of es) name)) ≡ cond d (Some e.1) None
+    first true h = refl
+    first false h = ap (option_map stored_of) (named-behind name es (subst (λ (p : List ℕ). AllByRecursion (λ q. path_order p q ≡ Less) (keys_of es)) (same-is e.0 name.path h) s.0))
+
+    step : (b c : Bool) → is_same e.0 name.path ≡ b → b ≡ c → option_map stored_of (file_named (files_of es) name) ≡ of_generation name.generation (lookup (is_at (path_order name.path)) es)
+        → option_map stored_of (cond (b && e.1.generation == name.generation) (Some (file_of e)) (file_named (files_of es) name)) ≡ of_generation name.generation (cond c (Some e.1) (lookup (is_at (path_order name.path)) es))
+    step true true h k more = first (e.1.generation == name.generation) h
+    step false false h k more = more
+    step true false h k more = absurd (cc)
+    step false true h k more = absurd (cc)
 
 -- ---- one value changed
 
@@ -76,13 +100,10 @@ unnamed-same : (b d : Bool) (f g : File) → b ≡ false → cond (b && d) g f �
 unnamed-same false d f g e = refl
 unnamed-same true d f g e = absurd (cc)
 
-apart-key : (p k : List ℕ) → path_order p k ≡ Less → is_same k p ≡ false
-apart-key p k e = same-key p k ∙ ap is_eq e
-
 pub unchanged : (name : FileName) (change : File → File) (es : List (List ℕ × Stored)) → AllByRecursion (λ k. path_order name.path k ≡ Less) (keys_of es) → change_named name change (files_of es) ≡ files_of es
 unchanged name change [] h = refl
 unchanged name change (e ∷ es) h =
-    let one : cond (is_named name (file_of e)) (change (file_of e)) (file_of e) ≡ file_of e = unnamed-same (is_same e.0 name.path) (0 == name.generation) (file_of e) (change (file_of e)) (apart-key name.path e.0 h.0) in
+    let one : cond (is_named name (file_of e)) (change (file_of e)) (file_of e) ≡ file_of e = unnamed-same (is_same e.0 name.path) (e.1.generation == name.generation) (file_of e) (change (file_of e)) (apart-key name.path e.0 h.0) in
     let rest : change_named name change (files_of es) ≡ files_of es = unchanged name change es h.1 in
     λ i. one i ∷ rest i
 
@@ -94,7 +115,7 @@ changed-one true false f g e h = absurd (cc)
 some-is : {X : Type 0} (a b : X) → Some a ≡ Some b → a ≡ b
 some-is a b e = cc
 
-module _ (name : FileName) (change : File → File) (v w : Stored) (z : name.generation ≡ 0) (keeps : (k : List ℕ) → file_of (k, w) ≡ change (file_of (k, v))) where
+module _ (name : FileName) (change : File → File) (v w : Stored) (z : (v.generation == name.generation) ≡ true) (keeps : (k : List ℕ) → file_of (k, w) ≡ change (file_of (k, v))) where
   set-one : (e : List ℕ × Stored) (es : List (List ℕ × Stored)) (b : Bool) → is_at (path_order name.path) e.0 ≡ b
       → cond b (Some e.1) (lookup (is_at (path_order name.path)) es) ≡ Some v
       → IsStrictlySortedBy path_order (keys_of (e ∷ es))
@@ -105,13 +126,13 @@ module _ (name : FileName) (change : File → File) (v w : Stored) (z : name.gen
       let same : is_same e.0 name.path ≡ true = same-key name.path e.0 ∙ h in
       let value : e.1 ≡ v = some-is e.1 v l in
       let one : file_of (e.0, w) ≡ cond (is_named name (file_of e)) (change (file_of e)) (file_of e) =
-      keeps e.0 ∙ (ap (λ (x : Stored). change (file_of (e.0, x))) (sym value) ∙ sym (changed-one (is_same e.0 name.path) (0 == name.generation) (file_of e) (change (file_of e)) same (zero-is name.generation z))) in
+      keeps e.0 ∙ (ap (λ (x : Stored). change (file_of (e.0, x))) (sym value) ∙ sym (changed-one (is_same e.0 name.path) (e.1.generation == name.generation) (file_of e) (change (file_of e)) same (ap (λ (x : Stored). x.generation == name.generation) value ∙ z))) in
       let rest : files_of es ≡ change_named name change (files_of es) =
       sym (unchanged name change es (subst (λ (p : List ℕ). AllByRecursion (λ k. path_order p k ≡ Less) (keys_of es)) (same-is e.0 name.path same) s.0)) in
       λ i. one i ∷ rest i
   set-one e es false h l s more =
       let one : file_of e ≡ cond (is_named name (file_of e)) (change (file_of e)) (file_of e) =
-      sym (unnamed-same (is_same e.0 name.path) (0 == name.generation) (file_of e) (change (file_of e)) (same-key name.path e.0 ∙ h)) in
+      sym (unnamed-same (is_same e.0 name.path) (e.1.generation == name.generation) (file_of e) (change (file_of e)) (same-key name.path e.0 ∙ h)) in
       let rest = more l in
       λ i. one i ∷ rest i
 
@@ -248,9 +269,6 @@ put-and-without f (g ∷ gs) e = step (is_lt (path_order f.path g.path)) (is_sam
         ap (λ (b : Bool). cond (not b) (g ∷ without f.path (put_file f gs)) (without f.path (put_file f gs))) d
         ∙ ap (λ (fs : List File). g ∷ fs) (more e)
 
-pub not-zero : (g : ℕ) → (g ≡ 0 → ⊥) → (0 == g) ≡ false
-not-zero g n = grind (arith, nat_tests)
-
 -- ---- what a look-up in the map says of the files
 
 file-one : (p : List ℕ) (e : List ℕ × Stored) (b c : Bool) (o : Option File) (l : Option Stored) → is_same e.0 p ≡ b → b ≡ c → o ≡ option_map (λ (s : Stored). file_of (p, s)) l
@@ -271,7 +289,7 @@ some-file p (Some s) = refl
 pub has-file-at : (p : List ℕ) (es : List (List ℕ × Stored)) → is_some (file_at (files_of es) p) ≡ is_some (lookup (is_at (path_order p)) es)
 has-file-at p es = ap is_some (found-file p es) ∙ some-file p (lookup (is_at (path_order p)) es)
 
-pub looked : (es : List (List ℕ × Stored)) (p : List ℕ) (s : Stored) → Some s ≡ lookup (is_at (path_order p)) es → Look.File 0 (length s.bytes) s.moment ≡ look_at (files_of es) p
+pub looked : (es : List (List ℕ × Stored)) (p : List ℕ) (s : Stored) → Some s ≡ lookup (is_at (path_order p)) es → Look.File s.generation (length s.bytes) s.moment ≡ look_at (files_of es) p
 looked es p s e = ap (λ (o : Option File). look_of (content_of o (is_folder (files_of es) p) (has_room (files_of es) p))) (ap (option_map (λ (x : Stored). file_of (p, x))) e ∙ sym (found-file p es))
 
 pub looked-none : (es : List (List ℕ × Stored)) (p : List ℕ) → None ≡ lookup (is_at (path_order p)) es → file_at (files_of es) p ≡ None
@@ -285,40 +303,71 @@ some-there : (o : Option File) (s : Stored) → option_map stored_of o ≡ Some 
 some-there None s e = absurd (cc)
 some-there (Some f) s e = refl
 
-pub no-file-named : (name : FileName) (es : List (List ℕ × Stored)) → name.generation ≡ 0 → None ≡ lookup (is_at (path_order name.path)) es → has_file name (files_of es) ≡ false
-no-file-named name es z e = ap is_some (none-there (file_named (files_of es) name) (found-named name z es ∙ sym e))
+pub has-none : (name : FileName) (es : List (List ℕ × Stored)) → IsStrictlySortedBy path_order (keys_of es) → of_generation name.generation (lookup (is_at (path_order name.path)) es) ≡ None → has_file name (files_of es) ≡ false
+has-none name es s e = ap is_some (none-there (file_named (files_of es) name) (found-named name es s ∙ e))
 
-pub a-file-named : (name : FileName) (es : List (List ℕ × Stored)) (s : Stored) → name.generation ≡ 0 → Some s ≡ lookup (is_at (path_order name.path)) es → has_file name (files_of es) ≡ true
-a-file-named name es s z e = some-there (file_named (files_of es) name) s (found-named name z es ∙ sym e)
+pub has-one : (name : FileName) (es : List (List ℕ × Stored)) (v : Stored) → IsStrictlySortedBy path_order (keys_of es) → (v.generation == name.generation) ≡ true → Some v ≡ lookup (is_at (path_order name.path)) es → has_file name (files_of es) ≡ true
+has-one name es v s z e =
+    some-there (file_named (files_of es) name) v
+    (found-named name es s ∙ (ap (of_generation name.generation) (sym e) ∙ ap (λ (b : Bool). cond b (Some v) None) z))
 
 -- ---- the answer of a change
 
-pub outcome-does : {E : Type 0} (r : Result (Unit {0}) E) (allows : List File → Bool) (change : List File → List File) (old new : Option (List File)) (answer : TreeDone)
-    → OnOk r (answer ≡ done.Done) → OnErr r (answer ≡ done.Memory) → OnOk r (Does allows change old done.Done new) → OnErr r (new ≡ old) → Does allows change old answer new
-outcome-does (Ok u) allows change old new answer a b c d = subst (λ x. Does allows change old x new) (sym a) c
-outcome-does (Err e) allows change old new answer a b c d = subst (λ x. Does allows change old x new) (sym b) d
+pub outcome-does : {E : Type 0} (r : Result (Unit {0}) E) (generation : ℕ) (change : Stored → Stored) (v w : Stored) (answer : TreeDone)
+    → OnOk r (answer ≡ done.Done) → OnErr r (answer ≡ done.Memory) → OnOk r (w ≡ change v) → OnErr r (w ≡ v) → (v.generation == generation) ≡ true → DoesStored generation change v answer w
+outcome-does (Ok u) generation change v w answer a b c d z = subst (λ x. DoesStored generation change v x w) (sym a) (ap (λ (x : Stored). Some x) c, z)
+outcome-does (Err e) generation change v w answer a b c d z = subst (λ x. DoesStored generation change v x w) (sym b) (ap (λ (x : Stored). Some x) d)
 
-pub ok-then : {A E : Type 0} (r : Result A E) (P Q : Type 0) → (P → Q) → OnOk r P → OnOk r Q
-ok-then (Ok u) P Q f p = f p
-ok-then (Err e) P Q f p = tt
+same-files : (es fs : List (List ℕ × Stored)) (p : List ℕ) (v w : Stored) → Some w ≡ Some v → Some v ≡ lookup (is_at (path_order p)) es → fs ≡ set_value (is_at (path_order p)) es w → Some (files_of fs) ≡ Some (files_of es)
+same-files es fs p v w e l s =
+    ap (λ (xs : List (List ℕ × Stored)). Some (files_of xs)) (s ∙ (ap (set_value (is_at (path_order p)) es) (some-is w v e) ∙ set_value_same (is_at (path_order p)) es v (sym l)))
 
-pub err-then : {A E : Type 0} (r : Result A E) (P Q : Type 0) → (P → Q) → OnErr r P → OnErr r Q
-err-then (Ok u) P Q f p = tt
-err-then (Err e) P Q f p = f p
+-- what a change of what is stored comes to in the map
+pub stored-does : (name : FileName) (stored : Stored → Stored) (change : File → File) (es fs : List (List ℕ × Stored)) (v w : Stored) (answer : TreeDone) → ((k : List ℕ) (s : Stored) → file_of (k, stored s) ≡ change (file_of (k, s)))
+    → Some v ≡ lookup (is_at (path_order name.path)) es → IsStrictlySortedBy path_order (keys_of es) → fs ≡ set_value (is_at (path_order name.path)) es w → DoesStored name.generation stored v answer w
+    → DoesFiles (has_file name) (change_named name change) (Some (files_of es)) answer (Some (files_of fs))
+stored-does name stored change es fs v w done.Done keeps l s e d = (
+  ap (λ (xs : List (List ℕ × Stored)). Some (files_of xs)) e
+      ∙ ap (λ (gs : List File). Some gs) (set-named name change v w d.1 (λ k. ap (λ (x : Stored). file_of (k, x)) (some-is w (stored v) d.0) ∙ keeps k v) es (sym l) s),
+  has-one name es v s d.1 l,
+)
+stored-does name stored change es fs v w done.NotFile keeps l s e d = (
+  same-files es fs name.path v w d.0 l e,
+  has-none name es s (ap (of_generation name.generation) (sym l) ∙ ap (λ (b : Bool). cond b (Some v) None) d.1),
+)
+stored-does name stored change es fs v w done.Failed keeps l s e d = same-files es fs name.path v w d l e
+stored-does name stored change es fs v w done.Memory keeps l s e d = same-files es fs name.path v w d l e
 
-pub change-done : (name : FileName) (change : File → File) (es fs : List (List ℕ × Stored)) (v w : Stored) → name.generation ≡ 0 → ((k : List ℕ) → file_of (k, w) ≡ change (file_of (k, v)))
-    → Some v ≡ lookup (is_at (path_order name.path)) es → IsStrictlySortedBy path_order (keys_of es) → fs ≡ set_value (is_at (path_order name.path)) es w
-    → (Some (files_of fs) ≡ Some (change_named name change (files_of es))) × (has_file name (files_of es) ≡ true)
-change-done name change es fs v w z keeps l s e =
-    (ap (λ (xs : List (List ℕ × Stored)). Some (files_of xs)) e ∙ ap (λ (gs : List File). Some gs) (set-named name change v w z keeps es (sym l) s), a-file-named name es v z l)
+-- a value in the place of another
+pub set-replaced : (p : List ℕ) (v w : Stored) (es : List (List ℕ × Stored)) → lookup (is_at (path_order p)) es ≡ Some v → IsStrictlySortedBy path_order (keys_of es) → files_of (set_value (is_at (path_order p)) es w) ≡ in_place p (file_of (p, w)) (files_of es)
+unfolding IsStrictlySortedBy
+set-replaced p v w [] l s = refl
+set-replaced p v w (e ∷ es) l s = step (is_at (path_order p) e.0) refl l (λ k. set-replaced p v w es k s.1)
+  where
+    others : (gs : List (List ℕ × Stored)) → AllByRecursion (λ k. path_order p k ≡ Less) (keys_of gs) → files_of gs ≡ in_place p (file_of (p, w)) (files_of gs)
+    others [] h = refl
+    others (g ∷ gs) h = λ i. cond (sym (apart-key p g.0 h.0) i) (file_of (p, w)) (file_of g) ∷ others gs h.1 i
 
-pub change-none : (es fs : List (List ℕ × Stored)) (p : List ℕ) (v w : Stored) → w ≡ v → Some v ≡ lookup (is_at (path_order p)) es → fs ≡ set_value (is_at (path_order p)) es w → Some (files_of fs) ≡ Some (files_of es)
-change-none es fs p v w e l s =
-    ap (λ (xs : List (List ℕ × Stored)). Some (files_of xs)) (s ∙ (ap (set_value (is_at (path_order p)) es) e ∙ set_value_same (is_at (path_order p)) es v (sym l)))
+    step : (b : Bool) → is_at (path_order p) e.0 ≡ b → cond b (Some e.1) (lookup (is_at (path_order p)) es) ≡ Some v
+        → (lookup (is_at (path_order p)) es ≡ Some v → files_of (set_value (is_at (path_order p)) es w) ≡ in_place p (file_of (p, w)) (files_of es))
+        → files_of (cond b ((e.0, w) ∷ es) (e ∷ set_value (is_at (path_order p)) es w)) ≡ cond (is_same e.0 p) (file_of (p, w)) (file_of e) ∷ in_place p (file_of (p, w)) (files_of es)
+    step true h k more =
+        let same : is_same e.0 p ≡ true = same-key p e.0 ∙ h in
+        let rest : files_of es ≡ in_place p (file_of (p, w)) (files_of es) = others es (subst (λ (q : List ℕ). AllByRecursion (λ k. path_order q k ≡ Less) (keys_of es)) (same-is e.0 p same) s.0) in
+        let one : file_of (e.0, w) ≡ cond (is_same e.0 p) (file_of (p, w)) (file_of e) =
+        ap (λ (q : List ℕ). file_of (q, w)) (same-is e.0 p same) ∙ ap (λ (b : Bool). cond b (file_of (p, w)) (file_of e)) (sym same) in
+        λ i. one i ∷ rest i
+    step false h k more =
+        let one : file_of e ≡ cond (is_same e.0 p) (file_of (p, w)) (file_of e) = ap (λ (b : Bool). cond b (file_of (p, w)) (file_of e)) (sym (same-key p e.0 ∙ h)) in
+        let rest = more k in
+        λ i. one i ∷ rest i
 
-pub keeps-written : (offset : ℕ) (content : List ℕ) (moment : ℕ) (s : Stored) (k : List ℕ) → file_of (k, stored_written offset content moment s) ≡ written offset content moment (file_of (k, s))
-keeps-written offset [] moment s k = refl
-keeps-written offset (b ∷ bs) moment s k = refl
+pub keeps-written : (offset : ℕ) (content : List ℕ) (moment : ℕ) (k : List ℕ) (s : Stored) → file_of (k, stored_written offset content moment s) ≡ written offset content moment (file_of (k, s))
+keeps-written offset [] moment k s = refl
+keeps-written offset (b ∷ bs) moment k s = refl
+
+pub keeps-resized : (size moment : ℕ) (k : List ℕ) (s : Stored) → file_of (k, stored_resized size moment s) ≡ resized size moment (file_of (k, s))
+keeps-resized size moment k s = refl
 
 pub none-in-map : (p : List ℕ) (es : List (List ℕ × Stored)) → file_at (files_of es) p ≡ None → lookup (is_at (path_order p)) es ≡ None
 none-in-map p es e = sym (found-at p es) ∙ ap (option_map stored_of) e

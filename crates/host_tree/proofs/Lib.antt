@@ -1,5 +1,9 @@
+pub mod BesideFiles
+pub mod Bytes
+pub mod Entries
+pub mod FileCreated
+pub mod HeldChanges
+pub mod HeldTurned
+pub mod HiddenEntries
 pub mod NamesFound
 pub mod PathsBelow
-pub mod Bytes
-pub mod FileCreated
-pub mod Entries

@@ -2,7 +2,7 @@
 use Rattle.std.specs.Prelude.{ℕ, List, [], Bool, Some}
 use Rattle.portal_base.specs.Calls.{Counted, counted, uncalled}
 use Rattle.portal_base.specs.declared.files.File.{File}
-use Rattle.host_tree.specs.Trees.{Noted, TreeIs, note, put_file, unnoted}
+use Rattle.host_tree.specs.Trees.{Held, Noted, TreeIs, held_with, note, put_present, unnoted}
 use Rattle.host_tree.specs.declared.tree.TreeCall.{TreeCall}
 
 -- the calls of a tree, and the kinds of the first of them
@@ -21,8 +21,8 @@ made kind calls failed =
 
 -- the files that the tree began with and those that it has, and its calls
 pub record TreeState : Type 0 where
-  pub began : List File
-  pub files : List File
+  pub began : Held
+  pub files : Held
   pub count : Counted
   pub noted : Noted
 
@@ -37,8 +37,8 @@ tree_of s = record {
 
 -- the same of a tree that never fails, whose calls are numbered all the same
 pub record QuietState : Type 0 where
-  pub began : List File
-  pub files : List File
+  pub began : Held
+  pub files : Held
   pub made : ℕ
 
 abbrev pub quiet_tree_of : QuietState → TreeIs
@@ -50,9 +50,13 @@ quiet_tree_of s = record {
   noted = unnoted;
 }
 
--- one more file, of those that it began with too
+-- no files
+abbrev pub no_files : Held
+no_files = held_with [] []
+
+-- one more file that is present, of those that it began with too
 abbrev pub with_file : File → TreeState → TreeState
-with_file f s = record s { began = put_file f s.began; files = put_file f s.files }
+with_file f s = record s { began = put_present f s.began; files = put_present f s.files }
 
 abbrev pub quiet_with_file : File → QuietState → QuietState
-quiet_with_file f s = record s { began = put_file f s.began; files = put_file f s.files }
+quiet_with_file f s = record s { began = put_present f s.began; files = put_present f s.files }

@@ -1,3 +1,4 @@
+pub mod Beside
 pub mod Children
 pub mod Devices
 pub mod NameOrders

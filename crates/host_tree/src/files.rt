@@ -1,10 +1,10 @@
 //! Files in memory, in the order of their paths.
 
-ghost use Rattle.std.specs.Prelude.{◌≡◌, ◌≤◌, ◌+◌, ◌-◌, [], Some, None, false, true, IfOk, OnOk, OnErr, length, take, drop, ◌++◌, map, option_map, option_copied};
+ghost use Rattle.std.specs.Prelude.{◌≡◌, ◌≤◌, ◌+◌, ◌-◌, [], Some, None, false, true, is_some, IfOk, OnOk, OnErr, length, take, drop, ◌++◌, map, option_map, option_copied};
 ghost use Rattle.std.specs.List.{list_any, list_all};
-ghost use Rattle.portal_base.specs.Content.{look_at, is_folder, is_above, file_named, file_at, IsTree, ArePlaced, paths_of};
+ghost use Rattle.portal_base.specs.Content.{look_at, is_folder, has_room, is_above, file_named, file_at, IsTree, ArePlaced, paths_of};
 ghost use Rattle.portal_base.specs.FolderNames.{names_in};
-ghost use Rattle.host_tree.specs.Trees.{overlaid, cut_to, bytes_from, Does, has_file, change_named, written, resized, may_create, put_file, file_with, without, new_file, is_done_fault};
+ghost use Rattle.host_tree.specs.Trees.{overlaid, cut_to, bytes_from, DoesFiles, has_file, change_named, written, resized, may_create, put_file, file_with, without, new_file, is_done_fault};
 
 use crate::names::FolderNames;
 use crate::tree::TreeDone;
@@ -16,17 +16,70 @@ use portal_base::names::host_path::{is_root, lies_above};
 use std::alloc::Global;
 use std::collections::BTreeMap;
 use std::marker::Model;
+use std::mem;
 use std::ops::Bound;
 
 /// What is stored of a file.
 #[derive(Drop)]
 pub(crate) struct Stored {
+    pub(crate) generation: u64,
     pub(crate) bytes: ByteList,
     pub(crate) moment: u64,
 }
 
 impl Stored {
-    ghost use Rattle.host_tree.specs.Stored.{stored_written, stored_resized};
+    ghost use Rattle.host_tree.specs.Stored.{DoesStored, blank, of_generation, stored_written, stored_resized};
+
+    /// An empty one.
+    pub(crate) fn blank(alloc: Global) -> Stored
+        ensures { result ≡ blank }
+    {
+        Stored {
+            generation: 0,
+            bytes: List::new(alloc),
+            moment: 0,
+        }
+    }
+
+    /// It, where it is of this generation.
+    pub(crate) fn of_generation(&self, generation: u64) -> Option<&Stored>
+        ensures { option_copied result ≡ of_generation generation (Some self.now) }
+    {
+        if self.generation == generation {
+            Some(self)
+        } else {
+            None
+        }
+    }
+
+    /// Writes over the bytes from an offset on, where it is of this generation.
+    pub(crate) fn write_as(
+        &mut self,
+        generation: u64,
+        offset: u64,
+        content: &[u8],
+        now: u64,
+    ) -> TreeDone
+        ensures does { DoesStored generation (stored_written offset content.now now) self.old result
+            self.new }
+        ensures no_fault { is_done_fault result ≡ false }
+    {
+        if self.generation != generation {
+            return TreeDone::NotFile;
+        }
+        done(self.write(offset, content, now))
+    }
+
+    /// Cuts or fills the bytes to a length, where it is of this generation.
+    pub(crate) fn set_len_as(&mut self, generation: u64, size: u64, now: u64) -> TreeDone
+        ensures does { DoesStored generation (stored_resized size now) self.old result self.new }
+        ensures no_fault { is_done_fault result ≡ false }
+    {
+        if self.generation != generation {
+            return TreeDone::NotFile;
+        }
+        done(self.set_len(size, now))
+    }
 
     /// Writes over the bytes from an offset on, or changes nothing.
     fn write(&mut self, offset: u64, content: &[u8], now: u64) -> Result<(), WantOfMemory>
@@ -82,6 +135,7 @@ pub(crate) fn bytes_from(bytes: &[u8], offset: u64, size: u32) -> &[u8]
 impl Replica for Stored {
     fn replica(&self, alloc: Global) -> Result<Stored, WantOfMemory> {
         Ok(Stored {
+            generation: self.generation,
             bytes: self.bytes.replica(alloc)?,
             moment: self.moment,
         })
@@ -111,7 +165,9 @@ impl Model for Files {
 }
 
 impl Files {
-    ghost use Rattle.host_tree.specs.Stored.{stored_of};
+    ghost use Rattle.host_tree.specs.Stored.{file_of, stored_of};
+    ghost use Rattle.file_generations.specs.Generations.{in_place};
+    ghost use Rattle.host_tree.specs.Trees.{may_be_present};
 
     /// No files.
     pub(crate) fn new(alloc: Global) -> Files
@@ -135,7 +191,7 @@ impl Files {
     {
         match self.map.get(path) {
             Some(stored) => Look::File {
-                generation: 0,
+                generation: stored.generation,
                 size: stored.bytes.len() as u64,
                 moment: stored.moment,
             },
@@ -158,11 +214,20 @@ impl Files {
     pub(crate) fn named(&self, name: &FileName) -> Option<&Stored>
         ensures { option_copied result ≡ option_map stored_of (file_named self.now name.now) }
     {
-        let map = &self.map;
-        if name.generation != 0 {
-            return None;
+        match self.map.get(&name.path) {
+            Some(stored) => stored.of_generation(name.generation),
+            None => None,
         }
-        map.get(&name.path)
+    }
+
+    /// Says whether a file has the name.
+    pub(crate) fn has_named(&self, name: &FileName) -> bool
+        ensures { result ≡ has_file name.now self.now }
+    {
+        match self.named(name) {
+            Some(_) => true,
+            None => false,
+        }
     }
 
     /// Says whether a path is a folder.
@@ -198,7 +263,7 @@ impl Files {
         Ok(names)
     }
 
-    /// Adds a file where the paths then are those of a tree.
+    /// Adds the first file of a path where the paths then are those of a tree.
     pub(crate) fn add(
         &mut self,
         path: HostPath,
@@ -210,7 +275,12 @@ impl Files {
         ensures err { OnErr result (self.new ≡ self.old) }
     {
         let _ = path.as_bytes();
-        self.map.insert(path, Stored { bytes, moment })?;
+        let stored = Stored {
+            generation: 0,
+            bytes,
+            moment,
+        };
+        self.map.insert(path, stored)?;
         Ok(())
     }
 
@@ -230,7 +300,7 @@ impl Files {
         content: &[u8],
         now: u64,
     ) -> TreeDone
-        ensures does { Does (has_file name.now)
+        ensures does { DoesFiles (has_file name.now)
             (change_named name.now (written offset content.now now)) (Some self.old) result
             (Some self.new) }
         ensures no_fault { is_done_fault result ≡ false }
@@ -240,7 +310,7 @@ impl Files {
 
     /// Cuts or fills a file to a length.
     pub(crate) fn set_len(&mut self, name: &FileName, size: u64, now: u64) -> TreeDone
-        ensures does { Does (has_file name.now) (change_named name.now (resized size now))
+        ensures does { DoesFiles (has_file name.now) (change_named name.now (resized size now))
             (Some self.old) result (Some self.new) }
         ensures no_fault { is_done_fault result ≡ false }
     {
@@ -249,8 +319,8 @@ impl Files {
 
     /// Makes an empty file where nothing stands and the parent is a folder.
     pub(crate) fn create(&mut self, alloc: Global, path: &HostPath, now: u64) -> TreeDone
-        ensures does { Does (λ files. may_create files path.now) (put_file (new_file path.now now))
-            (Some self.old) result (Some self.new) }
+        ensures does { DoesFiles (λ files. may_create files path.now)
+            (put_file (new_file path.now now)) (Some self.old) result (Some self.new) }
         ensures no_fault { is_done_fault result ≡ false }
     {
         match self.may_create(alloc, path) {
@@ -267,17 +337,58 @@ impl Files {
         if self.map.contains_key(path) || self.is_folder(path) {
             return Ok(false);
         }
+        let room = self.has_room(alloc, path)?;
+        Ok(room)
+    }
+
+    /// Says whether the parent of a path is a folder.
+    pub(crate) fn has_room(&self, alloc: Global, path: &HostPath) -> Result<bool, WantOfMemory>
+        ensures { IfOk result (λ room. room ≡ has_room self.now path.now) }
+    {
         Ok(self.is_folder(&path.parent(alloc)?))
     }
 
+    /// Says whether a file may have the path: it is no folder, and lies in one.
+    pub(crate) fn may_have(&self, alloc: Global, path: &HostPath) -> Result<bool, WantOfMemory>
+        ensures { IfOk result (λ may. may ≡ may_be_present self.now path.now) }
+    {
+        if self.is_folder(path) {
+            return Ok(false);
+        }
+        let room = self.has_room(alloc, path)?;
+        Ok(room)
+    }
+
+    /// Says whether a file has the path.
+    pub(crate) fn has_file(&self, path: &HostPath) -> bool
+        ensures { result ≡ is_some (file_at self.now path.now) }
+    {
+        self.map.contains_key(path)
+    }
+
+    /// Puts what is stored of a file in the place of another, and gives that.
+    pub(crate) fn replace(&mut self, path: &HostPath, stored: Stored) -> Stored
+        requires { is_some (file_at self.old path.now) ≡ true }
+        ensures given { Some result ≡ option_map stored_of (file_at self.old path.now) }
+        ensures rest { self.new ≡ in_place path.now (file_of (path.now, stored)) self.old }
+    {
+        replace_in(&mut self.map, path, stored)
+    }
+
     /// Puts an empty file at a path where one may be made.
-    fn insert_new(&mut self, alloc: Global, path: &HostPath, now: u64) -> Result<(), WantOfMemory>
+    pub(crate) fn insert_new(
+        &mut self,
+        alloc: Global,
+        path: &HostPath,
+        now: u64,
+    ) -> Result<(), WantOfMemory>
         requires { may_create self.old path.now ≡ true }
         ensures ok { OnOk result (self.new ≡ put_file (new_file path.now now) self.old) }
         ensures err { OnErr result (self.new ≡ self.old) }
     {
         let _ = path.as_bytes();
         let stored = Stored {
+            generation: 0,
             bytes: List::new(alloc),
             moment: now,
         };
@@ -294,7 +405,8 @@ impl Replica for Files {
 }
 
 ghost use Rattle.std.specs.BTreeMap.{keys};
-ghost use Rattle.host_tree.specs.Stored.{files_of};
+ghost use Rattle.host_tree.specs.Stored.{file_of, files_of, stored_of};
+ghost use Rattle.file_generations.specs.Generations.{in_place};
 
 /// A map by path with the same entries.
 fn replica_of(
@@ -376,16 +488,14 @@ fn write_in(
     content: &[u8],
     now: u64,
 ) -> TreeDone
-    ensures does { Does (has_file name.now) (change_named name.now (written offset content.now now))
+    ensures does { DoesFiles (has_file name.now)
+        (change_named name.now (written offset content.now now))
         (Some (files_of map.old.entries)) result (Some (files_of map.new.entries)) }
     ensures no_fault { is_done_fault result ≡ false }
     ensures keys { keys map.new ≡ keys map.old }
 {
-    if name.generation != 0 {
-        return TreeDone::NotFile;
-    }
     match map.get_mut(&name.path) {
-        Some(stored) => done(stored.write(offset, content, now)),
+        Some(stored) => stored.write_as(name.generation, offset, content, now),
         None => TreeDone::NotFile,
     }
 }
@@ -397,22 +507,35 @@ fn set_len_in(
     size: u64,
     now: u64,
 ) -> TreeDone
-    ensures does { Does (has_file name.now) (change_named name.now (resized size now))
+    ensures does { DoesFiles (has_file name.now) (change_named name.now (resized size now))
         (Some (files_of map.old.entries)) result (Some (files_of map.new.entries)) }
     ensures no_fault { is_done_fault result ≡ false }
     ensures keys { keys map.new ≡ keys map.old }
 {
-    if name.generation != 0 {
-        return TreeDone::NotFile;
-    }
     match map.get_mut(&name.path) {
-        Some(stored) => done(stored.set_len(size, now)),
+        Some(stored) => stored.set_len_as(name.generation, size, now),
         None => TreeDone::NotFile,
     }
 }
 
+/// Puts what is stored of a file in a map by path in the place of another.
+fn replace_in(map: &mut BTreeMap<HostPath, Stored>, path: &HostPath, stored: Stored) -> Stored
+    requires { is_some (file_at (files_of map.old.entries) path.now) ≡ true }
+    ensures given { Some result
+        ≡ option_map stored_of (file_at (files_of map.old.entries) path.now) }
+    ensures rest { files_of map.new.entries
+        ≡ in_place path.now (file_of (path.now, stored)) (files_of map.old.entries) }
+    ensures keys { keys map.new ≡ keys map.old }
+{
+    match map.get_mut(path) {
+        Some(there) => mem::replace(there, stored),
+        // It is there.
+        None => stored,
+    }
+}
+
 /// Done, or no memory.
-fn done(outcome: Result<(), WantOfMemory>) -> TreeDone
+pub(crate) fn done(outcome: Result<(), WantOfMemory>) -> TreeDone
     ensures ok { OnOk outcome (result ≡ TreeDone.Done) }
     ensures err { OnErr outcome (result ≡ TreeDone.Memory) }
 {

@@ -1,13 +1,14 @@
 //! Trees in memory, which tell what they have.
 
-ghost use Rattle.std.specs.Prelude.{◌≡◌, [], OnOk, OnErr, Some, false};
+ghost use Rattle.std.specs.Prelude.{◌≡◌, OnOk, OnErr, Some, false};
 ghost use Rattle.portal_base.specs.Content.{IsTree, ArePlaced, paths_of};
 ghost use Rattle.portal_base.specs.Calls.{uncalled};
 ghost use Rattle.host_tree.specs.Trees.{put_file, file_with};
-ghost use Rattle.host_tree.specs.Devices.{with_file, quiet_with_file};
+ghost use Rattle.host_tree.specs.Devices.{no_files, with_file, quiet_with_file};
 ghost use Rattle.host_tree.specs.Trees.{unnoted};
 
-use crate::files::{Files, bytes_from};
+use crate::files::bytes_from;
+use crate::held::HeldFiles;
 use crate::made::CallsMade;
 use crate::tree::{AttrAnswer, HostTree, ListAnswer, LookAnswer, TreeCall, TreeDone, TreeRead};
 use portal_base::files::{ChildName, FileName};
@@ -22,8 +23,8 @@ use std::marker::Model;
 pub struct MemoryTree {
     alloc: Global,
     // Contracts speak of the files that it began with too, so each file takes its room twice.
-    began: Files,
-    files: Files,
+    began: HeldFiles,
+    files: HeldFiles,
     made: CallsMade,
 }
 
@@ -45,21 +46,22 @@ impl MemoryTree {
     /// 1.
     pub fn new(alloc: Global, fails: List<u64>) -> MemoryTree
         ensures { result ≡ record {
-          began = [];
-          files = [];
+          began = no_files;
+          files = no_files;
           count = uncalled fails;
           noted = unnoted;
         } }
     {
         MemoryTree {
             alloc,
-            began: Files::new(alloc),
-            files: Files::new(alloc),
+            began: HeldFiles::new(alloc),
+            files: HeldFiles::new(alloc),
             made: CallsMade::new(alloc, fails),
         }
     }
 
-    /// Adds a file to those that the tree began with, before its first call.
+    /// Adds the first file of a path to those that the tree began with, before its first
+    /// call.
     pub fn add_file(
         &mut self,
         path: HostPath,
@@ -68,9 +70,9 @@ impl MemoryTree {
     ) -> Result<(), WantOfMemory>
         requires fresh { self.old.count.calls.made ≡ 0 }
         requires began { ArePlaced
-            (paths_of (put_file (file_with path content moment) self.old.began)) }
+            (paths_of (put_file (file_with path content moment) self.old.began.present)) }
         requires files { ArePlaced
-            (paths_of (put_file (file_with path content moment) self.old.files)) }
+            (paths_of (put_file (file_with path content moment) self.old.files.present)) }
         ensures ok { OnOk result (self.new ≡ with_file (file_with path content moment) self.old) }
         ensures err { OnErr result (self.new ≡ self.old) }
     {
@@ -151,6 +153,20 @@ impl HostTree for MemoryTree {
         self.files.create(self.alloc, path, now)
     }
 
+    fn fresh(&mut self, file: &FileName, now: u64) -> TreeDone {
+        if self.made.next_fails(TreeCall::Fresh) {
+            return TreeDone::Failed;
+        }
+        self.files.fresh(self.alloc, file, now)
+    }
+
+    fn turn(&mut self, file: &FileName) -> TreeDone {
+        if self.made.next_fails(TreeCall::Turn) {
+            return TreeDone::Failed;
+        }
+        self.files.turn(self.alloc, file)
+    }
+
     fn sync(&mut self, file: &FileName) -> TreeDone {
         if self.made.next_fails(TreeCall::Sync) {
             return TreeDone::Failed;
@@ -174,8 +190,8 @@ impl HostTree for MemoryTree {
 #[derive(Drop)]
 pub struct QuietTree {
     alloc: Global,
-    began: Files,
-    files: Files,
+    began: HeldFiles,
+    files: HeldFiles,
     made: u64,
 }
 
@@ -190,17 +206,18 @@ impl Model for QuietTree {
 impl QuietTree {
     /// A tree without files.
     pub fn new(alloc: Global) -> QuietTree
-        ensures { result ≡ record { began = []; files = []; made = 0 } }
+        ensures { result ≡ record { began = no_files; files = no_files; made = 0 } }
     {
         QuietTree {
             alloc,
-            began: Files::new(alloc),
-            files: Files::new(alloc),
+            began: HeldFiles::new(alloc),
+            files: HeldFiles::new(alloc),
             made: 0,
         }
     }
 
-    /// Adds a file to those that the tree began with, before its first call.
+    /// Adds the first file of a path to those that the tree began with, before its first
+    /// call.
     pub fn add_file(
         &mut self,
         path: HostPath,
@@ -209,9 +226,9 @@ impl QuietTree {
     ) -> Result<(), WantOfMemory>
         requires fresh { self.old.made ≡ 0 }
         requires began { ArePlaced
-            (paths_of (put_file (file_with path content moment) self.old.began)) }
+            (paths_of (put_file (file_with path content moment) self.old.began.present)) }
         requires files { ArePlaced
-            (paths_of (put_file (file_with path content moment) self.old.files)) }
+            (paths_of (put_file (file_with path content moment) self.old.files.present)) }
         ensures ok { OnOk result
             (self.new ≡ quiet_with_file (file_with path content moment) self.old) }
         ensures err { OnErr result (self.new ≡ self.old) }
@@ -267,6 +284,16 @@ impl HostTree for QuietTree {
         self.files.create(self.alloc, path, now)
     }
 
+    fn fresh(&mut self, name: &FileName, now: u64) -> TreeDone {
+        self.made = self.made.saturating_add(1);
+        self.files.fresh(self.alloc, name, now)
+    }
+
+    fn turn(&mut self, name: &FileName) -> TreeDone {
+        self.made = self.made.saturating_add(1);
+        self.files.turn(self.alloc, name)
+    }
+
     fn sync(&mut self, name: &FileName) -> TreeDone {
         self.made = self.made.saturating_add(1);
         rest(&self.files, name)
@@ -286,21 +313,24 @@ impl HostTree for QuietTree {
 ghost use Rattle.std.specs.Prelude.{IfOk, MatchOption, true};
 ghost use Rattle.portal_base.specs.Content.{is_folder};
 ghost use Rattle.portal_base.specs.FolderNames.{AreInOrder, names_in};
-ghost use Rattle.host_tree.specs.Trees.{Attrs, Gets, Lists, Does, has_file, as_before, is_attr_fault, is_list_fault, is_read_fault, is_done_fault};
+ghost use Rattle.file_generations.specs.Generations.{is_held, put_present};
+ghost use Rattle.host_tree.specs.Trees.{Attrs, Gets, Lists, Does, as_before, is_attr_fault, is_list_fault, is_read_fault, is_done_fault};
 
 /// Adds a file to two lists of files, or to none of them.
 fn add_to_both(
     alloc: Global,
-    began: &mut Files,
-    files: &mut Files,
+    began: &mut HeldFiles,
+    files: &mut HeldFiles,
     path: HostPath,
     content: ByteList,
     moment: u64,
 ) -> Result<(), WantOfMemory>
-    requires began { ArePlaced (paths_of (put_file (file_with path content moment) began.old)) }
-    requires files { ArePlaced (paths_of (put_file (file_with path content moment) files.old)) }
-    ensures ok { OnOk result ((began.new ≡ put_file (file_with path content moment) began.old)
-        × (files.new ≡ put_file (file_with path content moment) files.old)) }
+    requires began { ArePlaced
+        (paths_of (put_file (file_with path content moment) began.old.present)) }
+    requires files { ArePlaced
+        (paths_of (put_file (file_with path content moment) files.old.present)) }
+    ensures ok { OnOk result ((began.new ≡ put_present (file_with path content moment) began.old)
+        × (files.new ≡ put_present (file_with path content moment) files.old)) }
     ensures err { OnErr result ((began.new ≡ began.old) × (files.new ≡ files.old)) }
 {
     let first_path = path.replica(alloc)?;
@@ -316,7 +346,7 @@ fn add_to_both(
 }
 
 /// The length and the moment of a file.
-fn attributes(files: &Files, name: &FileName) -> AttrAnswer
+fn attributes(files: &HeldFiles, name: &FileName) -> AttrAnswer
     ensures attrs { Attrs (Some files.now) name.now result }
     ensures no_fault { is_attr_fault result ≡ false }
 {
@@ -330,7 +360,7 @@ fn attributes(files: &Files, name: &FileName) -> AttrAnswer
 }
 
 /// The names in a folder.
-fn listed(alloc: Global, files: &Files, path: &HostPath) -> ListAnswer
+fn listed(alloc: Global, files: &HeldFiles, path: &HostPath) -> ListAnswer
     ensures lists { Lists (Some files.now) path.now result }
     ensures no_fault { is_list_fault result ≡ false }
 {
@@ -344,12 +374,12 @@ fn listed(alloc: Global, files: &Files, path: &HostPath) -> ListAnswer
 /// The names in a folder; none where there is no folder.
 fn names_in(
     alloc: Global,
-    files: &Files,
+    files: &HeldFiles,
     path: &HostPath,
 ) -> Result<Option<List<ChildName>>, WantOfMemory>
-    ensures { IfOk result (λ found. MatchOption found (is_folder files.now path.now ≡ false)
-        (λ names. AreInOrder names × (is_folder files.now path.now ≡ true)
-        × (names ≡ names_in files.now path.now))) }
+    ensures { IfOk result (λ found. MatchOption found (is_folder files.now.present path.now ≡ false)
+        (λ names. AreInOrder names × (is_folder files.now.present path.now ≡ true)
+        × (names ≡ names_in files.now.present path.now))) }
 {
     if !files.is_folder(path) {
         return Ok(None);
@@ -359,7 +389,7 @@ fn names_in(
 }
 
 /// Bytes of a file.
-fn content(alloc: Global, files: &Files, name: &FileName, offset: u64, size: u32) -> TreeRead
+fn content(alloc: Global, files: &HeldFiles, name: &FileName, offset: u64, size: u32) -> TreeRead
     ensures gets { Gets (Some files.now) name.now offset size result }
     ensures no_fault { is_read_fault result ≡ false }
 {
@@ -373,11 +403,12 @@ fn content(alloc: Global, files: &Files, name: &FileName, offset: u64, size: u32
 }
 
 /// Bytes in memory are at rest.
-fn rest(files: &Files, name: &FileName) -> TreeDone
-    ensures does { Does (has_file name.now) as_before (Some files.now) result (Some files.now) }
+fn rest(files: &HeldFiles, name: &FileName) -> TreeDone
+    ensures does { Does (λ held. is_held held name.now) as_before (Some files.now) result
+        (Some files.now) }
     ensures no_fault { is_done_fault result ≡ false }
 {
-    if files.named(name).is_some() {
+    if files.has_named(name) {
         TreeDone::Done
     } else {
         TreeDone::NotFile

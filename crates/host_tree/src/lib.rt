@@ -13,7 +13,7 @@
 //! | `tree` | the trait [`HostTree`] and its answers |
 //! | `in_memory` | [`MemoryTree`], whose told calls fail, and [`QuietTree`], which never fails |
 //! | `names` | the names in a folder as they are found |
-//! | `files` | the files of a tree in memory, by path |
+//! | `held`, `files`, `hidden` | the files of a tree in memory: the present ones by path, and those beside them |
 //! | `made` | the calls of a tree in memory |
 //!
 //! ```text
@@ -23,6 +23,8 @@
 #![tactic(auto)]
 
 mod files;
+mod held;
+mod hidden;
 mod in_memory;
 mod made;
 pub mod names;

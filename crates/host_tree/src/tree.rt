@@ -7,8 +7,9 @@
 //! counted from 1; each call but `known` and `settle` is one. The kinds of the
 //! first calls are noted, as many as the tree has room for, which may be none.
 //!
-//! A tree has folders at `/` and at every path above a file. The generation of
-//! each file in memory is 0.
+//! A path has a present file, or none. It is what a look shows, and what `create`
+//! makes; the other calls reach a file by its name, be it present or not. A tree
+//! has folders at `/` and at every path above a present file.
 
 ghost use Rattle.std.specs.Prelude.{◌≡◌, IfSome, IsOk, None, OnErr, OnOk};
 ghost use Rattle.portal_base.specs.Content.{IsTree};
@@ -74,8 +75,8 @@ pub enum TreeRead {
 pub enum TreeDone {
     /// It is done.
     Done,
-    /// The tree has no such file; of `create`: something is there, or the
-    /// parent is no folder.
+    /// The tree has no such file; of `create` and `fresh`: something is there,
+    /// or the parent is no folder; of `turn` also: the path is a folder.
     NotFile,
     /// A fault of the tree, in which nothing changed.
     Failed,
@@ -100,13 +101,17 @@ pub enum TreeCall {
     SetLen,
     /// [`HostTree::create`].
     Create,
+    /// [`HostTree::fresh`].
+    Fresh,
+    /// [`HostTree::turn`].
+    Turn,
     /// [`HostTree::sync`].
     Sync,
 }
 
 /// A tree of files.
 pub trait HostTree {
-    ghost use Rattle.host_tree.specs.Trees.{TreeIs, Asks, AreNoted, Changes, Looks, Attrs, Lists, Gets, is_look_fault, is_attr_fault, is_list_fault, is_read_fault, has_file, change_named, written, resized, may_create, put_file, new_file, as_before, settled};
+    ghost use Rattle.host_tree.specs.Trees.{TreeIs, Asks, AreNoted, Changes, Looks, Attrs, Lists, Gets, is_look_fault, is_attr_fault, is_list_fault, is_read_fault, is_held, change_held, written, resized, may_create, may_fresh, may_turn, put_present, new_file, freshened, turned, as_before, settled};
 
     /// What the tree means.
     ghost is: { Self → TreeIs };
@@ -136,25 +141,38 @@ pub trait HostTree {
     /// A gap behind the former end is filled with zero bytes. A write of no
     /// bytes changes nothing.
     fn write(&mut self, file: &FileName, offset: u64, content: &[u8], now: u64) -> TreeDone
-        ensures { Changes TreeCall.Write (has_file file.now)
-            (change_named file.now (written offset content.now now)) (is self.old) result
+        ensures { Changes TreeCall.Write (λ held. is_held held file.now)
+            (change_held file.now (written offset content.now now)) (is self.old) result
             (is self.new) };
 
     /// Cuts a file to a length, or fills it with zero bytes up to it, and sets
     /// its moment.
     fn set_len(&mut self, file: &FileName, size: u64, now: u64) -> TreeDone
-        ensures { Changes TreeCall.SetLen (has_file file.now)
-            (change_named file.now (resized size now)) (is self.old) result (is self.new) };
+        ensures { Changes TreeCall.SetLen (λ held. is_held held file.now)
+            (change_held file.now (resized size now)) (is self.old) result (is self.new) };
 
-    /// Makes an empty file where nothing stands and the parent is a folder.
+    /// Makes an empty file, of generation 0, where nothing stands and the parent
+    /// is a folder. It is its path's present file.
     fn create(&mut self, path: &HostPath, now: u64) -> TreeDone
-        ensures { Changes TreeCall.Create (λ files. may_create files path.now)
-            (put_file (new_file path.now now)) (is self.old) result (is self.new) };
+        ensures { Changes TreeCall.Create (λ held. may_create held.present path.now)
+            (put_present (new_file path.now now)) (is self.old) result (is self.new) };
+
+    /// Makes an empty file of a name, where the parent is a folder and no file has
+    /// it. It isn't present. The first of a path, of generation 0, `create` makes.
+    fn fresh(&mut self, file: &FileName, now: u64) -> TreeDone
+        ensures { Changes TreeCall.Fresh (may_fresh file.now) (freshened file.now now)
+            (is self.old) result (is self.new) };
+
+    /// Makes a file its path's present one, in the place of another. That one
+    /// stays, and is reached by its name. What is present already stays.
+    fn turn(&mut self, file: &FileName) -> TreeDone
+        ensures { Changes TreeCall.Turn (λ held. may_turn held file.now) (turned file.now)
+            (is self.old) result (is self.new) };
 
     /// Brings a file's bytes to rest.
     fn sync(&mut self, file: &FileName) -> TreeDone
-        ensures { Changes TreeCall.Sync (has_file file.now) as_before (is self.old) result
-            (is self.new) };
+        ensures { Changes TreeCall.Sync (λ held. is_held held file.now) as_before (is self.old)
+            result (is self.new) };
 
     /// Takes the files as they are for those that the tree began with; it is no
     /// call of the tree. One that doesn't tell its files answers `Ok`.
@@ -164,11 +182,11 @@ pub trait HostTree {
         ensures untold { (is self.old).told ≡ None → IsOk result };
 
     // No law of a trait can say this of every value, so it is a method, which costs no call.
-    /// What is true at each moment: the files that are told are those of a
-    /// tree, and as many kinds are noted as calls were made, up to the room. It
+    /// What is true at each moment: the present files that are told are those of
+    /// a tree, and as many kinds are noted as calls were made, up to the room. It
     /// is no call of the tree.
     fn known(&self)
-        ensures told { IfSome (is self.now).told IsTree }
-        ensures began { IfSome (is self.now).began IsTree }
+        ensures told { IfSome (is self.now).told (λ held. IsTree held.present) }
+        ensures began { IfSome (is self.now).began (λ held. IsTree held.present) }
         ensures noted { IfSome (is self.now).calls (AreNoted (is self.now).noted) };
 }

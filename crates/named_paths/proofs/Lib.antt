@@ -2,3 +2,4 @@ pub mod OpenPaths
 pub mod PathsHeld
 pub mod KeptNumbers
 pub mod StillOpen
+pub mod TempsAt

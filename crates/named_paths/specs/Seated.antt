@@ -8,7 +8,7 @@ use Rattle.open_handles.specs.Opened.{Opened}
 
 -- a connection but for what it waits for and what it has named
 abbrev pub silent : Connection → Connection
-silent c = record c { unsent = []; namings = [] }
+silent c = record c { unsent = []; namings = []; temps = []; added = 0 }
 
 abbrev pub numbered : OpenHandle → ℕ × Handle
 numbered h = (h.fh, h.handle)

@@ -1,21 +1,26 @@
 //! Of which paths a view tells.
 
-ghost use Rattle.std.specs.Prelude.{◌≡◌, ◌&&◌, ◌||◌, option_copied};
+ghost use Rattle.std.specs.Prelude.{◌≡◌, ◌&&◌, ◌||◌, option_copied, slice_get};
 ghost use Rattle.std.specs.List.{list_any};
 ghost use Rattle.app_world.specs.View.{held_documents, is_of_document};
 ghost use Rattle.open_handles.specs.Opened.{handle_of, opened_on};
 ghost use Rattle.portal_model.specs.State.{held_of, is_app};
 ghost use Rattle.rights_rule.specs.Rights.{holds_any};
-ghost use Rattle.named_paths.specs.Named.{any_has_open, are_of, has_open as does_have_open, is_open_at as is_file_at};
+ghost use Rattle.named_paths.specs.Named.{any_has_open, any_names, are_of, has_file_open as does_have_file_open, has_open as does_have_open, has_temp as does_have_temp, is_open_as as is_file_as, is_open_at as is_file_at, is_temp_at, temps_of};
+ghost use Rattle.save_files.specs.Own.{own_on};
+ghost use Rattle.app_world.specs.View.{same_name};
 
 use crate::numbers::OpenNumbers;
 use document_records::{Documents, Grants};
 use open_handles::Handles;
+use portal_base::files::FileName;
 use portal_base::names::host_path::lies_above;
 use portal_base::names::{AppId, HostPath};
 use portal_base::who::Who;
 use portal_model::handle::Handle;
 use portal_model::state::{Connection, Document};
+use portal_model::temporary::Temp;
+use save_files::Temps;
 
 /// Says whether a document in which the application has a right, or an open file
 /// of its connections, has this path, or a document of those that is a folder has it
@@ -137,4 +142,110 @@ fn is_open_at(handle: Option<&Handle>, path: &HostPath) -> bool
         Some(Handle::File { name, .. }) => name.path == *path,
         _ => false,
     }
+}
+
+/// Says whether an open file or a temporary of the application's connections is this
+/// very file. The connections wait for nothing, and these are the numbers of what they
+/// have open.
+pub fn names(
+    handles: &Handles,
+    numbers: &OpenNumbers,
+    temps: &Temps,
+    connections: &[Connection],
+    app: &AppId,
+    name: &FileName,
+) -> bool
+    ensures { result ≡ any_names numbers.now handles.now.seats temps.now.seats app.now name.now
+        connections.now }
+{
+    connections.iter().any(|connection| is_app(&connection.who, app)
+        && names_on(handles, numbers, temps, connection.seat, name))
+}
+
+/// The same of the connection of a seat.
+fn names_on(
+    handles: &Handles,
+    numbers: &OpenNumbers,
+    temps: &Temps,
+    seat: u32,
+    name: &FileName,
+) -> bool
+    ensures { result ≡ (does_have_file_open numbers.now handles.now.seats name.now seat
+        || does_have_temp temps.now.seats name.now seat) }
+{
+    has_file_open(handles, numbers, seat, name) || has_temp(temps, seat, name)
+}
+
+/// Says whether a seat has this file open, by one of its numbers.
+fn has_file_open(handles: &Handles, numbers: &OpenNumbers, seat: u32, name: &FileName) -> bool
+    ensures { result ≡ does_have_file_open numbers.now handles.now.seats name.now seat }
+{
+    match numbers.get(&seat) {
+        Some(known) => any_is_open_as(handles, seat, known.as_slice(), name),
+        None => false,
+    }
+}
+
+/// Says whether this file is open on a seat by one of these numbers.
+fn any_is_open_as(handles: &Handles, seat: u32, known: &[u64], name: &FileName) -> bool
+    ensures { result ≡ list_any
+        (λ fh. is_file_as name.now (handle_of (opened_on handles.now.seats seat) fh)) known.now }
+{
+    known
+        .iter()
+        .any(|number| is_open_as(handles.get(seat, *number), name))
+}
+
+/// Says whether an open handle is that of this file.
+fn is_open_as(handle: Option<&Handle>, name: &FileName) -> bool
+    ensures { result ≡ is_file_as name.now (option_copied handle.entry) }
+{
+    match handle {
+        Some(Handle::File { name: file, .. }) => is_same(file, name),
+        _ => false,
+    }
+}
+
+/// How many temporaries a connection may have.
+const MOST_TEMPS: u32 = 64;
+
+/// Says whether this file is a temporary of a seat.
+fn has_temp(temps: &Temps, seat: u32, name: &FileName) -> bool
+    ensures { result ≡ does_have_temp temps.now.seats name.now seat }
+{
+    // A connection has no more of them than it may.
+    let _ = temps.get(seat, 0);
+    for place in 0..MOST_TEMPS {
+        if has_temp_at(temps, seat, place, name) {
+            return true;
+        }
+    }
+    false
+}
+
+/// Says whether this file is the temporary of a seat at a place.
+fn has_temp_at(temps: &Temps, seat: u32, place: u32, name: &FileName) -> bool
+    ensures { result ≡ is_temp_at name.now (slice_get (temps_of (own_on temps.now.seats seat)) place) }
+{
+    match temps.at(seat, place) {
+        Some(k) => match temps.get(seat, k) {
+            Some(temp) => is_file_of(temp, name),
+            None => false,
+        },
+        None => false,
+    }
+}
+
+/// Says whether this is the file of a temporary.
+fn is_file_of(temp: &Temp, name: &FileName) -> bool
+    ensures { result ≡ same_name temp.now.file name.now }
+{
+    is_same(&temp.file, name)
+}
+
+/// Says whether two names are of one file.
+fn is_same(first: &FileName, second: &FileName) -> bool
+    ensures { result ≡ same_name first.now second.now }
+{
+    first.path == second.path && first.generation == second.generation
 }

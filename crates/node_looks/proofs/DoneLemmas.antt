@@ -4,7 +4,7 @@ use Rattle.std.specs.List.{find}
 use Rattle.std.specs.Map.{lookup, remove_entry}
 use Rattle.std.specs.Option.{option_map}
 use Rattle.std.proofs.lemmas.Bool.Decides.{nat_tests}
-use Rattle.portal_base.specs.declared.files.File.{File}
+use Rattle.file_generations.specs.Generations.{Held}
 use Rattle.host_tree.specs.Trees.{TreeIs}
 use Rattle.open_handles.specs.Opened.{Both, HandleTable, Keeps, Opened, handle_of as handle_in, opened_on}
 use Rattle.portal_model.specs.declared.handle.Handle.{Handle}
@@ -15,15 +15,15 @@ use Rattle.portal_model.specs.declared.request.NodeOp.{NodeOp}
 use Rattle.portal_model.specs.declared.request.NodeRequest.{NodeRequest}
 use Rattle.portal_model.specs.declared.state.Connection.{Connection}
 use Rattle.portal_model.specs.Bus.{is_tree, moment_given}
-use Rattle.portal_model.specs.Node.{connections_after, connections_named, facts_of, files_after, named_on, node_answer, node_walk, room_of, settled_on_node, walk_on_node}
-use Rattle.portal_model.specs.NodeVerdict.{FileChange, FilesStay, HandlesStay, HandleChange, NameChange, Names, NamesStay, NodeVerdict, Errs, Yields, Opens, Closes}
+use Rattle.portal_model.specs.Node.{connections_after, connections_named, facts_of, files_after, named_on, node_answer, node_walk, room_of, settled_on_node, temps_changed, walk_on_node, with_temps}
+use Rattle.portal_model.specs.NodeVerdict.{FileChange, FilesStay, HandlesStay, HandleChange, NameChange, Names, NamesStay, Temps, NodeVerdict, Errs, Yields, Opens, Closes}
 use Rattle.portal_model.specs.Outside.{files_told}
-use Rattle.portal_model.specs.SeatNames.{with_naming}
-use Rattle.portal_model.specs.State.{State, connection_of, handle_of, handles_of, is_handle}
-use Rattle.portal_model.specs.Walk.{Answers, Gives, GivesNames, Walk, reads_clock, walked_with}
-use Rattle.node_looks.specs.Done.{Does, DoesAt, DoneBy, DoneIn, IsAnswer, IsCalled, answer_of, file_change, handle_change, room_in, room_on, unasked}
+use Rattle.portal_model.specs.SeatNames.{TempChange, with_naming}
+use Rattle.portal_model.specs.State.{State, connection_of, handle_of, handles_of, held_in, is_handle}
+use Rattle.portal_model.specs.Walk.{Answers, Gives, GivesNames, Walk, generation_reached, reads_clock, walked_with}
+use Rattle.node_looks.specs.Done.{Does, DoesWhere, DoneBy, DoneIn, IsAnswer, IsCalled, answer_of, file_change, handle_change, room_in, room_on, unasked}
 use Rattle.node_looks.specs.OpenHandles.{AreOpen, AreOpened, Handled, SeatHandled, numbered, open_on}
-use Rattle.node_looks.specs.Served.{Tells, Told, given_to}
+use Rattle.node_looks.specs.Served.{TellsWhere, Told, given_to}
 use Rattle.node_looks.specs.TreeCalls.{Calling, calls_of}
 use Rattle.node_looks.specs.declared.served.FileBook.{FileBook}
 use Rattle.node_looks.specs.declared.served.NodeCall.{NodeCall}
@@ -37,50 +37,65 @@ settled-answer s c None = refl
 settled-answer s c (Some (Errs errno)) = refl
 settled-answer s c (Some (Yields d)) = refl
 
-told_after : (told : Bool) (change : FileChange) (files : List File) → cond told (Some (files_after told change files)) None ≡ option_map (files_after true change) (cond told (Some files) None)
-told_after true change files = refl
-told_after false change files = refl
+told_after : (told : Bool) (change : FileChange) (held : Held) → cond told (Some (files_after told change held)) None ≡ option_map (files_after true change) (cond told (Some held) None)
+told_after true change held = refl
+told_after false change held = refl
 
-pub told-still : (told : Option (List File)) → option_map (files_after true FilesStay) told ≡ told
+pub told-still : (told : Option Held) → option_map (files_after true FilesStay) told ≡ told
 told-still None = refl
-told-still (Some files) = refl
+told-still (Some held) = refl
 
 settled-files : (s : State) (c : Connection) (v : Option NodeVerdict) → files_told (settled_on_node s c v).0 ≡ option_map (files_after true (file_change v)) (files_told s)
 settled-files s c None = sym (told-still (files_told s))
 settled-files s c (Some (Errs errno)) = sym (told-still (files_told s))
-settled-files s c (Some (Yields d)) = told_after s.told d.file s.files
+settled-files s c (Some (Yields d)) = told_after s.told d.file (held_in s)
 
 -- ---- what is named leaves what is open
 
 pub named-seat : (n : ℕ) (naming : Naming) (c : Connection) → (named_on n naming c).seat ≡ c.seat
 named-seat n naming c = elim (c.seat == n) as (λ b. (cond b (record c { namings = with_naming c.namings naming }) c).seat ≡ c.seat) [ true ↦ refl | false ↦ refl ]
 
-named-opens : (n : ℕ) (naming : Naming) (c : Connection) → (named_on n naming c).opens ≡ c.opens
+pub named-opens : (n : ℕ) (naming : Naming) (c : Connection) → (named_on n naming c).opens ≡ c.opens
 named-opens n naming c = elim (c.seat == n) as (λ b. (cond b (record c { namings = with_naming c.namings naming }) c).opens ≡ c.opens) [ true ↦ refl | false ↦ refl ]
 
-pub named-found : (n seat : ℕ) (naming : Naming) (cs : List Connection) → connection_of (map (named_on n naming) cs) seat ≡ option_map (named_on n naming) (connection_of cs seat)
-named-found n seat naming [] = refl
-named-found n seat naming (c ∷ cs) =
-    ap (λ (m : ℕ). cond (m == seat) (Some (named_on n naming c)) (connection_of (map (named_on n naming) cs) seat)) (named-seat n naming c)
-    ∙ by (c.seat == seat) (named-found n seat naming cs)
-  where
-    by : (b : Bool) → connection_of (map (named_on n naming) cs) seat ≡ option_map (named_on n naming) (connection_of cs seat) →
-        cond b (Some (named_on n naming c)) (connection_of (map (named_on n naming) cs) seat) ≡ option_map (named_on n naming) (cond b (Some c) (connection_of cs seat))
-    by true h = refl
-    by false h = h
+pub temps-seat : (n : ℕ) (change : TempChange) (c : Connection) → (temps_changed n change c).seat ≡ c.seat
+temps-seat n change c = elim (c.seat == n) as (λ b. (cond b (with_temps change c) c).seat ≡ c.seat) [ true ↦ refl | false ↦ refl ]
 
-named-opened : (n : ℕ) (naming : Naming) (there : List (ℕ × Handle)) (o : Option Connection) (p : Option Opened) → AreOpened there o p → AreOpened there (option_map (named_on n naming) o) p
-named-opened n naming there None None h = h
-named-opened n naming there None (Some p) h = h
-named-opened n naming there (Some c) None h = h
-named-opened n naming there (Some c) (Some p) h = record { last = h.last ∙ sym (named-opens n naming c); handles = h.handles }
+pub temps-opens : (n : ℕ) (change : TempChange) (c : Connection) → (temps_changed n change c).opens ≡ c.opens
+temps-opens n change c = elim (c.seat == n) as (λ b. (cond b (with_temps change c) c).opens ≡ c.opens) [ true ↦ refl | false ↦ refl ]
+
+-- connections changed, but for their seats and what was opened on them
+module _ (f : Connection → Connection) (seats : (c : Connection) → (f c).seat ≡ c.seat) where
+  pub changed-found : (seat : ℕ) (cs : List Connection) → connection_of (map f cs) seat ≡ option_map f (connection_of cs seat)
+  changed-found seat [] = refl
+  changed-found seat (c ∷ cs) =
+      ap (λ (m : ℕ). cond (m == seat) (Some (f c)) (connection_of (map f cs) seat)) (seats c)
+      ∙ by (c.seat == seat) (changed-found seat cs)
+    where
+      by : (b : Bool) → connection_of (map f cs) seat ≡ option_map f (connection_of cs seat) →
+          cond b (Some (f c)) (connection_of (map f cs) seat) ≡ option_map f (cond b (Some c) (connection_of cs seat))
+      by true h = refl
+      by false h = h
+
+  changed-opened : ((c : Connection) → (f c).opens ≡ c.opens) → (there : List (ℕ × Handle)) (o : Option Connection) (p : Option Opened) → AreOpened there o p → AreOpened there (option_map f o) p
+  changed-opened opens there None None h = h
+  changed-opened opens there None (Some p) h = h
+  changed-opened opens there (Some c) None h = h
+  changed-opened opens there (Some c) (Some p) h = record { last = h.last ∙ sym (opens c); handles = h.handles }
+
+  changed-still : ((c : Connection) → (f c).opens ≡ c.opens) → (seat : ℕ) (there : List (ℕ × Handle)) (cs : List Connection) (p : Option Opened) → AreOpened there (connection_of cs seat) p → AreOpened there (connection_of (map f cs) seat) p
+  changed-still opens seat there cs p h =
+      subst (λ (o : Option Connection). AreOpened there o p) (sym (changed-found seat cs)) (changed-opened opens there (connection_of cs seat) p h)
+
+pub named-found : (n seat : ℕ) (naming : Naming) (cs : List Connection) → connection_of (map (named_on n naming) cs) seat ≡ option_map (named_on n naming) (connection_of cs seat)
+named-found n seat naming cs = changed-found (named_on n naming) (named-seat n naming) seat cs
 
 still-opened : (c : Connection) (change : NameChange) (seat : ℕ) (there : List (ℕ × Handle)) (cs : List Connection) (p : Option Opened) → AreOpened there (connection_of cs seat) p → AreOpened there (connection_of (connections_named c change cs) seat) p
 still-opened c NamesStay seat there cs p h = h
-still-opened c (Names naming) seat there cs p h =
-    subst (λ (o : Option Connection). AreOpened there o p) (sym (named-found c.seat seat naming cs)) (named-opened c.seat naming there (connection_of cs seat) p h)
+still-opened c (Names naming) seat there cs p h = changed-still (named_on c.seat naming) (named-seat c.seat naming) (named-opens c.seat naming) seat there cs p h
+still-opened c (Temps change) seat there cs p h = changed-still (temps_changed c.seat change) (temps-seat c.seat change) (temps-opens c.seat change) seat there cs p h
 
-module _ (s : State) (c : Connection) (book : FileBook) (call : NodeCall) (table after : HandleTable) (told : Option (List File)) (a : IsCalled s c book call table told) where
+module _ (s : State) (c : Connection) (book : FileBook) (call : NodeCall) (table after : HandleTable) (told : Option Held) (a : IsCalled s c book call table told) where
   seat-is : c.seat ≡ call.seat
   seat-is = seat-of s.connections call.seat c a.here
 
@@ -102,11 +117,11 @@ pub done-in : (s : State) (c : Connection) (book : FileBook) (call : NodeCall) (
 done-in s c book call w table old done after new a e d = record {
   lawful = record {
     looks = subst (λ (x : Walk NodeVerdict). Gives (files_told s) x done.looks (is_tree done.fault)) (sym e)
-        (subst (λ (t : Option (List File)). Gives t w done.looks (is_tree done.fault)) (sym a.files) d.comes.gives);
+        (subst (λ (t : Option Held). Gives t w done.looks (is_tree done.fault)) (sym a.files) d.comes.gives);
     clock = d.comes.clock ∙ sym (ap (λ (x : Walk NodeVerdict). reads_clock x done.looks) e);
     listed = subst (λ (x : Walk NodeVerdict). GivesNames (files_told s) x done.looks done.listed (is_tree done.fault)) (sym e)
-        (subst (λ (t : Option (List File)). GivesNames t w done.looks done.listed (is_tree done.fault)) (sym a.files) d.comes.lists);
-    generation = refl;
+        (subst (λ (t : Option Held). GivesNames t w done.looks done.listed (is_tree done.fault)) (sym a.files) d.comes.lists);
+    generation = d.comes.generation ∙ sym (ap (λ (x : Walk NodeVerdict). generation_reached x done.looks) e);
     words = refl;
     numbers = refl;
     full = refl;
@@ -129,8 +144,8 @@ abbrev pub IsExact : NodeOp → Type 0
 IsExact (NodeOp.Read fh offset size) = ⊥
 IsExact op = Unit {0}
 
-pub same-answer : (told : Option (List File)) (op : NodeOp) (a b : Answer) → IsExact op → b ≡ a → IsAnswer told op a b
-same-answer (Some files) op a b x e = e
+pub same-answer : (told : Option Held) (op : NodeOp) (a b : Answer) → IsExact op → b ≡ a → IsAnswer told op a b
+same-answer (Some held) op a b x e = e
 same-answer None (NodeOp.Read fh offset size) a b x e = absurd x
 same-answer None (NodeOp.Lookup name) a b x e = e
 same-answer None (NodeOp.Forget count) a b x e = e
@@ -147,6 +162,8 @@ same-answer None NodeOp.OpenDir a b x e = e
 same-answer None (NodeOp.ReadDir fh offset size) a b x e = e
 same-answer None (NodeOp.ReleaseDir fh) a b x e = e
 same-answer None (NodeOp.Access mask) a b x e = e
+same-answer None (NodeOp.Rename new_parent flags old_name new_name) a b x e = e
+same-answer None (NodeOp.Unlink name) a b x e = e
 
 -- ---- open handles that stay
 
@@ -203,6 +220,7 @@ unasked-by v op seat table after tree x f h = record {
     gives = (refl, refl);
     lists = refl;
     clock = refl;
+    generation = refl;
     keeper = λ e. cc;
     comes = refl;
     answer = same-answer tree.told op (answer_of (Some v)) (answer_of (Some v)) x refl;
@@ -214,7 +232,7 @@ unasked-by v op seat table after tree x f h = record {
 
 -- ---- what a state says of a seat, the table says too
 
-module _ (s : State) (c : Connection) (book : FileBook) (call : NodeCall) (table : HandleTable) (told : Option (List File)) (a : IsCalled s c book call table told) where
+module _ (s : State) (c : Connection) (book : FileBook) (call : NodeCall) (table : HandleTable) (told : Option Held) (a : IsCalled s c book call table told) where
   at-seat : AreOpened (open_on s.handles c.seat) (Some c) (opened_on table.seats call.seat)
   at-seat = subst (λ (x : Option Connection). AreOpened (open_on s.handles c.seat) x (opened_on table.seats call.seat)) a.here
       (subst (λ (n : ℕ). AreOpened (open_on s.handles n) (connection_of s.connections call.seat) (opened_on table.seats call.seat)) (sym (seat-is s c book call table table told a)) (a.handles.each call.seat))
@@ -284,9 +302,9 @@ told-done s c book call table old done new x a told =
       answer = same-answer old.told r.op (node_answer s c r (given_to done)).1 done.answer x (sym (ap (λ (p : State × Answer). p.1) step));
       handles = subst (λ (p : State × Answer). AreOpen p.0 table) (sym step) a.handles;
       files = ap (λ (p : State × Answer). files_told p.0) step ∙ stays;
-      calls = subst (λ (f : Option (List File)). Calling old (calls_of (walk_on_node s c r) done.looks (is_tree done.fault)) f new) (sym a.files ∙ stays) told.calls;
+      calls = subst (λ (f : Option Held). Calling old (calls_of (walk_on_node s c r) done.looks (is_tree done.fault)) f new) (sym a.files ∙ stays) told.calls;
     }
 
-pub tells-does-at : (naming : Option Naming) (book : FileBook) (call : NodeCall) (table : HandleTable) (old : TreeIs) (done : NodeDone) (new : TreeIs) → IsExact call.request.now.op → Tells naming book.view call.who.now call.request.now old done new → DoesAt naming book call table old done table new
-tells-does-at naming book call table old done new x t = λ s c a n.
-    told-done s c book call table old done new x a (t s c (record { valid = a.valid; lists = a.lists; caller = a.caller; files = a.files }) n)
+pub tells-does : (Has : Connection → Type 0) (book : FileBook) (call : NodeCall) (table : HandleTable) (old : TreeIs) (done : NodeDone) (new : TreeIs) → IsExact call.request.now.op → TellsWhere Has book.view call.who.now call.request.now old done new → DoesWhere (λ s. Has) book call table old done table new
+tells-does Has book call table old done new x t = λ s c a h.
+    told-done s c book call table old done new x a (t s c (record { valid = a.valid; lists = a.lists; caller = a.caller; files = a.files }) h)

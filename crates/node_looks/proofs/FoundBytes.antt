@@ -1,7 +1,7 @@
 -- How a READ comes to its answer, and is served.
 use Rattle.std.proofs.Common.{◌≡◌, ℕ, List, Bool, true, false, not, cond, Option, Some, None, sym, ap, subst, ◌∙◌}
 use Rattle.std.specs.Option.{option_map}
-use Rattle.portal_base.specs.declared.files.File.{File}
+use Rattle.file_generations.specs.Generations.{Held, all_held}
 use Rattle.portal_base.specs.declared.who.Who.{Who}
 use Rattle.host_tree.specs.Trees.{TreeIs}
 use Rattle.open_handles.specs.Opened.{HandleTable, handle_of as handle_in, opened_on}
@@ -16,7 +16,7 @@ use Rattle.portal_model.specs.Outside.{files_told}
 use Rattle.portal_model.specs.Place.{reach_at}
 use Rattle.portal_model.specs.Reach.{OpenFile, Reaching}
 use Rattle.portal_model.specs.Read.{read, read_name, read_open}
-use Rattle.portal_model.specs.State.{State, handle_of}
+use Rattle.portal_model.specs.State.{State, handle_of, held_in}
 use Rattle.portal_model.specs.Walk.{Walk}
 use Rattle.node_looks.specs.ReadFiles.{AreBytes, Finds, FindsAny, IsReadAnswer}
 use Rattle.node_looks.specs.Done.{Does, DoneBy, IsAnswer}
@@ -35,9 +35,9 @@ use Rattle.node_looks.proofs.Follow.{done_with, not-kept}
 
 -- ---- the request
 
-as-answer : (told : Option (List File)) (fh offset size : ℕ) (stepped given : Answer) → IsReadAnswer told size stepped given → IsAnswer told (NodeOp.Read fh offset size) stepped given
+as-answer : (told : Option Held) (fh offset size : ℕ) (stepped given : Answer) → IsReadAnswer told size stepped given → IsAnswer told (NodeOp.Read fh offset size) stepped given
 as-answer None fh offset size stepped given e = e
-as-answer (Some files) fh offset size stepped given e = e
+as-answer (Some held) fh offset size stepped given e = e
 
 finds-by : (fh offset size seat : ℕ) (table : HandleTable) (w : Walk NodeVerdict) (old : TreeIs) (asked : Asked) (new : TreeIs) → Finds size w old asked new → DoneBy w (NodeOp.Read fh offset size) seat table old (done_with asked) table new
 finds-by fh offset size seat table w old asked new f =
@@ -48,21 +48,22 @@ finds-by fh offset size seat table w old asked new f =
         gives = f.gives;
         lists = f.lists;
         clock = sym f.clock;
+        generation = sym f.generation;
         keeper = not-kept asked.look;
         comes = f.comes;
         answer = as-answer old.told fh offset size _ _ f.answer;
         files = stays ∙ sym (ap (λ (c : FileChange). option_map (files_after true c) old.told) f.files ∙ told-still old.told);
-        calls = subst (λ (files : Option (List File)). Calling old (calls_of w (taken asked.look) (is_tree (fault_of asked.look))) files new) (sym stays) f.calls;
+        calls = subst (λ (files : Option Held). Calling old (calls_of w (taken asked.look) (is_tree (fault_of asked.look))) files new) (sym stays) f.calls;
       };
       handled = subst (λ (c : HandleChange). Handled seat c table table) (sym f.handles) (handles-stay seat table);
     }
 
-told-bytes : (s : State) (told : Option (List File)) → files_told s ≡ told → AreBytes told (bytes_named s.files)
+told-bytes : (s : State) (told : Option Held) → files_told s ≡ told → AreBytes told (bytes_named (all_held (held_in s)))
 told-bytes s None e = tt
-told-bytes s (Some files) e = by s.told e
+told-bytes s (Some held) e = by s.told e
   where
-    by : (b : Bool) → cond b (Some s.files) None ≡ Some files → AreBytes (Some files) (bytes_named s.files)
-    by true e = let same : s.files ≡ files = cc in λ name. ap (λ (fs : List File). bytes_named fs name) same
+    by : (b : Bool) → cond b (Some (held_in s)) None ≡ Some held → AreBytes (Some held) (bytes_named (all_held (held_in s)))
+    by true e = let same : held_in s ≡ held = cc in λ name. ap (λ (h : Held). bytes_named (all_held h) name) same
     by false e = cc
 
 pub finds-does : (book : FileBook) (call : NodeCall) (fh offset size : ℕ) (table : HandleTable) (handle : Option Handle) (old : TreeIs) (asked : Asked) (done : NodeDone) (new : TreeIs) → call.request.now.op ≡ NodeOp.Read fh offset size → done ≡ done_with asked →
@@ -70,13 +71,13 @@ pub finds-does : (book : FileBook) (call : NodeCall) (fh offset size : ℕ) (tab
 finds-does book call fh offset size table handle old asked done new op e h f = λ s c a.
     let here : handle_of s.handles c.seat fh ≡ handle = sym (h ∙ handle-is s c book call table old.told a fh) in
     let reach = reach_at s call.who.now in
-    done-in s c book call (read reach (bytes_named s.files) offset size handle) table old done table new a
+    done-in s c book call (read reach (bytes_named (all_held (held_in s))) offset size handle) table old done table new a
     (walk-is s c call.request.now (NodeOp.Read fh offset size) op
-    ∙ (ap (λ (w : Who). read (reach_at s w) (bytes_named s.files) offset size (handle_of s.handles c.seat fh)) a.caller
-    ∙ ap (read reach (bytes_named s.files) offset size) here))
+    ∙ (ap (λ (w : Who). read (reach_at s w) (bytes_named (all_held (held_in s))) offset size (handle_of s.handles c.seat fh)) a.caller
+    ∙ ap (read reach (bytes_named (all_held (held_in s))) offset size) here))
     (as-op _ (NodeOp.Read fh offset size) _ _ table old done table new op
-    (subst (λ (d : NodeDone). DoneBy (read reach (bytes_named s.files) offset size handle) (NodeOp.Read fh offset size) call.seat table old d table new) (sym e)
-    (finds-by fh offset size call.seat table (read reach (bytes_named s.files) offset size handle) old asked new (f s a.lists (bytes_named s.files) (told-bytes s old.told a.files)))))
+    (subst (λ (d : NodeDone). DoneBy (read reach (bytes_named (all_held (held_in s))) offset size handle) (NodeOp.Read fh offset size) call.seat table old d table new) (sym e)
+    (finds-by fh offset size call.seat table (read reach (bytes_named (all_held (held_in s))) offset size handle) old asked new (f s a.lists (bytes_named (all_held (held_in s))) (told-bytes s old.told a.files)))))
 
 -- ---- a handle, by its open file
 

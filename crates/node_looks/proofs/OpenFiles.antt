@@ -3,6 +3,7 @@ use Rattle.std.proofs.Common.{◌≡◌, ℕ, List, [], ◌∷◌, Bool, true, f
 use Rattle.std.specs.Option.{option_map}
 use Rattle.std.proofs.lemmas.Bool.Decides.{nat_tests}
 use Rattle.portal_base.specs.Content.{file_named, is_named}
+use Rattle.file_generations.specs.Generations.{Held, all_held}
 use Rattle.portal_base.specs.declared.files.File.{File}
 use Rattle.portal_base.specs.declared.files.FileName.{FileName}
 use Rattle.portal_base.specs.declared.files.Look.{Look}
@@ -21,18 +22,19 @@ use Rattle.portal_model.specs.declared.reply.NodeAnswer.TheVariants as NodeAnswe
 use Rattle.portal_model.specs.declared.request.NodeOp.{NodeOp}
 use Rattle.portal_model.specs.declared.request.NodeRequest.{NodeRequest}
 use Rattle.portal_model.specs.declared.state.Connection.{Connection}
+use Rattle.portal_model.specs.declared.temporary.Temp.{Temp}
 use Rattle.portal_model.specs.Attributes.{attr_of_folder, is_writable, on_node}
 use Rattle.portal_model.specs.Errno.{eacces}
 use Rattle.portal_model.specs.GetAttr.{get_attr_open, tells_file, tells_folder}
 use Rattle.portal_model.specs.Node.{facts_of, node_done, node_walk, settled_on_node}
 use Rattle.portal_model.specs.NodeVerdict.{NodeVerdict, FileChange, FilesStay, HandleChange, HandlesStay, NameChange, NamesStay, NodeDoing, Errs, OnFile, Yields, at_name, errs_if, told}
-use Rattle.portal_model.specs.Place.{Folder, naming_on}
+use Rattle.portal_model.specs.Place.{Folder}
 use Rattle.portal_model.specs.Reach.{OpenFile, Reaching}
 use Rattle.portal_model.specs.State.{State, handle_of}
-use Rattle.portal_model.specs.Walk.{Answers, AtPath, Ends, Gives, GivesNames, IsShown, Lists, Looks, Named, Walk, look_of_file, reads_clock, walked}
+use Rattle.portal_model.specs.Walk.{Answers, AtPath, Ends, Gives, GivesNames, IsShown, Lists, Looks, Named, Walk, generation_reached, look_of_file, reads_clock, walked}
 use Rattle.node_looks.specs.Done.{Does, DoesAt, IsCalled}
 use Rattle.node_looks.specs.Opened.{IsAllowed}
-use Rattle.node_looks.specs.Served.{Told}
+use Rattle.node_looks.specs.Served.{HasAt, Told}
 use Rattle.node_looks.specs.TreeCalls.{Call, Calling, calls_of, unfailed}
 use Rattle.node_looks.specs.Walks.{ComesTo, ComesToBehind, ComesToLook, Follows, look_of_attr}
 use Rattle.node_looks.specs.declared.asked.Asked.{Asked}
@@ -57,13 +59,13 @@ still-done s c d f h n =
     ∙ ap (λ (x : NameChange). node_done s c (record d { file = FilesStay; handle = HandlesStay; names = x })) n)
 
 module _ (a : Answer) where
-  comes-gives : (tree : Option (List File)) (w : Walk NodeVerdict) → ComesTo w a → Gives tree w [] false
+  comes-gives : (tree : Option Held) (w : Walk NodeVerdict) → ComesTo w a → Gives tree w [] false
   comes-gives tree (Answers v) e = (refl, refl)
   comes-gives tree (Looks target next) e = absurd e
   comes-gives tree (Ends call done missing) e = absurd e
   comes-gives tree (Lists path done missing) e = absurd e
 
-  comes-lists : (tree : Option (List File)) (w : Walk NodeVerdict) → ComesTo w a → GivesNames tree w [] None false
+  comes-lists : (tree : Option Held) (w : Walk NodeVerdict) → ComesTo w a → GivesNames tree w [] None false
   comes-lists tree (Answers v) e = refl
   comes-lists tree (Looks target next) e = absurd e
   comes-lists tree (Ends call done missing) e = absurd e
@@ -74,6 +76,12 @@ module _ (a : Answer) where
   comes-clock (Looks target next) e = absurd e
   comes-clock (Ends call done missing) e = absurd e
   comes-clock (Lists path done missing) e = absurd e
+
+  comes-generation : (w : Walk NodeVerdict) → ComesTo w a → generation_reached w [] ≡ None
+  comes-generation (Answers v) e = refl
+  comes-generation (Looks target next) e = absurd e
+  comes-generation (Ends call done missing) e = absurd e
+  comes-generation (Lists path done missing) e = absurd e
 
   comes-calls : (w : Walk NodeVerdict) → ComesTo w a → calls_of w [] false ≡ []
   comes-calls (Answers v) e = refl
@@ -100,6 +108,7 @@ comes-follows w a tree e = record {
   lists = comes-lists a tree.told w e;
   settles = λ s c. comes-settles a s c w e;
   clock = comes-clock a w e;
+  generation = comes-generation a w e;
   calls = subst (λ (calls : List Call). Calling tree calls tree.told tree) (sym (comes-calls a w e)) (record { goes = refl; fails = tt });
 }
 
@@ -111,29 +120,31 @@ path-look path next old (look.Is shown) new a asks answered e = record {
   lists = comes-lists a old.told (next shown) e;
   settles = λ s c. comes-settles a s c (next shown) e;
   clock = comes-clock a (next shown) e;
+  generation = comes-generation a (next shown) e;
   calls = subst (λ (calls : List Call). Calling old (unfailed TreeCall.Look ∷ calls) old.told new) (sym (comes-calls a (next shown) e)) (one-call TreeCall.Look old false new asks);
 }
   where
-    shown-so : (told : Option (List File)) → Answered told path (look.Is shown) → IsShown told (AtPath path) shown
+    shown-so : (told : Option Held) → Answered told path (look.Is shown) → IsShown told (AtPath path) shown
     shown-so None h = tt
-    shown-so (Some files) h = h
+    shown-so (Some held) h = h
 path-look path next old look.Failed new a asks answered e = record {
   gives = refl;
   lists = refl;
   settles = λ s c. ap (λ (x : Answer). (s, x)) (sym e);
   clock = refl;
+  generation = refl;
   calls = one-call TreeCall.Look old true new asks;
 }
 
 -- ---- the request
 
-pub follows-does-at : (naming : Option Naming) (book : FileBook) (call : NodeCall) (table : HandleTable) (old : TreeIs) (asked : Asked) (done : NodeDone) (new : TreeIs) (op : NodeOp) → call.request.now.op ≡ op → IsExact op → done ≡ done_with asked →
-    ((s : State) (c : Connection) → IsCalled s c book call table old.told → naming_on c call.request.now.node ≡ naming → Follows (node_walk (facts_of s c call.request.now.node) call.request.now op) old asked new) → DoesAt naming book call table old done table new
-follows-does-at naming book call table old asked done new op o x e f = λ s c a n.
+pub follows-does-at : (naming : Option Naming) (temp : Option Temp) (book : FileBook) (call : NodeCall) (table : HandleTable) (old : TreeIs) (asked : Asked) (done : NodeDone) (new : TreeIs) (op : NodeOp) → call.request.now.op ≡ op → IsExact op → done ≡ done_with asked →
+    ((s : State) (c : Connection) → IsCalled s c book call table old.told → HasAt call.request.now.node naming temp c → Follows (node_walk (facts_of s c call.request.now.node) call.request.now op) old asked new) → DoesAt naming temp book call table old done table new
+follows-does-at naming temp book call table old asked done new op o x e f = λ s c a h.
     let r : NodeRequest = call.request.now in
     told-done s c book call table old done new (subst IsExact (sym o) x) a
     (subst (λ (d : NodeDone). Told s c r old d new) (sym e)
-    (follows-serves s c r (node_walk (facts_of s c r.node) r op) old asked new (walk-is s c r op o) a.files (f s c a n)))
+    (follows-serves s c r (node_walk (facts_of s c r.node) r op) old asked new (walk-is s c r op o) a.files (f s c a h)))
 
 pub follows-does : (book : FileBook) (call : NodeCall) (table : HandleTable) (old : TreeIs) (asked : Asked) (done : NodeDone) (new : TreeIs) (op : NodeOp) → call.request.now.op ≡ op → IsExact op → done ≡ done_with asked →
     ((s : State) (c : Connection) → IsCalled s c book call table old.told → Follows (node_walk (facts_of s c call.request.now.node) call.request.now op) old asked new) → Does book call table old done table new
@@ -175,13 +186,13 @@ shown-file name size moment (Some f) g e =
     let same : attributes_of f ≡ (size, moment) = cc in
     λ i. Look.File (sym g i) (sym same i).0 (sym same i).1
 
-pub attrs-shown : (tree : Option (List File)) (name : FileName) (size moment : ℕ) → Attrs tree name (attr.Is size moment) → IsShown tree (Named name) (Look.File name.generation size moment)
+pub attrs-shown : (tree : Option Held) (name : FileName) (size moment : ℕ) → Attrs tree name (attr.Is size moment) → IsShown tree (Named name) (Look.File name.generation size moment)
 attrs-shown None name size moment h = refl
-attrs-shown (Some files) name size moment h = shown-file name size moment (file_named files name) (found-generation name files) h
+attrs-shown (Some held) name size moment h = shown-file name size moment (file_named (all_held held) name) (found-generation name (all_held held)) h
 
-missing-shown : (tree : Option (List File)) (name : FileName) → Attrs tree name attr.NotFile → IsShown tree (Named name) Look.Missing
+missing-shown : (tree : Option Held) (name : FileName) → Attrs tree name attr.NotFile → IsShown tree (Named name) Look.Missing
 missing-shown None name h = tt
-missing-shown (Some files) name h = sym (ap look_of_file h)
+missing-shown (Some held) name h = sym (ap look_of_file h)
 
 -- what the tree tells of the file is a look at its name
 named-look : (name : FileName) (next : OnFile) (old : TreeIs) (answer : AttrAnswer) (new : TreeIs) (a : Answer) → Asks TreeCall.Attr old (is_attr_fault answer) new → Attrs old.told name answer → ComesToBehind next (look_of_attr name answer) a →
@@ -191,6 +202,7 @@ named-look name next old (attr.Is size moment) new a asks attrs e = record {
   lists = comes-lists a old.told (next name.generation size moment) e;
   settles = λ s c. comes-settles a s c (next name.generation size moment) e;
   clock = comes-clock a (next name.generation size moment) e;
+  generation = comes-generation a (next name.generation size moment) e;
   calls = subst (λ (calls : List Call). Calling old (unfailed TreeCall.Attr ∷ calls) old.told new) (sym (comes-calls a (next name.generation size moment) e)) (one-call TreeCall.Attr old false new asks);
 }
 named-look name next old attr.NotFile new a asks attrs e = record {
@@ -198,6 +210,7 @@ named-look name next old attr.NotFile new a asks attrs e = record {
   lists = refl;
   settles = λ s c. ap (λ (x : Answer). (s, x)) (sym e);
   clock = refl;
+  generation = refl;
   calls = one-call TreeCall.Attr old false new asks;
 }
 named-look name next old attr.Failed new a asks attrs e = record {
@@ -205,6 +218,7 @@ named-look name next old attr.Failed new a asks attrs e = record {
   lists = refl;
   settles = λ s c. ap (λ (x : Answer). (s, x)) (sym e);
   clock = refl;
+  generation = refl;
   calls = one-call TreeCall.Attr old true new asks;
 }
 

@@ -1,6 +1,6 @@
 -- A request on a node, whatever it changes: the one relation that all of them are served by.
 use Rattle.std.specs.Prelude.{◌≡◌, ◌⊎◌, ℕ, nat_lt, List, [], length, Bool, is_some, true, false, not, Option, Some, None, option_map}
-use Rattle.portal_base.specs.declared.files.File.{File}
+use Rattle.file_generations.specs.Generations.{Held}
 use Rattle.host_tree.specs.Trees.{TreeIs}
 use Rattle.open_handles.specs.Opened.{HandleTable, Opened, opened_on}
 use Rattle.portal_model.specs.declared.entry.Fault.{Fault}
@@ -11,6 +11,7 @@ use Rattle.portal_model.specs.declared.reply.Code.TheVariants as Code
 use Rattle.portal_model.specs.declared.request.NodeOp.{NodeOp}
 use Rattle.portal_model.specs.declared.request.NodeRequest.{NodeRequest}
 use Rattle.portal_model.specs.declared.state.Connection.{Connection}
+use Rattle.portal_model.specs.declared.temporary.Temp.{Temp}
 use Rattle.portal_model.specs.Alike.{NodeAlike}
 use Rattle.portal_model.specs.Bus.{is_tree, moment_given}
 use Rattle.portal_model.specs.Errno.{eio}
@@ -18,13 +19,12 @@ use Rattle.portal_model.specs.Node.{files_after, node_answer, walk_on_node}
 use Rattle.portal_model.specs.NodeOutside.{LawfulNode}
 use Rattle.portal_model.specs.NodeVerdict.{NodeVerdict, Errs, Yields, FileChange, FilesStay, HandleChange, HandlesStay, NameChange, NamesStay, Room}
 use Rattle.portal_model.specs.Outside.{files_told}
-use Rattle.portal_model.specs.Place.{naming_on}
 use Rattle.portal_model.specs.State.{State, connection_of}
 use Rattle.portal_model.specs.Valid.{Valid}
-use Rattle.portal_model.specs.Walk.{Gives, GivesNames, Walk, reads_clock, walked_with}
+use Rattle.portal_model.specs.Walk.{Gives, GivesNames, Walk, generation_reached, reads_clock, walked_with}
 use Rattle.app_view.specs.Books.{Lends}
 use Rattle.node_looks.specs.OpenHandles.{AreOpen, Handled}
-use Rattle.node_looks.specs.Served.{given_to}
+use Rattle.node_looks.specs.Served.{HasAt, given_to}
 use Rattle.node_looks.specs.TreeCalls.{Calling, WasCalledUpTo, calls_of}
 use Rattle.node_looks.specs.Walks.{fault_of, taken}
 use Rattle.node_looks.specs.declared.asked.Asked.{Asked}
@@ -37,7 +37,7 @@ use Rattle.node_looks.specs.declared.served.NodeDone.{NodeDone}
 -- A valid state with the lists and the limit of the book, and the open handles of the table; the
 -- connection of the seat is one of the caller, and the tree tells what the state has.
 pub record IsCalled (s : State) (c : Connection) (book : FileBook) (call : NodeCall)
-    (table : HandleTable) (told : Option (List File)) : Type 0 where
+    (table : HandleTable) (told : Option Held) : Type 0 where
   pub valid : Valid s
   pub lists : Lends book.view s
   pub limit : s.limits.file_bytes ≡ book.file_limit
@@ -49,8 +49,8 @@ pub record IsCalled (s : State) (c : Connection) (book : FileBook) (call : NodeC
 -- ---- what is done
 
 -- over a tree that tells, the answer is the step's; over one that doesn't, it is alike
-abbrev pub IsAnswer : Option (List File) → NodeOp → Answer → Answer → Type 0
-IsAnswer (Some files) op stepped given = given ≡ stepped
+abbrev pub IsAnswer : Option Held → NodeOp → Answer → Answer → Type 0
+IsAnswer (Some held) op stepped given = given ≡ stepped
 IsAnswer None op stepped given = NodeAlike op stepped given
 
 -- What was given is lawful; the sequential portal makes of it the state that the table and the
@@ -70,12 +70,18 @@ abbrev pub Does : FileBook → NodeCall → HandleTable → TreeIs → NodeDone 
 Does book call table old done after new = (s : State) (c : Connection) →
     IsCalled s c book call table old.told → DoneIn s c call.request.now old done after new
 
--- the same, by a connection that has named this by the number in the node
-abbrev pub DoesAt : Option Naming → FileBook → NodeCall → HandleTable → TreeIs → NodeDone
-    → HandleTable → TreeIs → Type 0
-DoesAt naming book call table old done after new = (s : State) (c : Connection) →
-    IsCalled s c book call table old.told → naming_on c call.request.now.node ≡ naming →
+-- the same, by a connection of which, in its state, this is so
+abbrev pub DoesWhere : (State → Connection → Type 0) → FileBook → NodeCall → HandleTable → TreeIs
+    → NodeDone → HandleTable → TreeIs → Type 0
+DoesWhere Has book call table old done after new = (s : State) (c : Connection) →
+    IsCalled s c book call table old.told → Has s c →
     DoneIn s c call.request.now old done after new
+
+-- by one that has these by the number in the node: a name below an exported folder, a temporary
+abbrev pub DoesAt : Option Naming → Option Temp → FileBook → NodeCall → HandleTable → TreeIs
+    → NodeDone → HandleTable → TreeIs → Type 0
+DoesAt naming temp book call table old done after new =
+    DoesWhere (λ s. HasAt call.request.now.node naming temp) book call table old done after new
 
 -- A request that wanted memory: the open handles stay, and the tree was called so often at most,
 -- without a failure or a change.
@@ -122,6 +128,7 @@ pub record ComesBy (walk : Walk NodeVerdict) (op : NodeOp) (old : TreeIs) (done 
   pub gives : Gives old.told walk done.looks (is_tree done.fault)
   pub lists : GivesNames old.told walk done.looks done.listed (is_tree done.fault)
   pub clock : is_some done.now ≡ reads_clock walk done.looks
+  pub generation : done.generation ≡ generation_reached walk done.looks
   pub keeper : done.fault ≡ Fault.Keeper → ⊥
   pub comes :
       walked_with walk (moment_given done.now) done.listed done.looks (is_tree done.fault)
@@ -155,6 +162,7 @@ done_with asked = record {
   looks = taken asked.look;
   listed = None;
   now = None;
+  generation = None;
   fault = fault_of asked.look;
 }
 
@@ -165,6 +173,7 @@ unasked answer = record {
   looks = [];
   listed = None;
   now = None;
+  generation = None;
   fault = Fault.None;
 }
 

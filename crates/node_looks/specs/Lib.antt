@@ -8,3 +8,4 @@ pub mod ReadFiles
 pub mod OpenHandles
 pub mod Done
 pub mod Opened
+pub mod OwnFiles

@@ -1,6 +1,6 @@
 -- A request on a node that was served.
-use Rattle.std.specs.Prelude.{◌≡◌, List, [], false, Option, None}
-use Rattle.portal_base.specs.declared.files.File.{File}
+use Rattle.std.specs.Prelude.{◌≡◌, ℕ, [], false, Option}
+use Rattle.file_generations.specs.Generations.{Held}
 use Rattle.portal_base.specs.declared.who.Who.{Who}
 use Rattle.host_tree.specs.Trees.{TreeIs}
 use Rattle.portal_model.specs.declared.entry.Given.{Given}
@@ -8,11 +8,12 @@ use Rattle.portal_model.specs.declared.naming.Naming.{Naming}
 use Rattle.portal_model.specs.declared.reply.Answer.{Answer}
 use Rattle.portal_model.specs.declared.request.NodeRequest.{NodeRequest}
 use Rattle.portal_model.specs.declared.state.Connection.{Connection}
+use Rattle.portal_model.specs.declared.temporary.Temp.{Temp}
 use Rattle.portal_model.specs.Bus.{is_tree}
 use Rattle.portal_model.specs.Node.{node_answer, walk_on_node}
 use Rattle.portal_model.specs.NodeOutside.{LawfulNode}
 use Rattle.portal_model.specs.Outside.{files_told}
-use Rattle.portal_model.specs.Place.{naming_on}
+use Rattle.portal_model.specs.Place.{naming_on, temp_on}
 use Rattle.portal_model.specs.State.{State}
 use Rattle.portal_model.specs.Valid.{Valid}
 use Rattle.app_view.specs.Books.{Lends}
@@ -25,7 +26,7 @@ use Rattle.node_looks.specs.declared.served.NodeDone.{NodeDone}
 -- A valid state with the lists of the book; a connection of this caller asks, and the tree tells
 -- what the state has.
 pub record IsAsked (s : State) (c : Connection) (book : ViewBook) (who : Who)
-    (told : Option (List File)) : Type 0 where
+    (told : Option Held) : Type 0 where
   pub valid : Valid s
   pub lists : Lends book s
   pub caller : c.who ≡ who
@@ -41,7 +42,7 @@ given_to done = record {
   numbers = [];
   looks = done.looks;
   listed = done.listed;
-  generation = None;
+  generation = done.generation;
   full = false;
   fault = done.fault;
 }
@@ -59,9 +60,21 @@ pub record Told (s : State) (c : Connection) (r : NodeRequest) (old : TreeIs) (d
   pub calls :
       Calling old (calls_of (walk_on_node s c r) done.looks (is_tree done.fault)) old.told new
 
--- a request that changes nothing, in every state in which it may be asked by a connection that has
--- named this by the number in the node
-abbrev pub Tells : Option Naming → ViewBook → Who → NodeRequest → TreeIs → NodeDone → TreeIs
-    → Type 0
-Tells naming book who r old done new = (s : State) (c : Connection) →
-    IsAsked s c book who old.told → naming_on c r.node ≡ naming → Told s c r old done new
+-- a connection has these by the number in a node: a name below an exported folder, a temporary
+pub record HasAt (node : ℕ) (naming : Option Naming) (temp : Option Temp) (c : Connection)
+    : Type 0 where
+  pub naming_is : naming_on c node ≡ naming
+  pub temp_is : temp_on c node ≡ temp
+
+-- a request that changes nothing, in every state in which it may be asked, by a connection of
+-- which this is so
+abbrev pub TellsWhere : (Connection → Type 0) → ViewBook → Who → NodeRequest → TreeIs → NodeDone
+    → TreeIs → Type 0
+TellsWhere Has book who r old done new = (s : State) (c : Connection) →
+    IsAsked s c book who old.told → Has c → Told s c r old done new
+
+-- by one that has these by the number in the node
+abbrev pub Tells : Option Naming → Option Temp → ViewBook → Who → NodeRequest → TreeIs → NodeDone
+    → TreeIs → Type 0
+Tells naming temp book who r old done new =
+    TellsWhere (HasAt r.node naming temp) book who r old done new

@@ -2,12 +2,12 @@
 -- each is and whether it failed, and what the tree is behind them.
 use Rattle.std.specs.Prelude.{◌≡◌, ◌⊎◌, ◌≤◌, ℕ, List, [], ◌∷◌, length, Bool, false, map, Option, option_map}
 use Rattle.portal_base.specs.Calls.{Calls, next_call, FailsAsTold}
-use Rattle.portal_base.specs.declared.files.File.{File}
+use Rattle.file_generations.specs.Generations.{Held}
 use Rattle.portal_base.specs.declared.files.Look.{Look}
 use Rattle.host_tree.specs.Trees.{TreeIs, after_call}
 use Rattle.host_tree.specs.declared.tree.TreeCall.{TreeCall}
 use Rattle.portal_model.specs.declared.reply.NodeAnswer.{NodeAnswer}
-use Rattle.portal_model.specs.NodeVerdict.{NodeVerdict, Errs, Yields, FileChange, FilesStay, Writes, Resizes, Creates}
+use Rattle.portal_model.specs.NodeVerdict.{NodeVerdict, Errs, Yields, FileChange, FilesStay, Writes, Resizes, Creates, Adds, Stands}
 use Rattle.portal_model.specs.Walk.{Walk, Answers, Ends, Lists, Looks, Target, AtPath, Named}
 
 -- a call: its kind, and whether it failed
@@ -36,6 +36,8 @@ call_changing FilesStay answer = call_telling answer
 call_changing (Writes name offset content now) answer = TreeCall.Write
 call_changing (Resizes name size now) answer = TreeCall.SetLen
 call_changing (Creates path now) answer = TreeCall.Create
+call_changing (Adds name now) answer = TreeCall.Fresh
+call_changing (Stands name) answer = TreeCall.Turn
 
 -- the call that does what is done behind it: the last of a walk, which is never done with an error
 abbrev pub call_doing : NodeVerdict → TreeCall
@@ -63,7 +65,7 @@ abbrev pub after_calls : TreeIs → List Call → TreeIs
 after_calls tree [] = tree
 after_calls tree (call ∷ more) = after_calls (after_call tree call.0 call.1 tree.told) more
 
-abbrev pub with_files : TreeIs → Option (List File) → TreeIs
+abbrev pub with_files : TreeIs → Option Held → TreeIs
 with_files tree files = record tree { told = files }
 
 -- where calls are told, just those failed that were to
@@ -74,7 +76,7 @@ CallsAsTold calls (call ∷ more) =
 
 -- just these calls were made, each failed exactly where the tree tells that it does, and the tree
 -- has these files now
-pub record Calling (old : TreeIs) (calls : List Call) (files : Option (List File))
+pub record Calling (old : TreeIs) (calls : List Call) (files : Option Held)
     (new : TreeIs) : Type 0 where
   pub goes : new ≡ with_files (after_calls old calls) files
   pub fails : CallsAsTold old.calls calls

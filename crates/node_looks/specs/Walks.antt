@@ -17,7 +17,7 @@ use Rattle.portal_model.specs.Errno.{eacces, eio, enoent}
 use Rattle.portal_model.specs.Node.{settled_on_node}
 use Rattle.portal_model.specs.NodeVerdict.{NodeVerdict, FilesStay, HandlesStay, NamesStay, Errs, OnFile, Yields, errs_if, if_file, tells, told}
 use Rattle.portal_model.specs.State.{State}
-use Rattle.portal_model.specs.Walk.{Walk, Answers, Ends, Gives, GivesNames, Lists, Looks, Uses, reads_clock, walked}
+use Rattle.portal_model.specs.Walk.{Walk, Answers, Ends, Gives, GivesNames, Lists, Looks, Uses, generation_reached, reads_clock, walked}
 use Rattle.node_looks.specs.TreeCalls.{Calling, calls_of}
 use Rattle.node_looks.specs.declared.asked.Asked.{Asked}
 
@@ -79,5 +79,6 @@ pub record Follows (walk : Walk NodeVerdict) (old : TreeIs) (asked : Asked) (new
       settled_on_node s c (walked walk 0 (taken asked.look) (is_tree (fault_of asked.look)))
       ≡ (s, asked.answer)
   pub clock : reads_clock walk (taken asked.look) ≡ false
+  pub generation : generation_reached walk (taken asked.look) ≡ None
   pub calls :
       Calling old (calls_of walk (taken asked.look) (is_tree (fault_of asked.look))) old.told new

@@ -110,6 +110,7 @@ pub fn done(room: List<Look>, asked: Asked) -> NodeDone
       looks = taken asked.look;
       listed = None;
       now = None;
+      generation = None;
       fault = fault_of asked.look;
     } }
 {
@@ -119,6 +120,7 @@ pub fn done(room: List<Look>, asked: Asked) -> NodeDone
         looks: looks_in(room, look),
         listed: None,
         now: None,
+        generation: None,
         fault: fault_of(look),
     }
 }

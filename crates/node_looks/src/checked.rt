@@ -1,32 +1,31 @@
 //! FUSE_ACCESS: what the caller may do at a node, with the mask of access(2).
 
-ghost use Rattle.std.specs.Prelude.{ℕ, List, ◌≡◌, ◌&&◌, ◌||◌, ◌+◌, ◌<◌, ◌≤◌, IfOk, OnErr, Some, false, nat_lt, not, None, IsOk, option_copied};
+ghost use Rattle.std.specs.Prelude.{ℕ, List, ◌≡◌, ◌&&◌, ◌||◌, ◌+◌, ◌<◌, ◌≤◌, IfOk, OnErr, Some, false, nat_lt, not, None, IsOk};
 ghost use Rattle.portal_model.specs.declared.request.NodeOp.TheVariants as NodeOp;
 ghost use Rattle.portal_model.specs.Access.{access, access_file, access_folder, executes, writes_to};
 ghost use Rattle.portal_model.specs.declared.state.Document.{Document};
 ghost use Rattle.portal_model.specs.Attributes.{is_writable};
-ghost use Rattle.portal_model.specs.NodeVerdict.{at_file, by_look, by_place, spot};
-ghost use Rattle.portal_model.specs.Place.{Folder, place_of};
+ghost use Rattle.portal_model.specs.NodeVerdict.{at_file, at_name, by_look, by_place, spot};
+ghost use Rattle.portal_model.specs.Place.{Folder};
 ghost use Rattle.portal_model.specs.Walk.{AtPath, Looks};
 ghost use Rattle.portal_model.specs.State.{State};
 ghost use Rattle.host_tree.specs.Trees.{TreeIs};
 ghost use Rattle.app_view.specs.Books.{Lends};
 ghost use Rattle.node_looks.specs.Served.{Tells};
-ghost use Rattle.node_looks.specs.Sights.{sight_of};
+ghost use Rattle.node_looks.specs.Sights.{naming_by, node_seen, sight_of, temp_by};
 ghost use Rattle.node_looks.specs.Walks.{ComesToBehind, ComesToLook, Follows, by_denial};
 
-use crate::asked::{Asked, done, refusal, refused, told};
+use crate::asked::{Asked, done, look_of_attr, refusal, refused, told};
 use crate::rooms::LookRooms;
-use crate::served::NodeDone;
+use crate::served::{ByNumber, NodeDone};
 use crate::sight::{SeenPlace, seen_place};
 use app_view::ViewBook;
 use host_tree::{HostTree, LookAnswer};
-use portal_base::files::Look;
+use portal_base::files::{FileName, Look};
 use portal_base::memory::WantOfMemory;
 use portal_base::names::HostPath;
 use portal_base::who::Who;
 use portal_model::errno::{EACCES, EINVAL, EIO, ENOENT};
-use portal_model::naming::Naming;
 use portal_model::reply::{Answer, NodeAnswer};
 use portal_model::request::NodeRequest;
 use std::alloc::Global;
@@ -39,9 +38,9 @@ const ALL_BITS: u32 = 7;
 /// Each place may be read, a file may be written by who may write the document,
 /// and a folder may be gone through; one that is a document or lies below one may be
 /// written by who may write the document. A file takes one look at the tree, and so does
-/// what is at or below a document that is a folder. `naming` is what the connection
-/// has named by the number in the node. Of n documents it takes about n steps, and no memory
-/// but the room for that look, for which one of `rooms` serves where there is none.
+/// what is at or below a document that is a folder. `own` is what the connection has by
+/// the number in the node. Of n documents it takes about n steps, and no memory but the
+/// room for that look, for which one of `rooms` serves where there is none.
 pub fn access<T: HostTree>(
     alloc: Global,
     rooms: &mut LookRooms,
@@ -49,19 +48,19 @@ pub fn access<T: HostTree>(
     tree: &mut T,
     who: &Who,
     request: &NodeRequest,
-    naming: Option<&Naming>,
+    own: ByNumber,
     mask: u32,
 ) -> Result<NodeDone, WantOfMemory>
     ensures ok { request.now.op ≡ NodeOp.Access mask → IfOk result (λ done.
-        Tells (option_copied naming.entry) book.now who.now request.now (T.is tree.old) done
-        (T.is tree.new)) }
+        Tells (naming_by own.entry) (temp_by own.entry) book.now who.now request.now
+        (T.is tree.old) done (T.is tree.new)) }
     ensures unclocked { IfOk result (λ done. done.now ≡ None) }
     ensures err { OnErr result (tree.new ≡ tree.old) }
     ensures reserved { 0 < rooms.old → IsOk result }
     ensures rooms { rooms.old ≤ rooms.new + 1 }
 {
     let room = rooms.take(alloc)?;
-    let asked = checked(book, tree, who, request, naming, mask);
+    let asked = checked(book, tree, who, request, own, mask);
     Ok(done(room, asked))
 }
 
@@ -71,17 +70,17 @@ fn checked<T: HostTree>(
     tree: &mut T,
     who: &Who,
     request: &NodeRequest,
-    naming: Option<&Naming>,
+    own: ByNumber,
     mask: u32,
 ) -> Asked
     ensures { (s : State) → Lends book.now s → Follows (access mask
-        (place_of s who.now (option_copied naming.entry) request.now.node)) (T.is tree.old)
-        result (T.is tree.new) }
+        (node_seen s who.now own.entry request.now.node)) (T.is tree.old) result
+        (T.is tree.new) }
 {
     if has_other_bits(mask) {
         return refused(EINVAL);
     }
-    match seen_place(book, who, request.node, naming) {
+    match seen_place(book, who, request.node, own) {
         None => refused(ENOENT),
         Some(place) => at_place(book, tree, who, place, mask),
     }
@@ -122,6 +121,7 @@ fn at_place<T: HostTree>(
     match place {
         SeenPlace::File { seen, .. } => { in_file(tree, &seen.document.path, seen.may_write, mask) }
         SeenPlace::Below { below, .. } => { in_below(tree, below.path, below.seen.may_write, mask) }
+        SeenPlace::Temporary { temp, .. } => in_named(tree, temp.file, temp.seen.may_write, mask),
         SeenPlace::Folder { .. } => in_folder(mask),
         SeenPlace::Root { .. } => in_folder(mask),
         SeenPlace::Views => in_folder(mask),
@@ -177,6 +177,20 @@ fn in_file<T: HostTree>(tree: &mut T, path: &HostPath, may_write: bool, mask: u3
         (T.is tree.new) }
 {
     let look = tree.look(path);
+    Asked {
+        answer: answer_to_look(look, is_denied(may_write, mask)),
+        look: Some(look),
+    }
+}
+
+/// The answer for the file of a name.
+fn in_named<T: HostTree>(tree: &mut T, name: &FileName, may_write: bool, mask: u32) -> Asked
+    ensures { Follows (at_name name.now
+        (by_denial (executes mask || writes_to mask && not may_write))) (T.is tree.old) result
+        (T.is tree.new) }
+{
+    let answer = tree.attr(name);
+    let look = look_of_attr(name, answer);
     Asked {
         answer: answer_to_look(look, is_denied(may_write, mask)),
         look: Some(look),

@@ -8,20 +8,20 @@ ghost use Rattle.portal_model.specs.Attributes.{is_writable, on_node};
 ghost use Rattle.portal_model.specs.Errno.{eacces};
 ghost use Rattle.portal_model.specs.GetAttr.{get_attr, get_attr_by_handle, get_attr_by_place, get_attr_open, tells_file, tells_folder};
 ghost use Rattle.portal_model.specs.NodeVerdict.{at_file, at_name, by_look, by_place, errs_if, spot};
-ghost use Rattle.portal_model.specs.Place.{Folder, place_of, reach_at};
+ghost use Rattle.portal_model.specs.Place.{Folder, reach_at};
 ghost use Rattle.portal_model.specs.State.{State};
 ghost use Rattle.portal_model.specs.Walk.{AtPath, Looks};
 ghost use Rattle.app_view.specs.Books.{Lends};
 ghost use Rattle.node_looks.specs.Done.{DoesAt};
 ghost use Rattle.node_looks.specs.Opened.{file_of};
-ghost use Rattle.node_looks.specs.Sights.{sight_of};
+ghost use Rattle.node_looks.specs.Sights.{naming_by, node_seen, sight_of, temp_by};
 ghost use Rattle.node_looks.specs.Walks.{ComesToBehind, ComesToLook, Follows};
 
 use crate::asked::{Asked, done, look_of_attr, refusal, refused, told};
 use crate::attributes::{attr_of_file, attr_of_folder};
 use crate::opened::{OpenFile, allowed_now};
 use crate::rooms::LookRooms;
-use crate::served::{FileBook, NodeCall, NodeDone};
+use crate::served::{ByNumber, FileBook, NodeCall, NodeDone};
 use crate::sight::{SeenPlace, seen_place};
 use app_view::ViewBook;
 use host_tree::{HostTree, LookAnswer};
@@ -31,7 +31,6 @@ use portal_base::memory::WantOfMemory;
 use portal_base::names::HostPath;
 use portal_base::who::Who;
 use portal_model::errno::{EACCES, EBADF, EIO, ENOENT};
-use portal_model::naming::Naming;
 use portal_model::reply::{Answer, NodeAnswer};
 use portal_model::request::{NodeRequest, names_handle};
 use std::alloc::Global;
@@ -44,10 +43,9 @@ use std::alloc::Global;
 /// strict document is EACCES where the subject of the node's view may not read the
 /// document now, and goes by its right to write it. An open folder leaves the request
 /// to the node. A number of no handle is EBADF. A file takes one look at the tree, and so
-/// does what is at or below a document that is a folder; `naming` is what the connection
-/// has named by the number in the node. Of n
-/// documents it takes about n steps, and no memory but the room for that look, for which
-/// one of `rooms` serves where there is none.
+/// does what is at or below a document that is a folder; `own` is what the connection has
+/// by the number in the node. Of n documents it takes about n steps, and no memory but the
+/// room for that look, for which one of `rooms` serves where there is none.
 pub fn get_attr<T: HostTree>(
     alloc: Global,
     rooms: &mut LookRooms,
@@ -55,13 +53,13 @@ pub fn get_attr<T: HostTree>(
     handles: &Handles,
     tree: &mut T,
     call: &NodeCall,
-    naming: Option<&Naming>,
+    own: ByNumber,
     flags: u32,
     fh: u64,
 ) -> Result<NodeDone, WantOfMemory>
     ensures ok { call.now.request.now.op ≡ NodeOp.GetAttr flags fh → IfOk result (λ done.
-        DoesAt (option_copied naming.entry) book.now call.now handles.now (T.is tree.old) done
-        handles.now (T.is tree.new)) }
+        DoesAt (naming_by own.entry) (temp_by own.entry) book.now call.now handles.now
+        (T.is tree.old) done handles.now (T.is tree.new)) }
     ensures unclocked { IfOk result (λ done. done.now ≡ None) }
     ensures err { OnErr result (tree.new ≡ tree.old) }
     ensures reserved { 0 < rooms.old → IsOk result }
@@ -69,15 +67,7 @@ pub fn get_attr<T: HostTree>(
 {
     let room = rooms.take(alloc)?;
     let handle = handles.get(call.seat, fh);
-    let asked = described(
-        &book.view,
-        tree,
-        call.who,
-        call.request,
-        naming,
-        flags,
-        handle,
-    );
+    let asked = described(&book.view, tree, call.who, call.request, own, flags, handle);
     Ok(done(room, asked))
 }
 
@@ -87,19 +77,19 @@ fn described<T: HostTree>(
     tree: &mut T,
     who: &Who,
     request: &NodeRequest,
-    naming: Option<&Naming>,
+    own: ByNumber,
     flags: u32,
     handle: Option<&Handle>,
 ) -> Asked
     ensures { (s : State) → Lends book.now s → Follows (get_attr (reach_at s who.now) request.now
-        flags (place_of s who.now (option_copied naming.entry) request.now.node)
+        flags (node_seen s who.now own.entry request.now.node)
         (option_copied handle.entry)) (T.is tree.old) result (T.is tree.new) }
 {
     // By the handle the node of the header isn't looked at.
     if names_handle(flags) {
-        of_handle(book, tree, who, request, naming, handle)
+        of_handle(book, tree, who, request, own, handle)
     } else {
-        of_node(book, tree, who, request, naming)
+        of_node(book, tree, who, request, own)
     }
 }
 
@@ -109,16 +99,16 @@ fn of_handle<T: HostTree>(
     tree: &mut T,
     who: &Who,
     request: &NodeRequest,
-    naming: Option<&Naming>,
+    own: ByNumber,
     handle: Option<&Handle>,
 ) -> Asked
     ensures { (s : State) → Lends book.now s → Follows (get_attr_by_handle (reach_at s who.now)
-        request.now (place_of s who.now (option_copied naming.entry) request.now.node)
+        request.now (node_seen s who.now own.entry request.now.node)
         (option_copied handle.entry)) (T.is tree.old) result (T.is tree.new) }
 {
     match handle {
         None => refused(EBADF),
-        Some(handle) => of_open(book, tree, who, request, naming, handle),
+        Some(handle) => of_open(book, tree, who, request, own, handle),
     }
 }
 
@@ -128,11 +118,11 @@ fn of_open<T: HostTree>(
     tree: &mut T,
     who: &Who,
     request: &NodeRequest,
-    naming: Option<&Naming>,
+    own: ByNumber,
     handle: &Handle,
 ) -> Asked
     ensures { (s : State) → Lends book.now s → Follows (get_attr_by_handle (reach_at s who.now)
-        request.now (place_of s who.now (option_copied naming.entry) request.now.node)
+        request.now (node_seen s who.now own.entry request.now.node)
         (Some handle.now)) (T.is tree.old) result (T.is tree.new) }
 {
     match handle {
@@ -154,7 +144,7 @@ fn of_open<T: HostTree>(
             };
             of_open_file(book, tree, who, request, file)
         }
-        Handle::Folder { .. } => of_node(book, tree, who, request, naming),
+        Handle::Folder { .. } => of_node(book, tree, who, request, own),
     }
 }
 
@@ -164,13 +154,13 @@ fn of_node<T: HostTree>(
     tree: &mut T,
     who: &Who,
     request: &NodeRequest,
-    naming: Option<&Naming>,
+    own: ByNumber,
 ) -> Asked
     ensures { (s : State) → Lends book.now s → Follows (get_attr_by_place request.now
-        (place_of s who.now (option_copied naming.entry) request.now.node)) (T.is tree.old)
-        result (T.is tree.new) }
+        (node_seen s who.now own.entry request.now.node)) (T.is tree.old) result
+        (T.is tree.new) }
 {
-    match seen_place(book, who, request.node, naming) {
+    match seen_place(book, who, request.node, own) {
         None => refused(ENOENT),
         Some(place) => at_place(book, tree, who, request, place),
     }
@@ -194,6 +184,9 @@ fn at_place<T: HostTree>(
         }
         SeenPlace::Below { below, .. } => {
             of_below(tree, request, below.path, below.seen.may_write)
+        }
+        SeenPlace::Temporary { temp, .. } => {
+            of_file_named(tree, request, temp.file, request.node, temp.seen.may_write)
         }
         SeenPlace::Folder { .. } => of_folder(request),
         SeenPlace::Root { .. } => of_folder(request),
@@ -307,7 +300,7 @@ fn of_file_where<T: HostTree>(
     }
 }
 
-/// The answer for an open file that may be told.
+/// The answer for the file of a name, told at a node.
 fn of_file_named<T: HostTree>(
     tree: &mut T,
     request: &NodeRequest,

@@ -7,29 +7,33 @@ ghost use Rattle.portal_base.specs.Names.{is_same, name_of};
 ghost use Rattle.portal_model.specs.declared.naming.Naming.{Naming as NamingNow};
 ghost use Rattle.portal_model.specs.declared.state.Document.{Document as DocumentNow};
 ghost use Rattle.portal_model.specs.declared.request.NodeOp.TheVariants as NodeOp;
+ghost use Rattle.portal_model.specs.declared.temporary.OwnTemp.{OwnTemp as OwnTempNow};
+ghost use Rattle.portal_model.specs.declared.temporary.Temp.{Temp as TempNow};
 ghost use Rattle.portal_model.specs.Errno.{enotdir};
-ghost use Rattle.portal_model.specs.Lookup.{by_app, folder_in_root, found_document, found_folder, lookup, lookup_in, named_in_root, named_in_views};
-ghost use Rattle.portal_model.specs.NodeVerdict.{at_file, by_place, errs_on_file, is_too_long, no_file};
+ghost use Rattle.portal_model.specs.Lookup.{by_app, entry_of_file, folder_in_root, found_document, found_folder, found_own, lookup, lookup_in, named_in_root, named_in_views};
+ghost use Rattle.portal_model.specs.NodeVerdict.{at_file, at_name, by_place, errs_on_file, is_too_long, no_file};
 ghost use Rattle.portal_model.specs.Walk.{AtPath, Looks};
 ghost use Rattle.portal_model.specs.Place.{FolderOf, folder_node, has_views, numbers_seen, place_of};
+ghost use Rattle.portal_model.specs.SeatNames.{found_temp};
 ghost use Rattle.portal_model.specs.State.{State};
 ghost use Rattle.portal_model.specs.Valid.{has_identifier};
 ghost use Rattle.app_view.specs.Books.{Lends, who_is};
 ghost use Rattle.node_looks.specs.Names.{where_seen};
-ghost use Rattle.node_looks.specs.Served.{Tells};
+ghost use Rattle.node_looks.specs.OwnFiles.{HasFound, IsFoundAt, IsFoundOwn};
+ghost use Rattle.node_looks.specs.Served.{TellsWhere};
 ghost use Rattle.node_looks.specs.Sights.{is_below, sees, sight_of, view_of};
-ghost use Rattle.node_looks.specs.Walks.{ComesToLook, Follows};
+ghost use Rattle.node_looks.specs.Walks.{ComesToBehind, ComesToLook, Follows};
 
-use crate::asked::{Asked, done, refusal, refusal_on_file, refused, told};
+use crate::asked::{Asked, done, look_of_attr, refusal, refusal_on_file, refused, told};
 use crate::attributes::{attr_of_file, attr_of_folder};
 use crate::names::{id_named, number_named};
 use crate::rooms::LookRooms;
 use crate::served::NodeDone;
 use crate::sight::SeenPlace;
-use app_view::{Subject, ViewBook, may_read, node_of};
+use app_view::{SeenDocument, Subject, ViewBook, may_read, node_of};
 use document_records::{Applications, Document};
 use host_tree::{HostTree, LookAnswer};
-use portal_base::files::Look;
+use portal_base::files::{FileName, Look};
 use portal_base::memory::WantOfMemory;
 use portal_base::names::{DocId, HostPath};
 use portal_base::who::Who;
@@ -44,15 +48,26 @@ const NAME_LIMIT: usize = 255;
 /// The name of the folder of all views.
 const BY_APP: &[u8] = b"by-app";
 
+/// A temporary that the connection which asks has under a name in a document's folder.
+#[derive(Clone, Copy)]
+pub struct OwnFile<'a> {
+    /// Its number on the connection.
+    pub k: u32,
+    /// Its file.
+    pub file: &'a FileName,
+}
+
 /// Answers a caller's LOOKUP of a name in a folder.
 ///
 /// A root has the folders of the documents that are seen in it, by identifier,
 /// and the host's own root the folder of all views; that one has the views of the
 /// numbered applications, by name; a document's folder has the document's file, or the
-/// folder that it is, for which one look at the tree is taken. `place` is what the caller
-/// sees at the node, and doesn't lie at or below a document that is a folder: names there
-/// are numbered. Of n documents or applications it takes about n steps, and no memory but
-/// the room for that look, for which one of `rooms` serves where there is none.
+/// folder that it is, and the temporaries of the connection, for which one look at the
+/// tree is taken. `place` is what the caller sees at the node, and doesn't lie at or below
+/// a document that is a folder: names there are numbered. `own` is the temporary of the
+/// name, where `place` is a document's folder. Of n documents or applications it takes
+/// about n steps, and no memory but the room for that look, for which one of `rooms`
+/// serves where there is none.
 pub fn lookup<T: HostTree>(
     alloc: Global,
     rooms: &mut LookRooms,
@@ -61,22 +76,24 @@ pub fn lookup<T: HostTree>(
     who: &Who,
     request: &NodeRequest,
     place: Option<SeenPlace>,
+    own: Option<OwnFile>,
     name: &[u8],
 ) -> Result<NodeDone, WantOfMemory>
     requires plain { IfSome place (λ seen. is_below seen ≡ false) }
     requires small { IfSome place (λ seen. view_of seen < 2 ^ 28) }
-    ensures ok { (naming : Option NamingNow) → ((s : State) → Lends book.now s →
-        place_of s who.now naming request.now.node
+    ensures ok { (naming : Option NamingNow) (temp : Option TempNow) →
+        ((s : State) → Lends book.now s → place_of s who.now naming temp request.now.node
         ≡ option_map (sight_of book.now who.now) place.entry) →
         request.now.op ≡ NodeOp.Lookup name.now → IfOk result (λ done.
-        Tells naming book.now who.now request.now (T.is tree.old) done (T.is tree.new)) }
+        TellsWhere (HasFound request.now.node naming temp place.entry own.entry name.now)
+        book.now who.now request.now (T.is tree.old) done (T.is tree.new)) }
     ensures unclocked { IfOk result (λ done. done.now ≡ None) }
     ensures err { OnErr result (tree.new ≡ tree.old) }
     ensures reserved { 0 < rooms.old → IsOk result }
     ensures rooms { rooms.old ≤ rooms.new + 1 }
 {
     let room = rooms.take(alloc)?;
-    let asked = found(book, tree, who, request, place, name);
+    let asked = found(book, tree, who, request, place, own, name);
     Ok(done(room, asked))
 }
 
@@ -87,13 +104,15 @@ fn found<T: HostTree>(
     who: &Who,
     request: &NodeRequest,
     place: Option<SeenPlace>,
+    own: Option<OwnFile>,
     name: &[u8],
 ) -> Asked
     requires plain { IfSome place (λ seen. is_below seen ≡ false) }
     requires small { IfSome place (λ seen. view_of seen < 2 ^ 28) }
-    ensures { (namings : List NamingNow) →
+    ensures { (namings : List NamingNow) (temps : List OwnTempNow) →
         list_all has_identifier book.now.documents.now.live ≡ true →
-        Follows (lookup request.now namings name.now
+        IsFoundAt place.entry own.entry name.now temps →
+        Follows (lookup request.now namings temps name.now
         (option_map (sight_of book.now who.now) place.entry)) (T.is tree.old) result
         (T.is tree.new) }
 {
@@ -102,7 +121,7 @@ fn found<T: HostTree>(
     }
     match place {
         None => refused(ENOENT),
-        Some(place) => in_place(book, tree, who, request, place, name),
+        Some(place) => in_place(book, tree, who, request, place, own, name),
     }
 }
 
@@ -120,22 +139,24 @@ fn in_place<T: HostTree>(
     who: &Who,
     request: &NodeRequest,
     place: SeenPlace,
+    own: Option<OwnFile>,
     name: &[u8],
 ) -> Asked
     requires view { view_of place < 2 ^ 28 }
     requires plain { is_below place ≡ false }
-    ensures { (namings : List NamingNow) →
+    ensures { (namings : List NamingNow) (temps : List OwnTempNow) →
         list_all has_identifier book.now.documents.now.live ≡ true →
+        IsFoundAt (Some place.entry) own.entry name.now temps →
         Follows (by_place (Some (sight_of book.now who.now place.entry)) (no_file enotdir)
-        (lookup_in request.now namings name.now)) (T.is tree.old) result (T.is tree.new) }
+        (lookup_in request.now namings temps name.now)) (T.is tree.old) result
+        (T.is tree.new) }
 {
     match place {
         // A request on a file's node takes its look ahead of every check of what is there.
         SeenPlace::File { seen, .. } => in_file(tree, &seen.document.path),
         SeenPlace::Below { .. } => unreachable!(),
-        SeenPlace::Folder { view, seen } => {
-            in_folder(tree, request, view, seen.document, seen.may_write, name)
-        }
+        SeenPlace::Temporary { temp, .. } => in_named(tree, temp.file),
+        SeenPlace::Folder { view, seen } => { in_folder(tree, request, view, seen, own, name) }
         SeenPlace::Root { view, subject } => {
             found_folder(request, named_in_root(book, who, view, subject, name))
         }
@@ -155,27 +176,44 @@ fn in_file<T: HostTree>(tree: &mut T, path: &HostPath) -> Asked
     }
 }
 
-/// The answer for the folder of a document, which has the document's name alone.
+/// The answer for a temporary, which has no names.
+fn in_named<T: HostTree>(tree: &mut T, name: &FileName) -> Asked
+    ensures { Follows (at_name name.now (errs_on_file enotdir)) (T.is tree.old) result
+        (T.is tree.new) }
+{
+    let answer = tree.attr(name);
+    let look = look_of_attr(name, answer);
+    Asked {
+        answer: refusal_on_file(look, ENOTDIR),
+        look: Some(look),
+    }
+}
+
+/// The answer for the folder of a document, which has the document's name and those of the
+/// connection's temporaries.
 fn in_folder<T: HostTree>(
     tree: &mut T,
     request: &NodeRequest,
     view: u32,
-    document: &Document,
-    may_write: bool,
+    seen: SeenDocument,
+    own: Option<OwnFile>,
     name: &[u8],
 ) -> Asked
     requires { view < 2 ^ 28 }
-    ensures { (namings : List NamingNow) → Follows (lookup_in request.now namings name.now
-        (FolderOf view document.now may_write)) (T.is tree.old) result (T.is tree.new) }
+    ensures { (namings : List NamingNow) (temps : List OwnTempNow) →
+        IsFoundOwn own.entry (found_temp temps view seen.entry.document.now.id name.now) →
+        Follows (lookup_in request.now namings temps name.now
+        (FolderOf view seen.entry.document.now seen.entry.may_write)) (T.is tree.old) result
+        (T.is tree.new) }
 {
-    if is_name_of(&document.path, name) {
+    if is_name_of(&seen.document.path, name) {
         let node = node_of(Place::File {
             view,
-            id: document.id,
+            id: seen.document.id,
         });
-        own_entry(tree, request, document, node, may_write)
+        own_entry(tree, request, seen.document, node, seen.may_write)
     } else {
-        refused(ENOENT)
+        temp_entry(tree, request, view, seen.may_write, own)
     }
 }
 
@@ -224,6 +262,60 @@ fn entry_by_look(
         LookAnswer::Is(Look::Folder) if is_folder => Answer::Node(NodeAnswer::Entry(attr_of_folder(
             request, node, may_write,
         ))),
+        LookAnswer::Is(Look::Folder | Look::Missing) => refusal(ENOENT),
+        LookAnswer::Failed => refusal(EIO),
+    }
+}
+
+/// The answer for the name of a temporary, where there is one of that name.
+fn temp_entry<T: HostTree>(
+    tree: &mut T,
+    request: &NodeRequest,
+    view: u32,
+    may_write: bool,
+    own: Option<OwnFile>,
+) -> Asked
+    requires { view < 2 ^ 28 }
+    ensures { (temp : Option OwnTempNow) → IsFoundOwn own.entry temp →
+        Follows (found_own request.now view may_write temp) (T.is tree.old) result
+        (T.is tree.new) }
+{
+    match own {
+        Some(found) => {
+            let node = node_of(Place::Temporary { view, k: found.k });
+            named_entry(tree, request, found.file, node, may_write)
+        }
+        None => refused(ENOENT),
+    }
+}
+
+/// The answer for the file of a name, as the entry of a node.
+fn named_entry<T: HostTree>(
+    tree: &mut T,
+    request: &NodeRequest,
+    file: &FileName,
+    node: u64,
+    may_write: bool,
+) -> Asked
+    ensures { Follows (at_name file.now (entry_of_file request.now node may_write))
+        (T.is tree.old) result (T.is tree.new) }
+{
+    let answer = tree.attr(file);
+    let look = look_of_attr(file, answer);
+    Asked {
+        answer: file_by_look(request, node, may_write, look),
+        look: Some(look),
+    }
+}
+
+/// The entry of a file, by the look for it.
+fn file_by_look(request: &NodeRequest, node: u64, may_write: bool, look: LookAnswer) -> Answer
+    ensures { ComesToBehind (entry_of_file request.now node may_write) look result }
+{
+    match look {
+        LookAnswer::Is(Look::File { size, moment, .. }) => Answer::Node(NodeAnswer::Entry(
+            attr_of_file(request, node, may_write, size, moment),
+        )),
         LookAnswer::Is(Look::Folder | Look::Missing) => refusal(ENOENT),
         LookAnswer::Failed => refusal(EIO),
     }

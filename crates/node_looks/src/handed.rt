@@ -51,6 +51,7 @@ pub fn unasked(alloc: Global, answer: Answer) -> NodeDone
         looks: List::new(alloc),
         listed: None,
         now: None,
+        generation: None,
         fault: Fault::None,
     }
 }

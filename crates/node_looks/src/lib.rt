@@ -16,7 +16,7 @@
 //!
 //! | Room | Holds |
 //! |---|---|
-//! | `entry` | [`lookup`]: a name in a folder, but for those at and below documents that are folders |
+//! | `entry` | [`lookup`]: a name in a folder, but for those at and below documents that are folders; [`OwnFile`]: a temporary of that name |
 //! | `checked` | [`access`]: what the caller may do at a node |
 //! | `described` | [`get_attr`]: the attributes of a node, or of an open file |
 //! | `opened` | [`OpenFile`]: an open file, and what it may do now |
@@ -31,11 +31,11 @@
 //! | `attributes` | the attributes of files and of folders |
 //! | `asked` | requests for which the tree is asked once at most |
 //! | `rooms` | [`LookRooms`]: room for looks that is taken ahead of requests |
-//! | `served` | [`NodeCall`]: a request and who asks it; [`NodeDone`]: what it was given, and its answer |
+//! | `served` | [`NodeCall`]: a request and who asks it; [`ByNumber`]: what its connection has by a number; [`NodeDone`]: what it was given, and its answer |
 //!
 //! ```text
-//! let place = seen_place(&book, who, request.node, None);
-//! let done = lookup(alloc, &mut rooms, &book, &mut tree, who, request, place, name)?;
+//! let place = seen_place(&book, who, request.node, ByNumber { naming: None, temp: None });
+//! let done = lookup(alloc, &mut rooms, &book, &mut tree, who, request, place, None, name)?;
 //! ```
 //!
 //! Source: `include/uapi/linux/fuse.h`.
@@ -61,11 +61,11 @@ mod synced;
 pub use checked::access;
 pub use contents::read;
 pub use described::get_attr;
-pub use entry::lookup;
+pub use entry::{OwnFile, lookup};
 pub use forgotten::forget;
 pub use listed::read_dir;
 pub use opened::{Allowed, OpenFile};
 pub use released::{release, release_dir};
 pub use rooms::LookRooms;
-pub use served::{FileBook, NodeCall, NodeDone};
+pub use served::{ByNumber, FileBook, NodeCall, NodeDone};
 pub use synced::{flush, fsync};

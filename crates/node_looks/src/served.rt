@@ -5,8 +5,10 @@ use portal_base::files::{ChildName, Look};
 use portal_base::list::List;
 use portal_base::who::Who;
 use portal_model::entry::Fault;
+use portal_model::naming::Naming;
 use portal_model::reply::Answer;
 use portal_model::request::NodeRequest;
+use portal_model::temporary::Temp;
 
 /// What the portal lends to requests on nodes.
 #[derive(Clone, Copy)]
@@ -28,6 +30,15 @@ pub struct NodeCall<'a> {
     pub request: &'a NodeRequest,
 }
 
+/// What the connection that asks has by the number in a node, whatever kind that is of.
+#[derive(Clone, Copy)]
+pub struct ByNumber<'a> {
+    /// What it has named below folders that are documents.
+    pub naming: Option<&'a Naming>,
+    /// Its temporary.
+    pub temp: Option<&'a Temp>,
+}
+
 /// A request on a node that was served.
 #[derive(Debug, Drop)]
 pub struct NodeDone {
@@ -40,6 +51,8 @@ pub struct NodeDone {
     /// The moment that was read from the clock, where a file was to be changed
     /// or made.
     pub now: Option<u64>,
+    /// The generation of the file that was made to be renamed later.
+    pub generation: Option<u64>,
     /// The device that failed.
     pub fault: Fault,
 }

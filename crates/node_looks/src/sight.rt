@@ -1,22 +1,24 @@
 //! What a caller sees at a node.
 
-ghost use Rattle.std.specs.Prelude.{◌≡◌, ◌<◌, ◌^◌, IfSome, Option, Some, false, nat_lt, option_copied, option_map, true};
+ghost use Rattle.std.specs.Prelude.{◌≡◌, ◌<◌, ◌^◌, IfSome, Option, Some, false, nat_lt, option_map, true};
 ghost use Rattle.portal_model.specs.NodeNumbers.{kind_of_node};
 ghost use Rattle.portal_model.specs.declared.naming.Naming.{Naming as NamingNow};
-ghost use Rattle.portal_model.specs.Place.{place_of, sight_of_place};
+ghost use Rattle.portal_model.specs.declared.temporary.Temp.{Temp as TempNow};
+ghost use Rattle.portal_model.specs.Place.{sight_of_place};
 ghost use Rattle.portal_model.specs.State.{State};
 ghost use Rattle.portal_base.specs.declared.who.Who.{Who as WhoNow};
 ghost use Rattle.app_view.specs.Books.{Lends};
 ghost use Rattle.app_view.specs.Places.{is_folder_place};
 ghost use Rattle.app_view.specs.Sights.{file_sight};
 ghost use Rattle.app_view.specs.declared.book.ViewBook.{ViewBook as ViewBookNow};
-ghost use Rattle.node_looks.specs.Sights.{is_below, sight_of, view_of};
+ghost use Rattle.node_looks.specs.Sights.{is_below, is_own, naming_by, node_seen, sight_of, temp_by, view_of};
 
+use crate::served::ByNumber;
 use app_view::{
-    SeenBelow, SeenDocument, Subject, ViewBook, place_of, seen_document, seen_naming, subject_of,
+    SeenBelow, SeenDocument, SeenTemp, Subject, ViewBook, place_of, seen_document, seen_naming,
+    seen_temp, subject_of,
 };
 use portal_base::who::Who;
-use portal_model::naming::Naming;
 use portal_model::place::Place;
 
 /// What a caller sees at a node.
@@ -37,6 +39,13 @@ pub enum SeenPlace<'a> {
         /// The document, and the path.
         below: SeenBelow<'a>,
     },
+    /// A temporary in a document's folder, in a view.
+    Temporary {
+        /// The view.
+        view: u32,
+        /// The document, and the file.
+        temp: SeenTemp<'a>,
+    },
     /// The folder of a document, in a view.
     Folder {
         /// The view.
@@ -55,54 +64,57 @@ pub enum SeenPlace<'a> {
     Views,
 }
 
-/// What a caller sees at a node; `None` exactly where it sees nothing there. `naming`
-/// is what the connection that asks has named by the number in the node. At the node of
-/// a root, of the folder of all views or of a document's folder no look tells what is
-/// there.
+/// What a caller sees at a node; `None` exactly where it sees nothing there. `own` is what
+/// the connection that asks has by the number in the node. At the node of a root, of the
+/// folder of all views or of a document's folder no look tells what is there.
 pub fn seen_place<'a>(
     book: &ViewBook<'a>,
     who: &'a Who,
     node: u64,
-    naming: Option<&'a Naming>,
+    own: ByNumber<'a>,
 ) -> Option<SeenPlace<'a>>
-    ensures sight { (s : State) → Lends book.now s →
-        place_of s who.now (option_copied naming.entry) node
+    ensures sight { (s : State) → Lends book.now s → node_seen s who.now own.entry node
         ≡ option_map (sight_of book.now who.now) result }
     ensures small { IfSome result (λ seen. view_of seen < 2 ^ 28) }
     ensures plain { IfSome result (λ seen.
         nat_lt (kind_of_node node) 2 ≡ true → is_below seen ≡ false) }
 {
     match place_of(node) {
-        Some(place) => seen_at(book, who, place, naming),
+        Some(place) => seen_at(book, who, place, own),
         None => None,
     }
 }
 
-/// What a caller sees at a place. What isn't told by a look is the same whatever was
-/// named.
+/// What a caller sees at a place. What is neither told by a look nor a temporary is the
+/// same whatever the connection that asks has.
 pub fn seen_at<'a>(
     book: &ViewBook<'a>,
     who: &'a Who,
     place: Place,
-    naming: Option<&'a Naming>,
+    own: ByNumber<'a>,
 ) -> Option<SeenPlace<'a>>
     ensures sight { (s : State) → Lends book.now s →
-        sight_of_place s who.now (option_copied naming.entry) place
+        sight_of_place s who.now (naming_by own.entry) (temp_by own.entry) place
         ≡ option_map (sight_of book.now who.now) result }
     ensures small { IfSome result (λ seen. view_of seen < 2 ^ 28) }
     ensures plain { IfSome result (λ seen.
         is_folder_place place ≡ true → is_below seen ≡ false) }
-    ensures others { (s : State) (named : Option NamingNow) → Lends book.now s →
-        IfSome result (λ seen. is_below seen ≡ false →
-        sight_of_place s who.now named place ≡ Some (sight_of book.now who.now seen)) }
+    ensures others { (s : State) (naming : Option NamingNow) (temp : Option TempNow) →
+        Lends book.now s → IfSome result (λ seen. is_own seen ≡ false →
+        sight_of_place s who.now naming temp place
+        ≡ Some (sight_of book.now who.now seen)) }
 {
     match place {
         Place::File { view, id } => match seen_document(book, who, view, id) {
             Some(seen) => Some(seen_file(view, seen)),
             None => None,
         },
-        Place::Named { view, .. } => match seen_naming(book, who, view, naming) {
+        Place::Named { view, .. } => match seen_naming(book, who, view, own.naming) {
             Some(below) => Some(SeenPlace::Below { view, below }),
+            None => None,
+        },
+        Place::Temporary { view, .. } => match seen_temp(book, who, view, own.temp) {
+            Some(temp) => Some(SeenPlace::Temporary { view, temp }),
             None => None,
         },
         Place::Folder { view, id } => match seen_document(book, who, view, id) {

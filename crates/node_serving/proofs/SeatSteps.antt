@@ -3,8 +3,8 @@ use Rattle.std.proofs.Common.{◌≡◌, ◌≢◌, ℕ, ◌+◌, ◌==◌, ◌�
 use Rattle.std.specs.Option.{option_map}
 use Rattle.std.specs.List.{AllByRecursion, IsDistinct, list_any}
 use Rattle.std.proofs.lemmas.Bool.Decides.{nat_tests}
-use Rattle.file_ops.specs.SeatNames.{AreNamed, DoesNaming, DoneNaming}
-use Rattle.folder_documents.specs.Named.{Named}
+use Rattle.file_generations.specs.Generations.{Held}
+use Rattle.file_ops.specs.SeatNames.{AreOwn, DoesNaming, DoneNaming, OwnTables}
 use Rattle.node_looks.specs.Done.{DoneIn, IsAnswer}
 use Rattle.node_looks.specs.OpenHandles.{AreOpen}
 use Rattle.node_looks.specs.Served.{given_to}
@@ -16,7 +16,6 @@ use Rattle.host_tree.specs.Trees.{TreeIs, after_call}
 use Rattle.open_handles.specs.Opened.{HandleTable}
 use Rattle.portal_base.specs.Outside.{HasRisen}
 use Rattle.portal_base.specs.declared.files.ChildName.{ChildName}
-use Rattle.portal_base.specs.declared.files.File.{File}
 use Rattle.portal_base.specs.declared.files.Look.{Look}
 use Rattle.portal_model.specs.declared.reply.Answer.{Answer}
 use Rattle.portal_model.specs.declared.reply.Code.{Code}
@@ -30,13 +29,13 @@ use Rattle.portal_model.specs.Alike.{Alike, NodeAlike, ReadsAlike, TellsAlike}
 use Rattle.portal_model.specs.Bus.{is_tree, moment_given}
 use Rattle.portal_model.specs.Errno.{eio}
 use Rattle.portal_model.specs.Lawful.{LawfulOnNode}
-use Rattle.portal_model.specs.Node.{connections_after, connections_named, counted, facts_of, node_answer, node_given, room_of, settled_on_node, walk_on_node}
+use Rattle.portal_model.specs.Node.{connections_after, connections_named, counted, facts_of, node_answer, node_given, room_of, settled_on_node, walk_on_node, with_temps}
 use Rattle.portal_model.specs.NodeOutside.{LawfulNode}
-use Rattle.portal_model.specs.NodeVerdict.{NodeVerdict, HandleChange, HandlesStay, NameChange, Names, NamesStay, Opens, Closes, Errs, Yields, Room}
+use Rattle.portal_model.specs.NodeVerdict.{NodeVerdict, HandleChange, HandlesStay, NameChange, Names, NamesStay, Temps, Opens, Closes, Errs, Yields, Room}
 use Rattle.portal_model.specs.Outside.{files_told}
 use Rattle.portal_model.specs.RecordChanges.{change_first}
 use Rattle.portal_model.specs.SeatNames.{with_naming}
-use Rattle.portal_model.specs.State.{State, connection_of}
+use Rattle.portal_model.specs.State.{State, connection_of, held_in}
 use Rattle.portal_model.specs.Step.{all_told, is_mount, mount_of, node_step, reply_with, with_signals}
 use Rattle.portal_model.specs.Walk.{Walk, Answers, Looks, Ends, Lists, Gives, walked_with}
 use Rattle.portal_model.proofs.ListLookups.{found_passes, nat_is}
@@ -106,9 +105,11 @@ node-brief NodeOp.OpenDir stepped given h = ap brief h
 node-brief (NodeOp.ReadDir fh offset size) stepped given h = ap brief h
 node-brief (NodeOp.ReleaseDir fh) stepped given h = ap brief h
 node-brief (NodeOp.Access mask) stepped given h = ap brief h
+node-brief (NodeOp.Rename new_parent flags old_name new_name) stepped given h = ap brief h
+node-brief (NodeOp.Unlink name) stepped given h = ap brief h
 
-answer-brief : (told : Option (List File)) (op : NodeOp) (stepped given : Answer) → IsAnswer told op stepped given → brief given ≡ brief stepped
-answer-brief (Some files) op stepped given h = ap brief h
+answer-brief : (told : Option Held) (op : NodeOp) (stepped given : Answer) → IsAnswer told op stepped given → brief given ≡ brief stepped
+answer-brief (Some held) op stepped given h = ap brief h
 answer-brief None op stepped given h = node-brief op stepped given h
 
 handle-brief : (a : Answer) → handle_given (brief a) ≡ handle_given a
@@ -126,14 +127,14 @@ same-refusal : (a b : Answer) (code : Code) → brief a ≡ brief b → a ≡ An
 same-refusal a b code e r = refused-brief b code (sym e ∙ ap brief r)
 
 -- what is answered is alike to what the step replies
-reply-alike : (told : Bool) (files : List File) (old : Option (List File)) (r : NodeRequest) (stepped given : Answer) → cond told (Some files) None ≡ old → IsAnswer old r.op stepped given → Alike told (Request.Node r) (reply_with [] stepped) (reply_with [] given)
-reply-alike true files old r stepped given e h = ap (reply_with []) (subst (λ (o : Option (List File)). IsAnswer o r.op stepped given) (sym e) h)
-reply-alike false files old r stepped given e h = (refl, subst (λ (o : Option (List File)). IsAnswer o r.op stepped given) (sym e) h)
+reply-alike : (told : Bool) (held : Held) (old : Option Held) (r : NodeRequest) (stepped given : Answer) → cond told (Some held) None ≡ old → IsAnswer old r.op stepped given → Alike told (Request.Node r) (reply_with [] stepped) (reply_with [] given)
+reply-alike true held old r stepped given e h = ap (reply_with []) (subst (λ (o : Option Held). IsAnswer o r.op stepped given) (sym e) h)
+reply-alike false held old r stepped given e h = (refl, subst (λ (o : Option Held). IsAnswer o r.op stepped given) (sym e) h)
 
 -- ---- what a walk comes to
 
 -- no answer comes of a walk only where a call failed
-none-failed : (told : Option (List File)) (now : ℕ) (listed : Option (List ChildName)) (failed : Bool) (looks : List Look) (w : Walk NodeVerdict) → Gives told w looks failed → walked_with w now listed looks failed ≡ None → failed ≡ true
+none-failed : (told : Option Held) (now : ℕ) (listed : Option (List ChildName)) (failed : Bool) (looks : List Look) (w : Walk NodeVerdict) → Gives told w looks failed → walked_with w now listed looks failed ≡ None → failed ≡ true
 none-failed told now listed failed looks (Answers x) k e = cc
 none-failed told now listed failed [] (Looks target next) k e = k
 none-failed told now listed failed (look ∷ looks) (Looks target next) k e = none-failed told now listed failed looks (next look) k.1 e
@@ -177,7 +178,7 @@ never-failed s c (Some (Yields d)) = λ e. cc
 abbrev is_failed : Call → Bool
 is_failed call = call.1
 
-failed-called : (told : Option (List File)) (looks : List Look) (w : Walk NodeVerdict) → Gives told w looks true → list_any is_failed (calls_of w looks true) ≡ true
+failed-called : (told : Option Held) (looks : List Look) (w : Walk NodeVerdict) → Gives told w looks true → list_any is_failed (calls_of w looks true) ≡ true
 failed-called told looks (Answers x) k = let no : true ≡ false = k.1 in cc
 failed-called told [] (Looks target next) k = refl
 failed-called told (look ∷ looks) (Looks target next) k = failed-called told looks (next look) k.1
@@ -195,7 +196,7 @@ calls-rise [] old e = absurd (cc)
 calls-rise ((kind, true) ∷ more) old e = let rest = calls-grow more (after_call old kind true old.told) in omega (arith, rest)
 calls-rise ((kind, false) ∷ more) old e = calls-rise more (after_call old kind false old.told) e
 
-call-risen : (told files : Option (List File)) (looks : List Look) (w : Walk NodeVerdict) (failed : Bool) (old new : TreeIs) → Gives told w looks failed → Calling old (calls_of w looks failed) files new → failed ≡ true → HasRisen old.faults new.faults
+call-risen : (told files : Option Held) (looks : List Look) (w : Walk NodeVerdict) (failed : Bool) (old new : TreeIs) → Gives told w looks failed → Calling old (calls_of w looks failed) files new → failed ≡ true → HasRisen old.faults new.faults
 call-risen told files looks w true old new g k e = rw k.goes (calls-rise (calls_of w looks true) old (failed-called told looks w g))
 call-risen told files looks w false old new g k e = absurd (cc)
 
@@ -230,13 +231,19 @@ module _ (s : State) (c : Connection) (differ : IsDistinct nat_eq (map (λ (x : 
   connections-are (Opens handle) given e = sym (counted-first c.seat s.connections c differ here) ∙ ap (λ (x : Option ℕ). numbered c.seat x s.connections) (sym e)
   connections-are (Closes fh) given e = ap (λ (x : Option ℕ). numbered c.seat x s.connections) (sym e)
 
-  -- what is named isn't kept with the connections
+  -- what is named isn't kept with the connections, nor are temporaries
   unnamed-named : (change : NameChange) (cs : List Connection) → map unnamed (connections_named c change cs) ≡ map unnamed cs
   unnamed-named NamesStay cs = refl
   unnamed-named (Names naming) [] = refl
   unnamed-named (Names naming) (x ∷ cs) = λ i. one (x.seat == c.seat) i ∷ unnamed-named (Names naming) cs i
     where
       one : (b : Bool) → unnamed (cond b (record x { namings = with_naming x.namings naming }) x) ≡ unnamed x
+      one true = refl
+      one false = refl
+  unnamed-named (Temps change) [] = refl
+  unnamed-named (Temps change) (x ∷ cs) = λ i. one (x.seat == c.seat) i ∷ unnamed-named (Temps change) cs i
+    where
+      one : (b : Bool) → unnamed (cond b (with_temps change x) x) ≡ unnamed x
       one true = refl
       one false = refl
 
@@ -254,7 +261,7 @@ module _ (s : State) (c : Connection) (differ : IsDistinct nat_eq (map (λ (x : 
   unnamed-numbered seat (Some last) cs = unnamed-first seat last cs
 
   abbrev stays_so : State → State
-  stays_so t = record s { connections = t.connections; handles = t.handles; files = t.files }
+  stays_so t = record s { connections = t.connections; handles = t.handles; files = t.files; hidden = t.hidden; taken = t.taken }
 
   settled-stays : (o : Option NodeVerdict) → (settled_on_node s c o).0 ≡ stays_so (settled_on_node s c o).0
   settled-stays None = refl
@@ -292,11 +299,11 @@ named-mount (Some d) b e = by (is_mount d.kind) e
 
 -- ---- a seat
 
-module _ (s : State) (book : FileBook) (cs : List Connection) (table : HandleTable) (names : List (ℕ × Named)) (old : TreeIs) (done : NodeDone) (x : IsServedIn s book cs table names old.told) where
+module _ (s : State) (book : FileBook) (cs : List Connection) (table : HandleTable) (own : OwnTables) (old : TreeIs) (done : NodeDone) (x : IsServedIn s book cs table own old.told) where
   here-is : (seat : ℕ) → connection_of cs seat ≡ option_map unnamed (connection_of s.connections seat)
   here-is seat = ap (λ (l : List Connection). connection_of l seat) (sym x.connected) ∙ unnamed-found s.connections seat
 
-  pub serves-nobody : (seat : ℕ) (r : NodeRequest) → mount_of (connection_of cs seat) ≡ None → done ≡ refused_here → ServesSeat s seat r old done cs table names old
+  pub serves-nobody : (seat : ℕ) (r : NodeRequest) → mount_of (connection_of cs seat) ≡ None → done ≡ refused_here → ServesSeat s seat r old done cs table own old
   serves-nobody seat r e d =
       let here : mount_of (connection_of s.connections seat) ≡ None = unnamed-nobody (connection_of s.connections seat) (sym (ap mount_of (here-is seat)) ∙ e) in
       rw (d) (record {
@@ -305,7 +312,7 @@ module _ (s : State) (book : FileBook) (cs : List Connection) (table : HandleTab
         stays = rw here refl;
         connected = rw here x.connected;
         handles = rw here x.handles;
-        names = rw here x.names;
+        own = rw here x.own;
         files = rw here x.files;
         calls = rw here (record { goes = refl; fails = tt });
         fault = λ h. cc;
@@ -333,8 +340,10 @@ module _ (s : State) (book : FileBook) (cs : List Connection) (table : HandleTab
           same (NodeOp.ReadDir fh offset size) = refl
           same (NodeOp.ReleaseDir fh) = refl
           same (NodeOp.Access mask) = refl
+          same (NodeOp.Rename new_parent flags old_name new_name) = refl
+          same (NodeOp.Unlink name) = refl
 
-  module _ (call : NodeCall) (after : HandleTable) (named : List (ℕ × Named)) (new : TreeIs) (b : Connection) (e : mount_of (connection_of cs call.seat) ≡ Some b) (who : b.who ≡ call.who.now) (does : DoesNaming book call table names old done after named new) where
+  module _ (call : NodeCall) (after : HandleTable) (owned : OwnTables) (new : TreeIs) (b : Connection) (e : mount_of (connection_of cs call.seat) ≡ Some b) (who : b.who ≡ call.who.now) (does : DoesNaming book call table own old done after owned new) where
     mounted : (c : Connection) × (mount_of (connection_of s.connections call.seat) ≡ Some c) × (c.who ≡ b.who)
     mounted = named-mount (connection_of s.connections call.seat) b (sym (ap mount_of (here-is call.seat)) ∙ e)
 
@@ -358,8 +367,8 @@ module _ (s : State) (book : FileBook) (cs : List Connection) (table : HandleTab
         let own : c.seat ≡ call.seat = nat_is c.seat call.seat (found_passes (is_of call.seat) s.connections c found-here) in
         ap (λ (n : ℕ). all_told n s) own ∙ all_told-nothing s call.seat c x.valid found-here (mount-quiet s call.seat c x.valid found-here is-mount)
 
-    done-naming : DoneNaming s c call old done after named new
-    done-naming = does s c (record { valid = x.valid; lists = x.lists; limit = x.limit; handles = x.handles; files = x.files; here = found-here; caller = mounted.2 ∙ who }) x.names
+    done-naming : DoneNaming s c call old done after owned new
+    done-naming = does s c (record { valid = x.valid; lists = x.lists; limit = x.limit; handles = x.handles; files = x.files; here = found-here; caller = mounted.2 ∙ who }) x.own
 
     done-in : DoneIn s c r old done after new
     done-in = done-naming.done
@@ -388,15 +397,15 @@ module _ (s : State) (book : FileBook) (cs : List Connection) (table : HandleTab
     connected-is : numbered c.seat (handle_given (node_answer s c r (given_to done)).1) (map unnamed s.connections) ≡ numbered call.seat (handle_given done.answer) cs
     connected-is = λ i. numbered (seat-is i) (sym (same-handle done.answer (node_answer s c r (given_to done)).1 brief-is) i) (x.connected i)
 
-    pub serves-mount : ServesSeat s call.seat r old done (numbered call.seat (handle_given done.answer) cs) after named new
+    pub serves-mount : ServesSeat s call.seat r old done (numbered call.seat (handle_given done.answer) cs) after owned new
     serves-mount = record {
       lawful = subst (LawfulOnNode s r (given_to done)) (sym mount-here) (subst (λ (u : State). LawfulNode u c r (given_to done)) (sym told-as-it-is) done-in.lawful);
       reply = subst (λ (y : State × Reply). Alike s.told (Request.Node r) y.1 (reply_with [] done.answer)) (sym step-is)
-          (reply-alike s.told s.files old.told r (node_answer s c r (given_to done)).1 done.answer x.files done-in.answer);
-      stays = subst (λ (y : State). y ≡ record s { connections = y.connections; handles = y.handles; files = y.files }) (sym after-is) (settled-stays s c x.valid.seats_differ here-own verdict);
+          (reply-alike s.told (held_in s) old.told r (node_answer s c r (given_to done)).1 done.answer x.files done-in.answer);
+      stays = subst (λ (y : State). y ≡ record s { connections = y.connections; handles = y.handles; files = y.files; hidden = y.hidden; taken = y.taken }) (sym after-is) (settled-stays s c x.valid.seats_differ here-own verdict);
       connected = subst (λ (y : State). map unnamed y.connections ≡ numbered call.seat (handle_given done.answer) cs) (sym after-is) (settled-connected s c x.valid.seats_differ here-own verdict fair-here ∙ connected-is);
       handles = subst (λ (y : State). AreOpen y after) (sym after-is) done-in.handles;
-      names = subst (λ (y : State). AreNamed y named) (sym after-is) done-naming.names;
+      own = subst (λ (y : State). AreOwn y owned) (sym after-is) done-naming.own;
       files = ap files_told after-is ∙ done-in.files;
       calls = subst (λ (o : Option Connection). Calling old (calls_on s r (given_to done) o) new.told new) (sym mount-here)
           (subst (λ (u : State). Calling old (calls_of (walk_on_node u c r) done.looks (is_tree done.fault)) new.told new) (sym told-as-it-is) done-in.calls);

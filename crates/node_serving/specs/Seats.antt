@@ -1,8 +1,9 @@
 -- A request of a seat on a node that was served.
 use Rattle.std.specs.Prelude.{◌≡◌, ◌≢◌, ℕ, List, [], map, Option, Some, None, is_some}
 use Rattle.app_view.specs.Books.{Lends}
-use Rattle.file_ops.specs.SeatNames.{AreNamed}
-use Rattle.folder_documents.specs.Named.{Named, named_on}
+use Rattle.file_generations.specs.Generations.{Held}
+use Rattle.file_ops.specs.SeatNames.{AreOwn, OwnTables}
+use Rattle.folder_documents.specs.Named.{named_on}
 use Rattle.node_looks.specs.OpenHandles.{AreOpen}
 use Rattle.node_looks.specs.Served.{given_to}
 use Rattle.node_looks.specs.TreeCalls.{Call, Calling, calls_of}
@@ -11,7 +12,6 @@ use Rattle.node_looks.specs.declared.served.NodeDone.{NodeDone}
 use Rattle.host_tree.specs.Trees.{TreeIs}
 use Rattle.open_handles.specs.Opened.{HandleTable, opened_on}
 use Rattle.portal_base.specs.Outside.{HasRisen}
-use Rattle.portal_base.specs.declared.files.File.{File}
 use Rattle.portal_model.specs.declared.entry.Fault.TheVariants as Fault
 use Rattle.portal_model.specs.declared.entry.Given.{Given}
 use Rattle.portal_model.specs.declared.reply.Answer.{Answer}
@@ -29,30 +29,32 @@ use Rattle.portal_model.specs.Outside.{files_told}
 use Rattle.portal_model.specs.State.{State, connection_of}
 use Rattle.portal_model.specs.Step.{all_told, mount_of, node_step, reply_with}
 use Rattle.portal_model.specs.Valid.{Valid}
+use Rattle.save_files.specs.Own.{own_on}
 
 -- ---- the state that a request is served in
 
--- a connection but for what it has named, which a table of its own keeps
+-- a connection but for what it has named and its temporaries, which tables of their own keep
 abbrev pub unnamed : Connection → Connection
-unnamed c = record c { namings = [] }
+unnamed c = record c { namings = []; temps = []; added = 0 }
 
--- A valid state has the lists and the limit of the book, these connections, and the open handles
--- and the names of the tables, and the tree tells what it has.
+-- A valid state has the lists and the limit of the book, these connections, and the open handles,
+-- the names and the temporaries of the tables, and the tree tells what it has.
 pub record IsServedIn (s : State) (book : FileBook) (connections : List Connection)
-    (table : HandleTable) (named : List (ℕ × Named)) (told : Option (List File)) : Type 0 where
+    (table : HandleTable) (own : OwnTables) (told : Option Held) : Type 0 where
   pub valid : Valid s
   pub lists : Lends book.view s
   pub limit : s.limits.file_bytes ≡ book.file_limit
   pub connected : map unnamed s.connections ≡ connections
   pub handles : AreOpen s table
-  pub names : AreNamed s named
+  pub own : AreOwn s own
   pub files : files_told s ≡ told
 
--- each connection stands in both tables, and no other seat does
-abbrev pub AreEntered : List Connection → HandleTable → List (ℕ × Named) → Type 0
-AreEntered connections table names = (seat : ℕ) →
+-- each connection stands in all three tables, and no other seat does
+abbrev pub AreEntered : List Connection → HandleTable → OwnTables → Type 0
+AreEntered connections table own = (seat : ℕ) →
     (is_some (opened_on table.seats seat) ≡ is_some (connection_of connections seat))
-    × (is_some (named_on names seat) ≡ is_some (connection_of connections seat))
+    × (is_some (named_on own.names seat) ≡ is_some (connection_of connections seat))
+    × (is_some (own_on own.temps.seats seat) ≡ is_some (connection_of connections seat))
 
 -- ---- what is served
 
@@ -63,6 +65,7 @@ refused_here = record {
   looks = [];
   listed = None;
   now = None;
+  generation = None;
   fault = Fault.None;
 }
 
@@ -85,7 +88,7 @@ seat_calls s seat r given = calls_on s r given (mount_of (connection_of s.connec
 -- tree got just the calls of the request. EIO tells of a call that failed, and Failed is no answer
 -- to such a request.
 pub record ServesSeat (s : State) (seat : ℕ) (r : NodeRequest) (old : TreeIs) (done : NodeDone)
-    (connections : List Connection) (table : HandleTable) (named : List (ℕ × Named))
+    (connections : List Connection) (table : HandleTable) (own : OwnTables)
     (new : TreeIs) : Type 0 where
   pub lawful : LawfulOnNode s r (given_to done) (mount_of (connection_of s.connections seat))
   pub reply : Alike s.told (Request.Node r) (seat_step s seat r (given_to done)).1
@@ -94,11 +97,13 @@ pub record ServesSeat (s : State) (seat : ℕ) (r : NodeRequest) (old : TreeIs) 
     connections = (seat_step s seat r (given_to done)).0.connections;
     handles = (seat_step s seat r (given_to done)).0.handles;
     files = (seat_step s seat r (given_to done)).0.files;
+    hidden = (seat_step s seat r (given_to done)).0.hidden;
+    taken = (seat_step s seat r (given_to done)).0.taken;
   }
   pub connected :
       map unnamed (seat_step s seat r (given_to done)).0.connections ≡ connections
   pub handles : AreOpen (seat_step s seat r (given_to done)).0 table
-  pub names : AreNamed (seat_step s seat r (given_to done)).0 named
+  pub own : AreOwn (seat_step s seat r (given_to done)).0 own
   pub files : files_told (seat_step s seat r (given_to done)).0 ≡ new.told
   pub calls : Calling old (seat_calls s seat r (given_to done)) new.told new
   pub fault : done.answer ≡ Answer.Refused (Code.Errno eio) → HasRisen old.faults new.faults

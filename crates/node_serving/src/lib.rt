@@ -18,8 +18,8 @@
 //! | `counted` | the nodes that the kernel was told of |
 //!
 //! ```text
-//! let done = serve(alloc, &mut rooms, &book, &mut connections, &mut handles, &mut counts,
-//!     &mut tree, &mut clock, seat, &request)?;
+//! let done = serve(alloc, &mut rooms, &book, &mut connections, &mut handles, &mut namings,
+//!     &mut temps, &mut counts, &mut tree, &mut clock, seat, &request)?;
 //! ```
 //!
 //! Source: `include/uapi/linux/fuse.h`.

@@ -2,7 +2,8 @@
 
 ghost use Rattle.std.specs.Prelude.{◌≡◌, ◌+◌, ◌<◌, ◌≤◌, IfOk, IsOk, OnErr, false, length, option_copied, true};
 ghost use Rattle.node_looks.specs.Done.{MayRead, Reads, Wants};
-ghost use Rattle.file_ops.specs.SeatNames.{NamesKept};
+ghost use Rattle.file_ops.specs.SeatNames.{NamesKept, own_tables};
+ghost use Rattle.file_ops.specs.SeatTemps.{TempsKept};
 ghost use Rattle.file_ops.specs.Wanting.{calls_in_vain, fits_in_room, may_call_in_vain, may_change_file};
 ghost use Rattle.node_serving.specs.Counted.{Counts};
 ghost use Rattle.node_serving.specs.Seats.{AreEntered, IsServedIn, ServesSeat, refused_here};
@@ -24,6 +25,7 @@ use portal_model::entry::Fault;
 use portal_model::reply::{Answer, Code};
 use portal_model::request::NodeRequest;
 use portal_model::state::Connection;
+use save_files::Temps;
 use std::alloc::Global;
 
 /// Serves a request of a seat on a node.
@@ -32,12 +34,13 @@ use std::alloc::Global;
 /// is answered has one look-up more in the counts, for which room is taken before
 /// the tree is asked, and what the kernel forgets is taken back; where a handle is
 /// opened, its number is the last that the connection was given. What a connection has
-/// named stands in `namings`, and not in the connection.
+/// named stands in `namings`, and its temporaries in `temps`, and neither in the
+/// connection.
 ///
-/// Where memory is wanted, the connections, the counts, the open handles, what was named
-/// and the files are as before. A request that takes all its room first, or asks nothing
-/// of the tree, has then not called it, and one that can't change a file never reads the
-/// clock.
+/// Where memory is wanted, the connections, the counts, the open handles, what was
+/// named, the temporaries and the files are as before. A request that takes all its
+/// room first, or asks nothing of the tree, has then not called it, and one that can't
+/// change a file never reads the clock.
 ///
 /// A GETATTR, ACCESS, FLUSH, RELEASE, RELEASEDIR, FORGET or BATCH_FORGET, and a LOOKUP in a
 /// root, in the folder of all views or in a document's folder, wants no memory where there
@@ -49,17 +52,18 @@ pub fn serve<T: HostTree, C: Clock>(
     connections: &mut List<Connection>,
     handles: &mut Handles,
     namings: &mut Namings,
+    temps: &mut Temps,
     counts: &mut InodeTable,
     tree: &mut T,
     clock: &mut C,
     seat: u32,
     request: &NodeRequest,
 ) -> Result<NodeDone, WantOfMemory>
-    requires { AreEntered connections.old handles.old namings.old }
+    requires { AreEntered connections.old handles.old (own_tables namings.old temps.old) }
     ensures ok { IfOk result (λ done. (s : State) →
-        IsServedIn s book.now connections.old handles.old namings.old (T.is tree.old).told →
-        ServesSeat s seat request.now (T.is tree.old) done connections.new handles.new
-        namings.new (T.is tree.new)) }
+        IsServedIn s book.now connections.old handles.old (own_tables namings.old temps.old)
+        (T.is tree.old).told → ServesSeat s seat request.now (T.is tree.old) done
+        connections.new handles.new (own_tables namings.new temps.new) (T.is tree.new)) }
     ensures clock { IfOk result (λ done. Reads C.reads clock.old done.now clock.new) }
     ensures counts { IfOk result (λ done.
         Counts seat request.now done.answer counts.old.counts counts.new.counts) }
@@ -67,6 +71,7 @@ pub fn serve<T: HostTree, C: Clock>(
     ensures err { OnErr result (Wants (calls_in_vain request.now) handles.old (T.is tree.old)
         handles.new (T.is tree.new)) }
     ensures names_err { OnErr result (NamesKept namings.old namings.new) }
+    ensures temps_err { OnErr result (TempsKept temps.old temps.new) }
     ensures clock_err { OnErr result (MayRead C.reads clock.old clock.new) }
     ensures unasked { may_call_in_vain request.now ≡ false
         → OnErr result (tree.new ≡ tree.old) }
@@ -88,7 +93,9 @@ pub fn serve<T: HostTree, C: Clock>(
         who: &connection.who,
         request,
     };
-    let done = serve_node(alloc, rooms, book, handles, namings, tree, clock, &call)?;
+    let done = serve_node(
+        alloc, rooms, book, handles, namings, temps, tree, clock, &call,
+    )?;
     count(counts, seat, request, &done.answer);
     number(alloc, connections, seat, &done.answer);
     Ok(done)
@@ -103,6 +110,7 @@ fn not_here(alloc: Global) -> NodeDone
         looks: List::new(alloc),
         listed: None,
         now: None,
+        generation: None,
         fault: Fault::None,
     }
 }

@@ -4,7 +4,7 @@ use Rattle.std.proofs.Math.Path.{fun_ext}
 use Rattle.inode_table.specs.Counts.{count_of}
 use Rattle.inode_table.specs.declared.inodes.SeatNode.{SeatNode}
 use Rattle.node_serving.specs.Counted.{AreForgotten, Counts, CountsEntry, CountsOp}
-use Rattle.portal_base.specs.declared.files.File.{File}
+use Rattle.file_generations.specs.Generations.{Held}
 use Rattle.portal_model.specs.declared.entry.Entry.{Entry}
 use Rattle.portal_model.specs.declared.opening.OpeningState.{OpeningState}
 use Rattle.portal_model.specs.declared.reply.Answer.{Answer}
@@ -48,8 +48,8 @@ held_left s h e answer old new is replied step held = held_on s h e old new (λ 
     ∙ (ap (λ (r : Reply). by_leave e.seat r.answer (count_of old) seat node) replied
     ∙ ap (λ (request : Request). by_request e.seat request (reply_at (run s h) e).answer (count_of old) seat node) (sym is))) held
 
-pub held_over : (began began' : Option (List File)) (o : OpeningState) (h : List Entry) (counts : List (SeatNode × ℕ)) → began' ≡ began → AreHeld (opened_over began o) h counts → AreHeld (opened_over began' o) h counts
-held_over began began' o h counts e k = subst (λ (b : Option (List File)). AreHeld (opened_over b o) h counts) (sym e) k
+pub held_over : (began began' : Option Held) (o : OpeningState) (h : List Entry) (counts : List (SeatNode × ℕ)) → began' ≡ began → AreHeld (opened_over began o) h counts → AreHeld (opened_over began' o) h counts
+held_over began began' o h counts e k = subst (λ (b : Option Held). AreHeld (opened_over b o) h counts) (sym e) k
 
 pub uncounted : (request : Request) (seat : ℕ) (answer : Answer) (held : LookUps) → is_document_call request ≡ true → by_request seat request answer held ≡ held
 uncounted (Request.Node r) seat answer held e = absurd (cc)

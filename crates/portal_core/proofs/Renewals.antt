@@ -1,16 +1,16 @@
 -- A portal that begins a new history: its lists are those of the state that the old one came to.
-use Rattle.std.specs.Prelude.{IfSome, min, nat_le}
+use Rattle.std.specs.Prelude.{min, nat_le}
 use Rattle.std.proofs.Common.{◌≡◌, ◌==◌, ◌≤◌, ℕ, List, [], ◌∷◌, map, fold, Bool, true, false, ◌&&◌, ◌||◌, cond, Option, Some, None, refl, sym, ap, subst, ◌∙◌, arith}
 use Rattle.std.specs.List.{list_all, list_any}
 use Rattle.std.proofs.lemmas.Bool.Decides.{nat_tests}
 use Rattle.change_signals.specs.Unsent.{Boxes}
 use Rattle.document_records.specs.Documents.{DocumentList}
-use Rattle.folder_documents.specs.Named.{Named}
+use Rattle.file_generations.specs.Generations.{Held}
+use Rattle.file_ops.specs.SeatNames.{OwnTables}
 use Rattle.open_handles.specs.Opened.{HandleTable}
 use Rattle.portal_base.specs.Content.{IsTree}
-use Rattle.portal_base.specs.declared.files.File.{File}
 use Rattle.portal_desk.specs.Opening.{IsOpeningState}
-use Rattle.portal_desk.proofs.Openings.{opens, opens-over}
+use Rattle.portal_desk.proofs.Openings.{AreTree, opens, opens-over}
 use Rattle.portal_model.specs.declared.entry.Entry.{Entry}
 use Rattle.portal_model.specs.declared.opening.OpeningState.{OpeningState}
 use Rattle.portal_model.specs.declared.records.Records.{Records}
@@ -19,14 +19,14 @@ use Rattle.portal_model.specs.declared.state.Triple.{Triple}
 use Rattle.portal_model.specs.History.{run}
 use Rattle.portal_model.specs.Opening.{opened_over}
 use Rattle.portal_model.specs.Rows.{are_rows}
-use Rattle.portal_model.specs.State.{State}
+use Rattle.portal_model.specs.State.{State, held_in}
 use Rattle.portal_model.specs.Store.{Entries}
 use Rattle.portal_model.specs.Valid.{Valid}
 use Rattle.portal_model.proofs.ValidLaws.{run-Valid}
 use Rattle.portal_start.specs.Renewed.{opening_of}
 use Rattle.portal_start.proofs.RenewedLists.{opened_again}
 use Rattle.portal_steps.specs.Answered.{KeepsState}
-use Rattle.portal_steps.specs.Held.{Holds, Stands, told_files}
+use Rattle.portal_steps.specs.Held.{Holds, Stands}
 use Rattle.store_serving.specs.Serving.{HasStore}
 use Rattle.store_serving.specs.Waiting.{silent}
 use Rattle.portal_core.specs.Renewing.{IsLeastSeat, lesser}
@@ -99,18 +99,18 @@ none_listed cs e = none-there cs e
 
 -- ---- the state
 
-tree_told : (told : Bool) (files : List File) (shown : Option (List File)) → cond told (Some files) None ≡ shown → IfSome shown IsTree → told ≡ true → IsTree files
-tree_told true files shown e t k = subst (λ (f : Option (List File)). IfSome f IsTree) (sym e) t
-tree_told false files shown e t k = absurd (cc)
+tree_told : (told : Bool) (held : Held) (shown : Option Held) → cond told (Some held) None ≡ shown → AreTree shown → told ≡ true → IsTree held.present
+tree_told true held shown e t k = subst AreTree (sym e) t
+tree_told false held shown e t k = absurd (cc)
 
-module _ (began : Option (List File)) (o : OpeningState) (h : List Entry) (limit : ℕ) (ds : DocumentList) (rs : List Triple) (apps : List (List ℕ)) (cs : List Connection) (table : HandleTable) (names : List (ℕ × Named)) (told : Option (List File))
-    (stands : Stands began o h limit ds rs apps cs table names told) (closed : fold lesser None cs ≡ None) (ts : Entries) (boxes : Boxes) (stored : HasStore (run (opened_over began o) h) ts boxes)
-    (rows : list_all (λ e. are_rows e.rows) ts ≡ true) (tree : IfSome told IsTree) where
+module _ (began : Option Held) (o : OpeningState) (h : List Entry) (limit : ℕ) (ds : DocumentList) (rs : List Triple) (apps : List (List ℕ)) (cs : List Connection) (table : HandleTable) (own : OwnTables) (told : Option Held)
+    (stands : Stands began o h limit ds rs apps cs table own told) (closed : fold lesser None cs ≡ None) (ts : Entries) (boxes : Boxes) (stored : HasStore (run (opened_over began o) h) ts boxes)
+    (rows : list_all (λ e. are_rows e.rows) ts ≡ true) (tree : AreTree told) where
   abbrev now : State
   now = run (opened_over began o) h
 
   abbrev next : OpeningState
-  next = opening_of o.limits ds rs apps ts
+  next = opening_of o.limits ds rs apps ts own.temps.taken
 
   valid : Valid now
   valid = run-Valid h (opened_over began o) stands.legal
@@ -119,7 +119,7 @@ module _ (began : Option (List File)) (o : OpeningState) (h : List Entry) (limit
   none_now = none_open cs now.connections stands.holds.lists.connected closed
 
   open_state : IsOpeningState now
-  open_state = opens now valid none_now (ap (list_all (λ e. are_rows e.rows)) stored.stored ∙ rows) (tree_told now.told now.files told stands.holds.files tree)
+  open_state = opens now valid none_now (ap (list_all (λ e. are_rows e.rows)) stored.stored ∙ rows) (tree_told now.told (held_in now) told stands.holds.files tree)
 
   -- the state that it opens with is the one that the old history came to
   pub same_state : opened_over told next ≡ now
@@ -129,15 +129,15 @@ module _ (began : Option (List File)) (o : OpeningState) (h : List Entry) (limit
         most_made = ds.most_made;
         live = stands.holds.lists.book.live i;
         made = stands.holds.lists.book.made i;
-      }) (stands.holds.lists.book.held i) (stands.holds.lists.book.numbered i) (stored.stored i)))
+      }) (stands.holds.lists.book.held i) (stands.holds.lists.book.numbered i) (stored.stored i) (sym stands.holds.own.temps.taken i)))
       ∙ opened_again now ds.most_live ds.most_made valid none_now open_state.handles
 
-  pub stands_again : Stands told next [] o.limits.history ds rs apps cs table names told
+  pub stands_again : Stands told next [] o.limits.history ds rs apps cs table own told
   stands_again = record {
     legal = record { opening = subst Valid (sym same_state) valid; lawful = tt };
     limit_is = refl;
     within = omega arith;
-    holds = subst (λ (s : State). Holds s o.limits ds rs apps cs table names told) (sym same_state) stands.holds;
+    holds = subst (λ (s : State). Holds s o.limits ds rs apps cs table own told) (sym same_state) stands.holds;
   }
 
   pub keeps_again : (records : Option Records) → KeepsState records now → KeepsState records (opened_over told next)

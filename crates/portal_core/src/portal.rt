@@ -3,6 +3,7 @@
 ghost use Rattle.std.specs.Prelude.{◌≡◌, ◌+◌, ◌<◌, ◌≤◌, ◌^◌, [], length, map, false, true, IfErr, IfOk, IsOk, OnErr, OnOk, None, unwrap_or};
 ghost use Rattle.app_view.specs.Books.{Lends as LendsBook};
 ghost use Rattle.file_ops.specs.SeatNames.{AreNamed};
+ghost use Rattle.file_ops.specs.SeatTemps.{AreTemps};
 ghost use Rattle.node_looks.specs.OpenHandles.{AreOpen};
 ghost use Rattle.portal_desk.specs.Opening.{IsOpeningState};
 ghost use Rattle.portal_model.specs.History.{Legal, cost};
@@ -14,7 +15,7 @@ ghost use Rattle.portal_steps.specs.Devices.{TellsFailure, is_reserved, may_ask_
 ghost use Rattle.portal_steps.specs.Documents.{is_document_call};
 ghost use Rattle.portal_steps.specs.Held.{told_files};
 ghost use Rattle.portal_core.specs.OpenFiles.{GoesByHandles, OpensByRights, StrictFollows};
-ghost use Rattle.portal_start.specs.Loading.{AreLists};
+ghost use Rattle.portal_start.specs.Loading.{AreLists, BeganFirst};
 ghost use Rattle.portal_core.specs.Started.{HandsBack, Starts, reopened};
 ghost use Rattle.portal_steps.specs.Story.{HasCause, IsAsBefore, OnlyCounts, cost_with, limit_of, state_first, state_now};
 ghost use Rattle.store_serving.specs.Serving.{may_change_entries};
@@ -55,6 +56,7 @@ use portal_steps::entries::{
 use portal_steps::lists::{bus_of, connection_of, of_others};
 use portal_steps::{documents, seats, store};
 use record_keeper::Keeper;
+use save_files::Temps;
 use std::alloc::Global;
 use std::marker::Model;
 use std::mem;
@@ -88,6 +90,7 @@ pub struct Portal<T: HostTree, K: Keeper, C: Clock, W: Words> {
     connections: List<Connection>,
     handles: Handles,
     namings: Namings,
+    temps: Temps,
     counts: InodeTable,
     history: History,
     rooms: LookRooms,
@@ -98,6 +101,7 @@ pub struct Portal<T: HostTree, K: Keeper, C: Clock, W: Words> {
 
 impl<T: HostTree, K: Keeper, C: Clock, W: Words> Model for Portal<T, K, C, W> {
     ghost use Rattle.std.specs.Prelude.{◌≡◌, ◌≤◌, length, None};
+    ghost use Rattle.file_ops.specs.SeatNames.{own_tables};
     ghost use Rattle.portal_desk.specs.Opening.{IsOpeningState};
     ghost use Rattle.portal_steps.specs.Answered.{KeepsState};
     ghost use Rattle.portal_steps.specs.Held.{Stands};
@@ -130,7 +134,8 @@ impl<T: HostTree, K: Keeper, C: Clock, W: Words> Model for Portal<T, K, C, W> {
 
     // Room is kept for a Leave of each open connection.
     ghost invariant = { λ p. Stands (T.is p.tree).began p.opening p.history.entries p.history.limit
-        p.documents p.rights p.applications p.connections p.handles p.namings (T.is p.tree).told
+        p.documents p.rights p.applications p.connections p.handles
+        (own_tables p.namings p.temps) (T.is p.tree).told
         × (length p.connections ≤ p.history.spare)
         × KeepsState (K.is p.keeper).told
         (run (opened_over (T.is p.tree).began p.opening) p.history.entries)
@@ -146,7 +151,8 @@ impl<T: HostTree, K: Keeper, C: Clock, W: Words> Portal<T, K, C, W> {
     /// as the records first name them.
     ///
     /// Where no portal starts the devices come back. A tree that tells its
-    /// files has those that it began with.
+    /// files has those that it began with, each the first of its path and
+    /// present.
     pub fn start(
         alloc: Global,
         tree: T,
@@ -158,6 +164,7 @@ impl<T: HostTree, K: Keeper, C: Clock, W: Words> Portal<T, K, C, W> {
         requires made { limits.made < 2 ^ 32 }
         requires queued { limits.queued < 2 ^ 32 }
         requires told { (T.is tree).told ≡ (T.is tree).began }
+        requires first { BeganFirst (T.is tree).began }
         ensures ok { IfOk result (Starts T.is K.is tree keeper clock words limits) }
         ensures err { IfErr result (HandsBack K.is tree keeper clock words limits) }
     {
@@ -200,6 +207,7 @@ impl<T: HostTree, K: Keeper, C: Clock, W: Words> Portal<T, K, C, W> {
             rights,
             applications,
             tables,
+            temps,
         } = lists;
         Portal {
             tree,
@@ -215,6 +223,7 @@ impl<T: HostTree, K: Keeper, C: Clock, W: Words> Portal<T, K, C, W> {
             connections: List::new(alloc),
             handles,
             namings: Namings::new(alloc),
+            temps,
             counts: InodeTable::new(alloc),
             history,
             rooms: LookRooms::new(alloc),
@@ -250,7 +259,8 @@ impl<T: HostTree, K: Keeper, C: Clock, W: Words> Portal<T, K, C, W> {
         }
     }
 
-    /// The open connections, but for what they wait for and what they have named.
+    /// The open connections, but for what they wait for, what they have named and their
+    /// temporaries.
     pub fn connections(&self) -> &[Connection]
         ensures { result.now ≡ map silent (state_now self.now.story).connections }
     {
@@ -269,6 +279,13 @@ impl<T: HostTree, K: Keeper, C: Clock, W: Words> Portal<T, K, C, W> {
         ensures { AreNamed (state_now self.now.story) result.now }
     {
         &self.namings
+    }
+
+    /// The temporaries of each connection, and the generations that were taken.
+    pub fn temps(&self) -> &Temps
+        ensures { AreTemps (state_now self.now.story) result.now }
+    {
+        &self.temps
     }
 
     /// What is true of every portal: its history began in an opening state, is
@@ -309,6 +326,7 @@ impl<T: HostTree, K: Keeper, C: Clock, W: Words> Portal<T, K, C, W> {
     /// handle of a strict document is done only as far as it has the rights in the document
     /// then.
     ///
+<<<<<<< ours
     /// Where memory is wanted the portal is as it was, but for the count of refusals and for memory
     /// that was taken ahead: that stays, or is more, since what was taken for the request stays
     /// too; at a request on a node what is for one request may go. Such a refusal of a request that
@@ -319,6 +337,18 @@ impl<T: HostTree, K: Keeper, C: Clock, W: Words> Portal<T, K, C, W> {
     /// file or of a name below a document that is a folder one of a LOOKUP or OPENDIR twice too, and
     /// one of a CREATE three times; and of these SETATTR, OPEN, CREATE and WRITE may have read the
     /// clock.
+=======
+    /// Where memory is wanted the portal is as it was, but for the count of refusals and for
+    /// memory that was taken ahead: that stays, or is more, since what was taken for the request
+    /// stays too; at a request on a node what is for one request may go. Such a refusal of a
+    /// request that may change the records may have asked the keeper in vain; one of an Add may
+    /// have asked the tree too, once for each of its files or twice where they are named, and
+    /// have drawn no more words than it would have made documents; one of a READ, WRITE, FSYNC or
+    /// RENAME may have asked the tree once, one of a SETATTR, OPEN or OPENDIR twice, as one of a
+    /// LOOKUP at the node of a document's file or of a name below a document that is a folder,
+    /// and one of a CREATE three times; and of these SETATTR, OPEN, CREATE and WRITE may have
+    /// read the clock.
+>>>>>>> theirs
     ///
     /// A LOOKUP in a root, in the folder of all views or in a document's folder, a GETATTR,
     /// ACCESS, FLUSH, RELEASE, RELEASEDIR, FORGET or BATCH_FORGET finds memory where some was
@@ -498,6 +528,7 @@ impl<T: HostTree, K: Keeper, C: Clock, W: Words> Portal<T, K, C, W> {
             &mut self.connections,
             &mut self.handles,
             &mut self.namings,
+            &mut self.temps,
             &mut self.outboxes,
             opened_connection(alloc, seat, who, kind),
         )?;
@@ -528,7 +559,6 @@ impl<T: HostTree, K: Keeper, C: Clock, W: Words> Portal<T, K, C, W> {
             → IsOk result }
         ensures spare { self.old.spare ≤ self.new.spare + 1 }
     {
-        // Room is kept for this entry and for a Leave of each open connection.
         make_room(
             &mut self.history,
             self.connections.as_slice(),
@@ -551,6 +581,7 @@ impl<T: HostTree, K: Keeper, C: Clock, W: Words> Portal<T, K, C, W> {
             &mut self.connections,
             &mut self.handles,
             &mut self.namings,
+            &mut self.temps,
             &mut self.counts,
             &mut self.tree,
             &mut self.clock,
@@ -765,6 +796,7 @@ impl<T: HostTree, K: Keeper, C: Clock, W: Words> Portal<T, K, C, W> {
         self.connections = of_others(connections, seat);
         self.handles.leave(seat);
         self.namings.leave(seat);
+        self.temps.leave(seat);
         self.counts.leave(seat);
         self.outboxes.leave(seat);
         let entry = entry_made(alloc, seat, Request::Leave);

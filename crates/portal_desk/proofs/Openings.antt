@@ -2,8 +2,8 @@
 use Rattle.std.specs.Prelude.{IfSome, ◌&&◌, is_some}
 use Rattle.std.proofs.Common.{◌≡◌, List, [], ◌∷◌, Bool, true, false, Option, Some, None, refl, subst}
 use Rattle.std.specs.List.{list_all}
+use Rattle.file_generations.specs.Generations.{Held}
 use Rattle.portal_base.specs.Content.{IsTree}
-use Rattle.portal_base.specs.declared.files.File.{File}
 use Rattle.portal_model.specs.declared.handle.OpenHandle.{OpenHandle}
 use Rattle.portal_model.specs.declared.opening.OpeningState.{OpeningState}
 use Rattle.portal_model.specs.declared.state.Connection.{Connection}
@@ -46,16 +46,19 @@ opens s v none rows tree = record {
   files = tree;
 }
 
-told_tree : (files : Option (List File)) → IfSome files IsTree → is_told files ≡ true → IsTree (files_of files)
+abbrev pub AreTree : Option Held → Type 0
+AreTree told = IfSome told (λ held. IsTree held.present)
+
+told_tree : (files : Option Held) → AreTree files → is_told files ≡ true → IsTree (files_of files)
 told_tree None t e = absurd (cc)
-told_tree (Some fs) t e = t
+told_tree (Some held) t e = t
 
 -- the state that an opening stands for over these files
-pub opens-told : (files : Option (List File)) (o : OpeningState) → Valid (opened_over files o) → list_all (λ e. are_rows e.rows) o.entries ≡ true → IfSome files IsTree → IsOpeningState (opened_over files o)
+pub opens-told : (files : Option Held) (o : OpeningState) → Valid (opened_over files o) → list_all (λ e. are_rows e.rows) o.entries ≡ true → AreTree files → IsOpeningState (opened_over files o)
 opens-told files o v rows tree = opens (opened_over files o) v refl rows (told_tree files tree)
 
 -- the same over other files
-pub opens-over : (files other : Option (List File)) (o : OpeningState) → IsOpeningState (opened_over files o) → IfSome other IsTree → IsOpeningState (opened_over other o)
+pub opens-over : (files other : Option Held) (o : OpeningState) → IsOpeningState (opened_over files o) → AreTree other → IsOpeningState (opened_over other o)
 opens-over files other o s tree = record {
   connections = refl;
   handles = refl;

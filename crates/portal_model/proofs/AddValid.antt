@@ -5,6 +5,7 @@ use Rattle.std.proofs.lemmas.Bool.Decides.{nat_tests}
 use Rattle.std.proofs.lemmas.List.{length-append}
 use Rattle.std.proofs.lemmas.List.Folds.{list_all-append}
 use Rattle.portal_base.specs.Content.{content_of, file_at, has_room, is_folder, look_of}
+use Rattle.file_generations.specs.Generations.{Held}
 use Rattle.portal_base.specs.Names.{child_of, is_app_name, is_host_path, is_same, root}
 use Rattle.portal_base.specs.declared.files.File.{File}
 use Rattle.portal_base.specs.declared.files.Look.{Look}
@@ -21,7 +22,7 @@ use Rattle.portal_model.specs.Arguments.{ahead_of_end, has_end}
 use Rattle.portal_model.specs.Grant.{exceeds_limits, given_rights}
 use Rattle.portal_model.specs.Outside.{files_told}
 use Rattle.portal_model.specs.Present.{requeued, with_queue}
-use Rattle.portal_model.specs.State.{State, connection_of, document_of}
+use Rattle.portal_model.specs.State.{State, connection_of, document_of, held_in}
 use Rattle.portal_model.specs.Valid.{Valid, is_caller, is_made, is_sound_connection, is_sound_folder}
 use Rattle.portal_model.specs.Verdict.{Doing}
 use Rattle.portal_model.specs.Walk.{AtPath, IsShown}
@@ -34,7 +35,7 @@ use Rattle.portal_model.proofs.GrantValid.{given-sound}
 use Rattle.portal_model.proofs.LiveDocuments.{IsLiveId, live-again}
 use Rattle.portal_model.proofs.OpenHandles.{requeued-handles}
 use Rattle.portal_model.proofs.MadeHandles.{more-made}
-use Rattle.portal_model.proofs.NamesValid.{names-mapped, names-new, requeued_names}
+use Rattle.portal_model.proofs.SeatsValid.{requeued_same, seats-mapped, seats-new}
 use Rattle.portal_model.proofs.Queues.{dropped-connections, picked, queue_sound, sound-connected}
 use Rattle.portal_model.proofs.SoundParts.{Sound, is_live, sound-lists, sound-valid, valid-sound}
 
@@ -80,33 +81,33 @@ folder_is files path (Some f) b e = cc
 folder_is files path None true e = refl
 folder_is files path None false e = cc
 
-folder_shown : (told : Bool) (files : List File) (path : List ℕ) (look : Look) → IsShown (cond told (Some files) None) (AtPath path) look → is_folder_look look ≡ true → (not told || is_folder files path) ≡ true
-folder_shown true files path look e h = folder_is files path (file_at files path) (is_folder files path) (ap is_folder_look (sym e) ∙ h)
-folder_shown false files path look e h = refl
+folder_shown : (told : Bool) (held : Held) (path : List ℕ) (look : Look) → IsShown (cond told (Some held) None) (AtPath path) look → is_folder_look look ≡ true → (not told || is_folder held.present path) ≡ true
+folder_shown true held path look e h = folder_is held.present path (file_at held.present path) (is_folder held.present path) (ap is_folder_look (sym e) ∙ h)
+folder_shown false held path look e h = refl
 
 -- where the looks show folders at all, and none is the root
-all_exported : (told : Bool) (files : List File) (paths : List (List ℕ)) (looks : List Look) → AreShown (cond told (Some files) None) (flat_map (λ path. path ∷ []) paths) looks →
-    not (list_any (λ path. is_same path root) (flat_map (λ path. path ∷ []) paths)) ≡ true → list_all is_folder_look looks ≡ true → list_all (fits true told files) (map (λ path. path) paths) ≡ true
-all_exported told files [] looks s n f = refl
-all_exported told files (path ∷ paths) [] s n f = absurd s
-all_exported told files (path ∷ paths) (look ∷ looks) s n f =
+all_exported : (told : Bool) (held : Held) (paths : List (List ℕ)) (looks : List Look) → AreShown (cond told (Some held) None) (flat_map (λ path. path ∷ []) paths) looks →
+    not (list_any (λ path. is_same path root) (flat_map (λ path. path ∷ []) paths)) ≡ true → list_all is_folder_look looks ≡ true → list_all (fits true told held.present) (map (λ path. path) paths) ≡ true
+all_exported told held [] looks s n f = refl
+all_exported told held (path ∷ paths) [] s n f = absurd s
+all_exported told held (path ∷ paths) (look ∷ looks) s n f =
     let parts = or-parts (is_same path root) (list_any (λ p. is_same p root) (flat_map (λ p. p ∷ []) paths)) n in
-    let folder : (not told || is_folder files path) ≡ true = folder_shown told files path look s.0 (first_of_both (is_folder_look look) (list_all is_folder_look looks) f) in
-    both (fits true told files path) (list_all (fits true told files) (map (λ p. p) paths))
-    (both (not (is_same path root)) (not told || is_folder files path) (ap not parts.0) folder)
-    (all_exported told files paths looks s.1 (ap not parts.1) (second_of_both (is_folder_look look) (list_all is_folder_look looks) f))
+    let folder : (not told || is_folder held.present path) ≡ true = folder_shown told held path look s.0 (first_of_both (is_folder_look look) (list_all is_folder_look looks) f) in
+    both (fits true told held.present path) (list_all (fits true told held.present) (map (λ p. p) paths))
+    (both (not (is_same path root)) (not told || is_folder held.present path) (ap not parts.0) folder)
+    (all_exported told held paths looks s.1 (ap not parts.1) (second_of_both (is_folder_look look) (list_all is_folder_look looks) f))
 
 -- by whether a folder is exported, and whether files are named in their folders
-fits_by : (exported named persists told : Bool) (files : List File) (name : List ℕ) (paths : List (List ℕ)) (looks : List Look) → (not exported || (not named && not persists)) ≡ true →
-    AreShown (cond told (Some files) None) (flat_map (λ path. cond named (path ∷ cond named (child_of path name) path ∷ []) (path ∷ [])) paths) looks →
+fits_by : (exported named persists told : Bool) (held : Held) (name : List ℕ) (paths : List (List ℕ)) (looks : List Look) → (not exported || (not named && not persists)) ≡ true →
+    AreShown (cond told (Some held) None) (flat_map (λ path. cond named (path ∷ cond named (child_of path name) path ∷ []) (path ∷ [])) paths) looks →
     cond named (are_folders_and_files looks) (cond exported (are_exported (flat_map (λ path. cond named (path ∷ cond named (child_of path name) path ∷ []) (path ∷ [])) paths) looks) (list_all is_file looks)) ≡ true →
-    list_all (fits exported told files) (map (λ path. cond named (child_of path name) path) paths) ≡ true
-fits_by false named persists told files name paths looks flags s k = all_plain told files (map (λ path. cond named (child_of path name) path) paths)
-fits_by true true persists told files name paths looks flags s k = cc
-fits_by true false persists told files name paths looks flags s k =
+    list_all (fits exported told held.present) (map (λ path. cond named (child_of path name) path) paths) ≡ true
+fits_by false named persists told held name paths looks flags s k = all_plain told held.present (map (λ path. cond named (child_of path name) path) paths)
+fits_by true true persists told held name paths looks flags s k = cc
+fits_by true false persists told held name paths looks flags s k =
     let all : List (List ℕ) = flat_map (λ path. path ∷ []) paths in
     let none : Bool = not (list_any (λ path. is_same path root) all) in
-    all_exported told files paths looks s (first_of_both none (list_all is_folder_look looks) k) (second_of_both none (list_all is_folder_look looks) k)
+    all_exported told held paths looks s (first_of_both none (list_all is_folder_look looks) k) (second_of_both none (list_all is_folder_look looks) k)
 
 -- ---- the arguments
 
@@ -126,11 +127,11 @@ module _ (queue : List (List ℕ)) (a : AddRequest) (sound : list_all is_host_pa
   pub named-somebody : (names_nobody a || is_app_name a.app) ≡ true
   named-somebody = first_of_both named_for (are_right_names a.names && is_named_well queue a) behind_flags
 
-  pub folders-fit : (told : Bool) (files : List File) (looks : List Look) → AreShown (cond told (Some files) None) (paths_shown queue a) looks → are_of_kind a (paths_shown queue a) looks ≡ true →
-      list_all (fits (exports a) told files) (document_paths queue a) ≡ true
-  folders-fit told files looks s k =
+  pub folders-fit : (told : Bool) (held : Held) (looks : List Look) → AreShown (cond told (Some held) None) (paths_shown queue a) looks → are_of_kind a (paths_shown queue a) looks ≡ true →
+      list_all (fits (exports a) told held.present) (document_paths queue a) ≡ true
+  folders-fit told held looks s k =
       let flags : are_flags a ≡ true = first_of_both (are_flags a) (named_for && (are_right_names a.names && is_named_well queue a)) behind_few in
-      fits_by (exports a) a.named (persists a) told files (ahead_of_end a.name) (paths_presented queue a) looks
+      fits_by (exports a) a.named (persists a) told held (ahead_of_end a.name) (paths_presented queue a) looks
       (second_of_both (nat_lt a.flags 32) (not (exports a) || (not a.named && not (persists a))) flags) s k
 
   pub paths-sound : list_all is_host_path (document_paths queue a) ≡ true
@@ -220,7 +221,7 @@ new-sound : (d : Document) (s : State) → is_made s.made d.id.number ≡ false 
 new-sound d s f l p folder k = sound-lists s (s.documents ++ d ∷ []) (s.made ++ d.id ∷ []) s.rights s.applications k (documented-new s.documents s.made s.rights s.applications d f (below d.id.number l) p k.documented)
     (more-made s.made d.id s.handles k.handles_made)
     (list_all-append (is_sound_folder s.told s.files) s.documents (d ∷ []) ∙ both (list_all (is_sound_folder s.told s.files) s.documents) (is_sound_folder s.told s.files d && true) k.folders_sound (both (is_sound_folder s.told s.files d) true folder refl))
-    (names-new s.made s.documents d s.connections f k.namings_sound)
+    (seats-new s.made s.documents d s.told s.taken s.connections f k.seats_sound)
 
 used_made : (who : Who) (a : AddRequest) (path : List ℕ) (done : Added) (id : DocId) → (use_document who a path done (Some id)).state.made ≡ done.state.made
 used_made who a path done id = rights_made who a id done.state
@@ -314,7 +315,7 @@ module _ (who : Who) (a : AddRequest) (caller : is_caller who ≡ true) (named :
 taken_by : (c : Connection) (a : AddRequest) (s : State) (b : Bool) → Sound s → Sound (cond b (with_queue c.seat (drop a.fds) s) s)
 taken_by c a s true k = sound-connected s (map (requeued c.seat (drop a.fds)) s.connections) k (dropped-connections s.limits.queued c.seat a.fds s.connections (k.connected.seats_differ, k.connected.connections_sound))
     (requeued-handles c.seat s.limits.handles (drop a.fds) s.connections s.handles (record { differ = k.connected.handles_differ; sound = k.connected.handles_sound; within = k.connected.handles_within }))
-    (names-mapped s.made s.documents (requeued c.seat (drop a.fds)) (requeued_names c.seat (drop a.fds)) s.connections k.namings_sound)
+    (seats-mapped s.made s.documents s.told s.taken (requeued c.seat (drop a.fds)) (requeued_same c.seat (drop a.fds)) s.connections k.seats_sound)
 taken_by c a s false k = k
 
 pub taken-sound : (c : Connection) (a : AddRequest) (s : State) → Sound s → Sound (taken_from_queue c a s)
@@ -360,10 +361,10 @@ module _ (P : Doing → Type 0) (s : State) (c found : Connection) (a : AddReque
 
   pub add-valid : OnTree (files_told s) P (add s c a numbers)
   add-valid =
-      let tree : Option (List File) = files_told s in
+      let tree : Option Held = files_told s in
       tree-passes tree P (are_presented c.queue a) Code.InvalidArgs (add_presented s c a numbers) (λ presented.
       tree-passes tree P (are_add_arguments c.queue a) Code.InvalidArgument (add_allowed s c a numbers) (λ arguments.
       tree-passes tree P (may_list_all s c.who a (document_paths c.queue a)) Code.NotAllowed (add_looking s c a numbers) (λ may.
       tree-looks tree P (paths_shown c.queue a) (add_shown s c a numbers) (λ looks shown.
       if-passes P (are_of_kind a (paths_shown c.queue a) looks) Code.InvalidArgument (added s done) (λ kinds.
-      valid _ (λ e l u. files-valid presented arguments (folders-fit c.queue a queue-sound presented arguments s.told s.files looks shown kinds) e l u))))))
+      valid _ (λ e l u. files-valid presented arguments (folders-fit c.queue a queue-sound presented arguments s.told (held_in s) looks shown kinds) e l u))))))

@@ -1,7 +1,7 @@
 -- Refusals change nothing but queues, and what is allowed is done.
 use Rattle.std.proofs.Common.{◌≡◌, ◌≢◌, ℕ, List, [], ◌∷◌, ◌++◌, map, length, nat_lt, drop, Bool, true, false, not, ◌&&◌, ◌||◌, cond, Option, Some, None, is_some, Ok, Err, refl, sym, ap, subst, ◌∙◌, inl, inr, ◌⊎◌, arith}
+use Rattle.file_generations.specs.Generations.{Held}
 use Rattle.portal_base.specs.Names.{is_app_name, is_same}
-use Rattle.portal_base.specs.declared.files.File.{File}
 use Rattle.portal_base.specs.declared.files.Look.{Look}
 use Rattle.portal_base.specs.declared.names.doc_id.DocId.{DocId}
 use Rattle.portal_base.specs.declared.who.Who.{Who}
@@ -39,7 +39,7 @@ use Rattle.portal_model.specs.Present.{may_present, present, present_path, queue
 use Rattle.portal_model.specs.Revoke.{may_revoke, names_itself, revoke_reached, revoked}
 use Rattle.portal_model.specs.Rights.{held_by}
 use Rattle.portal_model.specs.Rows.{permissions_of, stored_rows}
-use Rattle.portal_model.specs.State.{is_host, State, who_has}
+use Rattle.portal_model.specs.State.{is_host, State, who_has, held_in}
 use Rattle.portal_model.specs.Store.{Entries, Outcome, becomes, becomes_if_told, can_be_told, change_of, entry_of, entry_to_set, has_row, store_call, with_entry, with_permissions, without_entry, without_permissions}
 use Rattle.portal_model.specs.StoreRequest.{are_store_arguments, has_entry_for, may_call, own_table, store_allowed, store_answered, store_request, store_too_long, store_verdict, table_of}
 use Rattle.portal_model.specs.Verdict.{Doing, Verdict, Refuses, Does, does, unless, walk_unless}
@@ -224,9 +224,9 @@ walk_passes true code w now looks e h = h
 walk_passes false code w now looks e h = cc
 
 -- the looks of a walk behind a check that passes
-gives_behind : (files : Option (List File)) (b : Bool) (code : Code) (w : Walk Verdict) (looks : List Look) → b ≡ true → Gives files (walk_unless (not b) code w) looks false → Gives files w looks false
-gives_behind files true code w looks e g = g
-gives_behind files false code w looks e g = cc
+gives_behind : (tree : Option Held) (b : Bool) (code : Code) (w : Walk Verdict) (looks : List Look) → b ≡ true → Gives tree (walk_unless (not b) code w) looks false → Gives tree w looks false
+gives_behind tree true code w looks e g = g
+gives_behind tree false code w looks e g = cc
 
 both_true : (a b : Bool) → (a && b) ≡ true → (a ≡ true) × (b ≡ true)
 both_true true true h = (refl, refl)
@@ -276,27 +276,27 @@ info_done s (Some d) h = refl
 
 -- ---- looks
 
-shown_walked : (files : List File) (paths : List (List ℕ)) (v : List Look → Verdict) (looks : List Look) (now : ℕ) → Gives (Some files) (looks_at_all paths (λ ls. Answers (v ls))) looks false →
-    walked (looks_at_all paths (λ ls. Answers (v ls))) now looks false ≡ Some (v (map (look_at files) paths))
-shown_walked files [] v looks now g = refl
-shown_walked files (p ∷ ps) v [] now g = cc
-shown_walked files (p ∷ ps) v (look ∷ looks) now g =
-    shown_walked files ps (λ ls. v (look ∷ ls)) looks now g.1 ∙ ap (λ (l : Look). Some (v (l ∷ map (look_at files) ps))) g.0
+shown_walked : (held : Held) (paths : List (List ℕ)) (v : List Look → Verdict) (looks : List Look) (now : ℕ) → Gives (Some held) (looks_at_all paths (λ ls. Answers (v ls))) looks false →
+    walked (looks_at_all paths (λ ls. Answers (v ls))) now looks false ≡ Some (v (map (look_at held.present) paths))
+shown_walked held [] v looks now g = refl
+shown_walked held (p ∷ ps) v [] now g = cc
+shown_walked held (p ∷ ps) v (look ∷ looks) now g =
+    shown_walked held ps (λ ls. v (look ∷ ls)) looks now g.1 ∙ ap (λ (l : Look). Some (v (l ∷ map (look_at held.present) ps))) g.0
 
 -- ---- each kind
 
-add_done : (s : State) (c : Connection) (a : AddRequest) (numbers : List DocId) (looks : List Look) (now : ℕ) → may_add s c a ≡ true → Gives (Some s.files) (add s c a numbers) looks false →
+add_done : (s : State) (c : Connection) (a : AddRequest) (numbers : List DocId) (looks : List Look) (now : ℕ) → may_add s c a ≡ true → Gives (Some (held_in s)) (add s c a numbers) looks false →
     DoneGiven (walked (add s c a numbers) now looks false)
 add_done s c a numbers looks now h g =
     let paths = document_paths c.queue a in
     let first = both_true (are_presented c.queue a) (are_add_arguments c.queue a && (may_list_all s c.who a paths && are_of_kind a (paths_shown c.queue a) (map (look_at s.files) (paths_shown c.queue a)))) h in
     let second = both_true (are_add_arguments c.queue a) (may_list_all s c.who a paths && are_of_kind a (paths_shown c.queue a) (map (look_at s.files) (paths_shown c.queue a))) first.1 in
     let third = both_true (may_list_all s c.who a paths) (are_of_kind a (paths_shown c.queue a) (map (look_at s.files) (paths_shown c.queue a))) second.1 in
-    let g1 = gives_behind (Some s.files) (are_presented c.queue a) Code.InvalidArgs (add_presented s c a numbers) looks first.0 g in
-    let g2 = gives_behind (Some s.files) (are_add_arguments c.queue a) Code.InvalidArgument (add_allowed s c a numbers) looks second.0 g1 in
-    let g3 = gives_behind (Some s.files) (may_list_all s c.who a paths) Code.NotAllowed (add_looking s c a numbers) looks third.0 g2 in
+    let g1 = gives_behind (Some (held_in s)) (are_presented c.queue a) Code.InvalidArgs (add_presented s c a numbers) looks first.0 g in
+    let g2 = gives_behind (Some (held_in s)) (are_add_arguments c.queue a) Code.InvalidArgument (add_allowed s c a numbers) looks second.0 g1 in
+    let g3 = gives_behind (Some (held_in s)) (may_list_all s c.who a paths) Code.NotAllowed (add_looking s c a numbers) looks third.0 g2 in
     let v : List Look → Verdict = λ ls. unless (not (are_of_kind a (paths_shown c.queue a) ls)) Code.InvalidArgument (added s (added_files s c a numbers)) in
-    let shown : walked (add_looking s c a numbers) now looks false ≡ Some (v (map (look_at s.files) (paths_shown c.queue a))) = shown_walked s.files (paths_shown c.queue a) v looks now g3 in
+    let shown : walked (add_looking s c a numbers) now looks false ≡ Some (v (map (look_at s.files) (paths_shown c.queue a))) = shown_walked (held_in s) (paths_shown c.queue a) v looks now g3 in
     let done : Done (v (map (look_at s.files) (paths_shown c.queue a))) = passes (are_of_kind a (paths_shown c.queue a) (map (look_at s.files) (paths_shown c.queue a))) Code.InvalidArgument (added s (added_files s c a numbers)) third.1 refl in
     walk_passes (are_presented c.queue a) Code.InvalidArgs (add_presented s c a numbers) now looks first.0
     (walk_passes (are_add_arguments c.queue a) Code.InvalidArgument (add_allowed s c a numbers) now looks second.0
@@ -391,8 +391,8 @@ walk_done : (s : State) (c : Connection) (request : Request) (numbers : List Doc
     Gives (files_told s) (bus_walk s c request numbers) looks false → DoneGiven (walked (bus_walk s c request numbers) now looks false)
 walk_done s c (Request.Present path) numbers looks now t h k g = present_done s c path h k
 walk_done s c (Request.Add a) numbers looks now t h k g =
-    let told : files_told s ≡ Some s.files = ap (λ (b : Bool). cond b (Some s.files) None) t in
-    add_done s c a numbers looks now h (subst (λ (files : Option (List File)). Gives files (add s c a numbers) looks false) told g)
+    let told : files_told s ≡ Some (held_in s) = ap (λ (b : Bool). cond b (Some (held_in s)) None) t in
+    add_done s c a numbers looks now h (subst (λ (tree : Option Held). Gives tree (add s c a numbers) looks false) told g)
 walk_done s c (Request.Grant call) numbers looks now t h k g =
     let o = document_named s.documents call.doc in
     let both = both_true (are_rights_arguments call) (may_grant_in s c.who call o) h in

@@ -13,9 +13,9 @@ use Rattle.portal_model.specs.Valid.{Valid, is_sound_folder}
 use Rattle.portal_model.specs.Verdict.{Doing, does}
 use Rattle.portal_model.proofs.DistinctItems.{list_all-filter}
 use Rattle.portal_model.proofs.DocumentChanges.{documented-deleted}
-use Rattle.portal_model.proofs.NamesValid.{names-deleted}
+use Rattle.portal_model.proofs.SeatsValid.{seats-deleted}
 use Rattle.portal_model.proofs.WalkDoings.{IfDoes, if-passes}
-use Rattle.portal_model.proofs.SoundParts.{fewer-lists, valid-sound}
+use Rattle.portal_model.proofs.SoundParts.{fewer-lists, valid-seats, valid-sound}
 
 filtered_less : {X : Type 0} (p : X → Bool) (xs : List X) → length (filter p xs) ≤ length xs
 filtered_less p [] = omega arith
@@ -35,7 +35,7 @@ module _ (P : Doing → Type 0) (valid : (d : Doing) → Valid d.state → P d) 
       (documented-deleted s.documents s.made s.rights s.applications number (valid-sound s v).documented)
       (le_trans (length left) (length s.documents) s.limits.documents (filtered_less (λ (x : Document). not (x.id.number == number)) s.documents) v.documents_within)
       (list_all-filter (is_sound_folder s.told s.files) (λ (x : Document). not (x.id.number == number)) s.documents v.folders_sound)
-      (names-deleted s.made s.documents number s.connections v.namings_sound)))
+      (seats-deleted s.made s.documents number s.told s.taken s.connections (valid-seats s v))))
 
   pub delete-valid : (doc : List ℕ) → IfDoes P (delete_document s who doc)
   delete-valid doc = delete_reached-valid (reached s who doc)

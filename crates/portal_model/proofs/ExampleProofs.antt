@@ -7,6 +7,7 @@ use Rattle.portal_base.specs.Names.{is_host_path, is_app_name}
 use Rattle.portal_model.specs.Examples.{editor, other, a_text, read_write, of_other, of_nobody, AttributesOfGrantedFile, ForeignIsAsMissing, CostsOfRequests, AnswersOfSeats, LeaveAndCollect, FailedLook}
 use Rattle.portal_model.specs.Opening.{opened}
 use Rattle.portal_model.specs.Valid.{Valid}
+use Rattle.portal_model.proofs.GenerationsValid.{first-generations}
 
 -- ---- the names in the examples are names
 
@@ -39,9 +40,12 @@ valid_read_write = record {
   seats_differ = tt;
   connections_sound = refl;
   namings_sound = tt;
+  temps_sound = tt;
+  temps_taken = refl;
   handles_differ = tt;
   handles_sound = refl;
   handles_made = refl;
+  handles_taken = refl;
   handles_within = refl;
   entries_differ = tt;
   entries_sound = refl;
@@ -49,7 +53,7 @@ valid_read_write = record {
   files_apart = refl;
   files_named = rw a_path refl;
   files_told = λ e. cc;
-  taken_none = refl;
+  generations_sound = first-generations true _ refl;
   documents_within = omega arith;
   made_within = omega arith;
   applications_within = omega arith;
@@ -72,9 +76,12 @@ valid_of_other = record {
   seats_differ = tt;
   connections_sound = refl;
   namings_sound = tt;
+  temps_sound = tt;
+  temps_taken = refl;
   handles_differ = tt;
   handles_sound = refl;
   handles_made = refl;
+  handles_taken = refl;
   handles_within = refl;
   entries_differ = tt;
   entries_sound = refl;
@@ -82,7 +89,7 @@ valid_of_other = record {
   files_apart = refl;
   files_named = rw a_path refl;
   files_told = λ e. cc;
-  taken_none = refl;
+  generations_sound = first-generations true _ refl;
   documents_within = omega arith;
   made_within = omega arith;
   applications_within = omega arith;
@@ -105,9 +112,12 @@ valid_of_nobody = record {
   seats_differ = tt;
   connections_sound = refl;
   namings_sound = tt;
+  temps_sound = tt;
+  temps_taken = refl;
   handles_differ = tt;
   handles_sound = refl;
   handles_made = refl;
+  handles_taken = refl;
   handles_within = refl;
   entries_differ = tt;
   entries_sound = refl;
@@ -115,7 +125,7 @@ valid_of_nobody = record {
   files_apart = refl;
   files_named = rw a_path refl;
   files_told = λ e. cc;
-  taken_none = refl;
+  generations_sound = first-generations true _ refl;
   documents_within = omega arith;
   made_within = omega arith;
   applications_within = omega arith;

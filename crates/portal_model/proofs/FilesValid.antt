@@ -52,6 +52,10 @@ pub written-path : (offset : ℕ) (content : List ℕ) (now : ℕ) (f : File) �
 written-path offset [] now f = refl
 written-path offset (b ∷ bs) now f = refl
 
+pub written-generation : (offset : ℕ) (content : List ℕ) (now : ℕ) (f : File) → (written offset content now f).generation ≡ f.generation
+written-generation offset [] now f = refl
+written-generation offset (b ∷ bs) now f = refl
+
 -- ---- a file that is made
 
 same_turned : (a b : List ℕ) (c : Bool) → is_same b a ≡ c → is_same a b ≡ false → c ≡ false

@@ -22,7 +22,7 @@ use Rattle.portal_model.proofs.SoundParts.{Sound, is_live, sound-lists, sound-va
 pub given-sound : (app : List ℕ) (id : DocId) (set : RightSet) (s : State) → is_app_name app ≡ true → is_live s.documents id.number ≡ true → Sound s → Sound (given_rights app id set s)
 given-sound app id set s named live k =
     sound-lists s s.documents s.made (add_rights app id set s.rights) (numbered_with app set s.applications) k
-    (documented-given s.documents s.made s.rights s.applications app id set k.documented named live) k.handles_made k.folders_sound k.namings_sound
+    (documented-given s.documents s.made s.rights s.applications app id set k.documented named live) k.handles_made k.folders_sound k.seats_sound
 
 module _ (P : Doing → Type 0) (valid : (d : Doing) → (d.exceeds ≡ false → Valid d.state) → P d) (s : State) (who : Who) (call : RightsCall) (v : Valid s) where
   grant_reached-valid : is_app_name call.app ≡ true → (o : Option Document) → IsLive s.documents o → IfDoes P (grant_reached s who call o)

@@ -13,10 +13,15 @@ pub mod OpenHandles
 pub mod MadeHandles
 pub mod FilesValid
 pub mod NodeWalks
+pub mod NextAlike
 pub mod NodeValid
 pub mod NodeAllowed
 pub mod Queues
 pub mod NamesValid
+pub mod SeatsValid
+pub mod TakenValid
+pub mod GenerationsValid
+pub mod TurnedFiles
 pub mod WhoWaits
 pub mod EntriesKept
 pub mod RowTexts
@@ -45,4 +50,6 @@ pub mod EntriesAllowed
 pub mod NodeLawsHold
 pub mod FileExampleProofs
 pub mod FolderExampleProofs
+pub mod SaveExampleProofs
+pub mod SaveLawsHold
 pub mod StoreExampleProofs

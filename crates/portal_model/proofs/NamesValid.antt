@@ -49,23 +49,23 @@ module _ (made : List DocId) (ds : List Document) (made' : List DocId) (ds' : Li
     sound = list_all-weaken (is_sound_naming made ds) (is_sound_naming made' ds') naming_follows ns k.sound;
   }
 
-  names_follow : (cs : List Connection) → AreSoundNames made ds cs → AreSoundNames made' ds' cs
+  pub names_follow : (cs : List Connection) → AreSoundNames made ds cs → AreSoundNames made' ds' cs
   names_follow [] h = tt
   names_follow (c ∷ cs) h = (namings_follow c.namings h.0, names_follow cs h.1)
 
 -- a document more
-pub names-new : (made : List DocId) (ds : List Document) (d : Document) (cs : List Connection) → is_made made d.id.number ≡ false → AreSoundNames made ds cs → AreSoundNames (made ++ d.id ∷ []) (ds ++ d ∷ []) cs
-names-new made ds d cs f h = names_follow made ds (made ++ d.id ∷ []) (ds ++ d ∷ []) (record {
+pub follows-new : (made : List DocId) (ds : List Document) (d : Document) → is_made made d.id.number ≡ false → Follows made ds (made ++ d.id ∷ []) (ds ++ d ∷ [])
+follows-new made ds d f = record {
   still = λ number k. still_made made d.id number k;
   documents = λ number k. inl (found-of-made made d ds number f k);
-}) cs h
+}
 
 -- and one that goes
-pub names-deleted : (made : List DocId) (ds : List Document) (number : ℕ) (cs : List Connection) → AreSoundNames made ds cs → AreSoundNames made (others number ds) cs
-names-deleted made ds number cs h = names_follow made ds made (others number ds) (record {
+pub follows-deleted : (made : List DocId) (ds : List Document) (number : ℕ) → Follows made ds made (others number ds)
+follows-deleted made ds number = record {
   still = λ n k. k;
   documents = λ n k. still-or-gone number n ds;
-}) cs h
+}
 
 -- ---- other connections
 

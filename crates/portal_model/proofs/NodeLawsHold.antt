@@ -12,7 +12,7 @@ pub refusals-change-nothing : NodeRefusalsKeep
 refusals-change-nothing s c r given code e = settled-keeps s c (node_given (walk_on_node s c r) given) code e
 
 pub nodes-stay-valid : NodesStayValid
-nodes-stay-valid s c r given here mount v l = node-valid s c c here refl refl refl mount v r given l
+nodes-stay-valid s c r given here mount v l = node-valid s c c here (record { opens = refl; who = refl; namings = refl; temps = refl; added = refl; mount = mount }) v r given l
 
 pub allowed-is-done : AllowedOnNodesIsDone
 allowed-is-done = node-done

@@ -1,12 +1,12 @@
 -- What is true of all that the walk of a request on a node may do, by what the tree may have shown.
 use Rattle.std.proofs.Common.{◌≡◌, ℕ, List, [], ◌∷◌, Bool, true, false, Option, Some, None, refl}
+use Rattle.file_generations.specs.Generations.{Held}
 use Rattle.portal_base.specs.declared.files.ChildName.{ChildName}
-use Rattle.portal_base.specs.declared.files.File.{File}
 use Rattle.portal_base.specs.declared.files.FileName.{FileName}
 use Rattle.portal_base.specs.declared.files.Look.{Look}
 use Rattle.portal_model.specs.declared.handle.Handle.{Handle}
 use Rattle.portal_model.specs.NodeVerdict.{NodeDoing, NodeVerdict, Errs, Yields, OnFile, OnHandle, Spot, at_file, at_name, by_file_handle, by_look, by_place, errs_if, if_file, spot}
-use Rattle.portal_model.specs.Place.{Folder, Exported, Sight, SightOfFile, SightBelow, SightOfFolder}
+use Rattle.portal_model.specs.Place.{Folder, Exported, Sight, SightOfFile, SightOfTemp, SightBelow, SightOfFolder}
 use Rattle.portal_model.specs.Reach.{OpenFile, open_file_of}
 use Rattle.portal_model.specs.Walk.{Walk, Answers, Looks, Ends, Lists, Gives, IsFound, IsShown, listed_by, walked_with}
 
@@ -14,10 +14,11 @@ use Rattle.portal_model.specs.Walk.{Walk, Answers, Looks, Ends, Lists, Gives, Is
 abbrev pub SeenAs : Option Sight → Folder → Type 0
 SeenAs None f = ⊥
 SeenAs (Some (SightOfFile d may_write)) f = ⊥
+SeenAs (Some (SightOfTemp d name may_write)) f = ⊥
 SeenAs (Some (SightBelow view d path may_write)) f = Exported view d path may_write ≡ f
 SeenAs (Some (SightOfFolder folder)) f = folder ≡ f
 
-module _ (tree : Option (List File)) (P : NodeDoing → Type 0) where
+module _ (tree : Option Held) (P : NodeDoing → Type 0) where
   abbrev pub IfYields : NodeVerdict → Type 0
   IfYields (Errs errno) = Unit {0}
   IfYields (Yields d) = P d
@@ -72,6 +73,7 @@ module _ (tree : Option (List File)) (P : NodeDoing → Type 0) where
       ((f : Folder) → SeenAs sight f → OnNode (folder f)) → OnNode (by_place sight file folder)
   by_place-on None file folder h k = tt
   by_place-on (Some (SightOfFile d may_write)) file folder h k = at_file-on d.path (file (spot d d.path may_write)) (h (spot d d.path may_write))
+  by_place-on (Some (SightOfTemp d name may_write)) file folder h k = at_name-on name (file (spot d name.path may_write)) (h (spot d name.path may_write))
   by_place-on (Some (SightBelow view d path may_write)) file folder h k =
       λ look shown. by_look-on view (spot d path may_write) file folder (h (spot d path may_write)) (k (Exported view d path may_write) refl) look
   by_place-on (Some (SightOfFolder f)) file folder h k = k f refl

@@ -4,6 +4,7 @@ use Rattle.std.specs.List.{list_any, list_all, filter, IsDistinct}
 use Rattle.std.proofs.lemmas.Bool.Decides.{nat_tests}
 use Rattle.std.proofs.lemmas.List.{length-map}
 use Rattle.std.proofs.lemmas.List.Folds.{list_all-append, list_all-map, list_any-append}
+use Rattle.file_generations.specs.Generations.{Held, held_with}
 use Rattle.portal_base.specs.Names.{is_same, is_app_name, is_host_path, root}
 use Rattle.portal_base.specs.declared.names.doc_id.DocId.{DocId}
 use Rattle.portal_model.specs.declared.opening.FileItem.{FileItem}
@@ -15,11 +16,14 @@ use Rattle.portal_base.specs.declared.files.File.{File}
 use Rattle.portal_model.specs.declared.state.Triple.{Triple}
 use Rattle.portal_model.specs.Content.{is_folder}
 use Rattle.portal_model.specs.Laws.{OpeningsAreValid}
-use Rattle.portal_model.specs.Opening.{id_of, document_kept, set_of_bits, with_grant, with_grants, each, file_of, opened, opened_over, first_named, names_kept, SoundOpening, ValidOpening}
+use Rattle.portal_model.specs.Opening.{id_of, document_kept, set_of_bits, with_grant, with_grants, each, file_of, opened, opened_over, first_named, names_kept, SoundOpening, ValidOpening, held_items, is_first_item}
 use Rattle.portal_model.specs.Rights.{are_in_order}
+use Rattle.portal_model.specs.SoundGenerations.{SoundGenerations}
 use Rattle.portal_model.specs.State.{State, document_of}
 use Rattle.portal_model.specs.Valid.{Valid, has_identifier, is_made, is_numbered, is_placed, is_sound_folder, same_handle}
 use Rattle.portal_model.proofs.DistinctItems.{IsDistinct-first, list_all-filter, list_all-weaken}
+use Rattle.portal_model.proofs.DocumentChanges.{first_of_both, second_of_both}
+use Rattle.portal_model.proofs.GenerationsValid.{first-generations}
 use Rattle.portal_model.proofs.ListLookups.{is_same-eq, is_same-refl}
 use Rattle.portal_model.proofs.RightsLaws.{all-add_rights, ordered-add_rights}
 
@@ -163,8 +167,36 @@ all_placed ds = all_of_both (λ (d : OpeningDocument). is_live ds d.kept.number)
     (list_all-weaken (λ (d : OpeningDocument). list_all (λ (app : List ℕ). list_any (is_same app) (each names_kept ds)) (names_kept d)) _
     (λ d h. list_all-weaken (λ (app : List ℕ). list_any (is_same app) (each names_kept ds)) (is_numbered (first_named (each names_kept ds))) (λ app k. first_named-any app (each names_kept ds) ∙ k) (names_kept d) h) ds (named_kept ds))
 
-pub sound-Valid : (o : OpeningState) → SoundOpening o → Valid (opened o)
-sound-Valid o k = record {
+-- each file of a sound opening is the first of its path, and present
+present_all : (fs : List FileItem) → list_all is_first_item fs ≡ true → filter (λ (f : FileItem). f.present) fs ≡ fs
+present_all [] h = refl
+present_all (f ∷ fs) h =
+    let here : is_first_item f ≡ true = first_of_both (is_first_item f) (list_all is_first_item fs) h in
+    let there : f.present ≡ true = second_of_both (f.generation == 0) f.present here in
+    ap (λ (b : Bool). cond b (f ∷ filter (λ (x : FileItem). x.present) fs) (filter (λ (x : FileItem). x.present) fs)) there
+    ∙ ap (λ (xs : List FileItem). f ∷ xs) (present_all fs (second_of_both (is_first_item f) (list_all is_first_item fs) h))
+
+hidden_none : (fs : List FileItem) → list_all is_first_item fs ≡ true → filter (λ (f : FileItem). not f.present) fs ≡ []
+hidden_none [] h = refl
+hidden_none (f ∷ fs) h =
+    let here : is_first_item f ≡ true = first_of_both (is_first_item f) (list_all is_first_item fs) h in
+    let there : f.present ≡ true = second_of_both (f.generation == 0) f.present here in
+    ap (λ (b : Bool). cond (not b) (f ∷ filter (λ (x : FileItem). not x.present) fs) (filter (λ (x : FileItem). not x.present) fs)) there
+    ∙ hidden_none fs (second_of_both (is_first_item f) (list_all is_first_item fs) h)
+
+abbrev pub first_held : List FileItem → Held
+first_held fs = held_with (map file_of fs) []
+
+pub items-first : (fs : List FileItem) → list_all is_first_item fs ≡ true → held_items fs ≡ first_held fs
+items-first fs h = λ i. held_with (map file_of (present_all fs h i)) (map file_of (hidden_none fs h i))
+
+firsts : (fs : List FileItem) → list_all is_first_item fs ≡ true → list_all (λ (f : File). f.generation == 0) (map file_of fs) ≡ true
+firsts fs h =
+    list_all-map (λ (f : File). f.generation == 0) file_of fs
+    ∙ list_all-weaken is_first_item (λ (f : FileItem). f.generation == 0) (λ f k. first_of_both (f.generation == 0) f.present k) fs h
+
+first_Valid : (o : OpeningState) → SoundOpening o → Valid (opened_over (Some (first_held o.files)) o)
+first_Valid o k = record {
   numbers_differ = subst (IsDistinct nat_eq) (sym (numbers_kept o.documents)) k.numbers_differ;
   numbers_made = list_all-map (λ (d : Document). is_made o.made d.id.number) document_kept o.documents ∙ (ap (λ (made : List DocId). list_all (λ (d : OpeningDocument). is_made made d.kept.number) o.documents) k.made ∙ made_kept o.documents);
   identifiers = list_all-map has_identifier document_kept o.documents ∙ k.identifiers;
@@ -173,13 +205,16 @@ sound-Valid o k = record {
   applications_differ = subst (IsDistinct is_same) (sym k.applications) (first_named-distinct (each names_kept o.documents));
   names = ap (list_all is_app_name) k.applications ∙ first_named-all is_app_name (each names_kept o.documents) (all_each is_app_name names_kept o.documents k.names);
   rights_in_order = ordered_kept o.documents [] refl;
-  rights_placed = placed_kept (opened o) o.documents [] (ap (λ (apps : List (List ℕ)). list_all (λ (d : OpeningDocument). is_live o.documents d.kept.number && list_all (is_numbered apps) (names_kept d)) o.documents) k.applications ∙ all_placed o.documents) refl;
+  rights_placed = placed_kept (opened_over (Some (first_held o.files)) o) o.documents [] (ap (λ (apps : List (List ℕ)). list_all (λ (d : OpeningDocument). is_live o.documents d.kept.number && list_all (is_numbered apps) (names_kept d)) o.documents) k.applications ∙ all_placed o.documents) refl;
   seats_differ = no_seats;
   connections_sound = refl;
   namings_sound = tt;
+  temps_sound = tt;
+  temps_taken = refl;
   handles_differ = no_handles;
   handles_sound = refl;
   handles_made = refl;
+  handles_taken = refl;
   handles_within = refl;
   entries_differ = k.entries_differ;
   entries_sound = k.entries_sound;
@@ -187,7 +222,7 @@ sound-Valid o k = record {
   files_apart = list_all-map (λ (f : File). not (is_folder (map file_of o.files) f.path)) file_of o.files ∙ k.files_apart;
   files_named = list_all-map (λ (f : File). is_host_path f.path) file_of o.files ∙ k.files_named;
   files_told = λ e. cc;
-  taken_none = k.none_taken;
+  generations_sound = subst (SoundGenerations true (map file_of o.files) []) (sym k.none_taken) (first-generations true (map file_of o.files) (firsts o.files k.files_first));
   documents_within = rw (length-map o.documents document_kept) k.documents_within;
   made_within = rw (k.made, length-map o.documents (λ (d : OpeningDocument). id_of d.kept.number)) k.made_within;
   applications_within = k.applications_within;
@@ -195,7 +230,10 @@ sound-Valid o k = record {
   queued_limit = k.queued_limit;
 }
 
-pub sound-ValidOpening : (o : OpeningState) → SoundOpening o → ValidOpening (Some (map file_of o.files)) o
+pub sound-Valid : (o : OpeningState) → SoundOpening o → Valid (opened o)
+sound-Valid o k = subst (λ (held : Held). Valid (opened_over (Some held) o)) (sym (items-first o.files k.files_first)) (first_Valid o k)
+
+pub sound-ValidOpening : (o : OpeningState) → SoundOpening o → ValidOpening (Some (held_items o.files)) o
 sound-ValidOpening o k = record { valid = sound-Valid o k; grants = k.grants; made = k.made; applications = k.applications }
 
 -- over a tree that tells nothing there are no files
@@ -213,7 +251,7 @@ still_named told files d h = named_by d.folder (not (is_same d.path root)) (not 
 
 quiet-Valid : (o : OpeningState) → SoundOpening o → Valid (opened_over None o)
 quiet-Valid o k =
-    let v : Valid (opened o) = sound-Valid o k in
+    let v : Valid (opened_over (Some (first_held o.files)) o) = first_Valid o k in
     record {
       numbers_differ = v.numbers_differ;
       numbers_made = v.numbers_made;
@@ -227,9 +265,12 @@ quiet-Valid o k =
       seats_differ = v.seats_differ;
       connections_sound = v.connections_sound;
       namings_sound = tt;
+      temps_sound = tt;
+      temps_taken = refl;
       handles_differ = v.handles_differ;
       handles_sound = v.handles_sound;
       handles_made = v.handles_made;
+      handles_taken = refl;
       handles_within = v.handles_within;
       entries_differ = v.entries_differ;
       entries_sound = v.entries_sound;
@@ -237,7 +278,7 @@ quiet-Valid o k =
       files_apart = refl;
       files_named = refl;
       files_told = λ e. refl;
-      taken_none = v.taken_none;
+      generations_sound = subst (SoundGenerations false [] []) (sym k.none_taken) (first-generations false [] refl);
       documents_within = v.documents_within;
       made_within = v.made_within;
       applications_within = v.applications_within;

@@ -11,10 +11,10 @@ use Rattle.portal_model.specs.Valid.{Valid}
 use Rattle.portal_model.specs.Verdict.{Doing, does}
 use Rattle.portal_model.proofs.DocumentChanges.{second_of_both}
 use Rattle.portal_model.proofs.WalkDoings.{IfDoes, if-passes}
-use Rattle.portal_model.proofs.NamesValid.{names-mapped, requeued_names}
+use Rattle.portal_model.proofs.SeatsValid.{requeued_same, seats-mapped}
 use Rattle.portal_model.proofs.OpenHandles.{requeued-handles}
 use Rattle.portal_model.proofs.Queues.{pushed-connections}
-use Rattle.portal_model.proofs.SoundParts.{Valid-connections, valid-handles}
+use Rattle.portal_model.proofs.SoundParts.{Valid-connections, valid-handles, valid-seats}
 
 pub present-valid : (P : Doing → Type 0) → ((d : Doing) → Valid d.state → P d) → (s : State) (c found : Connection) (bytes : List ℕ) → connection_of s.connections c.seat ≡ Some found → found.queue ≡ c.queue → Valid s →
     IfDoes P (present s c bytes)
@@ -26,4 +26,4 @@ present-valid P valid s c found bytes f q v =
     let host : is_host_path path ≡ true = second_of_both (has_end bytes) (is_host_path path) ended in
     let place : nat_lt (length found.queue) s.limits.queued ≡ true = rw q room in
     valid _ (Valid-connections s _ v (pushed-connections s.limits.queued c.seat path host s.connections found f place (v.seats_differ, v.connections_sound)) (requeued-handles c.seat s.limits.handles (λ queue. queue ++ path ∷ []) s.connections s.handles (valid-handles s v))
-    (names-mapped s.made s.documents (requeued c.seat (λ queue. queue ++ path ∷ [])) (requeued_names c.seat (λ queue. queue ++ path ∷ [])) s.connections v.namings_sound)))))
+    (seats-mapped s.made s.documents s.told s.taken (requeued c.seat (λ queue. queue ++ path ∷ [])) (requeued_same c.seat (λ queue. queue ++ path ∷ [])) s.connections (valid-seats s v))))))

@@ -9,10 +9,10 @@ use Rattle.portal_model.specs.declared.state.Connection.{Connection}
 use Rattle.portal_model.specs.Present.{requeued}
 use Rattle.portal_model.specs.State.{State, connection_of}
 use Rattle.portal_model.specs.Step.{told_of}
-use Rattle.portal_model.specs.Valid.{has_no_temps, is_bound_connection, is_caller, is_host_bus, is_none, is_sound_change, is_sound_connection}
+use Rattle.portal_model.specs.Valid.{is_caller, is_host_bus, is_none, is_sound_change, is_sound_connection}
 use Rattle.portal_model.proofs.DocumentChanges.{both, first_of_both, second_of_both}
 use Rattle.portal_model.proofs.ListLookups.{nat_is}
-use Rattle.portal_model.proofs.SoundParts.{AreSoundNames, Sound, SoundConnections, SoundHandles}
+use Rattle.portal_model.proofs.SoundParts.{Sound, SoundConnections, SoundHandles, SoundSeats}
 
 abbrev pub seats : List Connection → List ℕ
 seats cs = map (λ (c : Connection). c.seat) cs
@@ -26,35 +26,27 @@ is_sound_queue queued queue = list_all is_host_path queue && nat_le (length queu
 abbrev requeue : (List (List ℕ) → List (List ℕ)) → Connection → Connection
 requeue change c = record c { queue = change c.queue }
 
--- it is bound as it has to be, and no temporary was made on it
-pub sound_bound : (queued : ℕ) (c : Connection) → is_sound_connection queued c ≡ true → is_bound_connection queued c ≡ true
-sound_bound queued c h = second_of_both (has_no_temps c) (is_bound_connection queued c) h
-
-pub sound_no_temps : (queued : ℕ) (c : Connection) → is_sound_connection queued c ≡ true → has_no_temps c ≡ true
-sound_no_temps queued c h = first_of_both (has_no_temps c) (is_bound_connection queued c) h
-
 -- what a connection waits for isn't changed
 waits_sound : (queued : ℕ) (c : Connection) → is_sound_connection queued c ≡ true → is_sound_queue queued c.queue ≡ true
 waits_sound queued c h =
     let waits = is_none c.unsent || is_host_bus c.who c.kind in
     let texts = list_all is_sound_change c.unsent in
-    let behind = second_of_both (is_caller c.who) (waits && (texts && is_sound_queue queued c.queue)) (sound_bound queued c h) in
+    let behind = second_of_both (is_caller c.who) (waits && (texts && is_sound_queue queued c.queue)) h in
     second_of_both texts (is_sound_queue queued c.queue) (second_of_both waits (texts && is_sound_queue queued c.queue) behind)
 
 -- it is bound to a caller
 pub caller_sound : (queued : ℕ) (c : Connection) → is_sound_connection queued c ≡ true → is_caller c.who ≡ true
-caller_sound queued c h = first_of_both (is_caller c.who) ((is_none c.unsent || is_host_bus c.who c.kind) && (list_all is_sound_change c.unsent && is_sound_queue queued c.queue)) (sound_bound queued c h)
+caller_sound queued c h = first_of_both (is_caller c.who) ((is_none c.unsent || is_host_bus c.who c.kind) && (list_all is_sound_change c.unsent && is_sound_queue queued c.queue)) h
 
 requeued_sound : (queued : ℕ) (c : Connection) (queue : List (List ℕ)) → is_sound_connection queued c ≡ true → is_sound_queue queued queue ≡ true → is_sound_connection queued (record c { queue = queue }) ≡ true
 requeued_sound queued c queue h k =
     let waits = is_none c.unsent || is_host_bus c.who c.kind in
     let texts = list_all is_sound_change c.unsent in
-    let behind = second_of_both (is_caller c.who) (waits && (texts && is_sound_queue queued c.queue)) (sound_bound queued c h) in
+    let behind = second_of_both (is_caller c.who) (waits && (texts && is_sound_queue queued c.queue)) h in
     let later = second_of_both waits (texts && is_sound_queue queued c.queue) behind in
-    both (has_no_temps c) (is_bound_connection queued (record c { queue = queue })) (sound_no_temps queued c h)
-    (both (is_caller c.who) (waits && (texts && is_sound_queue queued queue)) (caller_sound queued c h)
+    both (is_caller c.who) (waits && (texts && is_sound_queue queued queue)) (caller_sound queued c h)
     (both waits (texts && is_sound_queue queued queue) (first_of_both waits (texts && is_sound_queue queued c.queue) behind)
-    (both texts (is_sound_queue queued queue) (first_of_both texts (is_sound_queue queued c.queue) later) k)))
+    (both texts (is_sound_queue queued queue) (first_of_both texts (is_sound_queue queued c.queue) later) k))
 
 pub queue_sound : (queued : ℕ) (c : Connection) → is_sound_connection queued c ≡ true → list_all is_host_path c.queue ≡ true
 queue_sound queued c h = first_of_both (list_all is_host_path c.queue) (nat_le (length c.queue) queued) (waits_sound queued c h)
@@ -205,8 +197,8 @@ picked p (suc n) zero (x ∷ xs) h l m = first_of_both (p x) (list_all p xs) h
 picked p (suc n) (suc i) (x ∷ xs) h l m = picked p n i xs (second_of_both (p x) (list_all p xs) h) (omega arith) (omega arith)
 
 -- other connections of a sound state
-pub sound-connected : (s : State) (cs : List Connection) → Sound s → SoundConnections s.limits.queued cs → SoundHandles s.limits.handles cs s.handles → AreSoundNames s.made s.documents cs → Sound (record s { connections = cs })
-sound-connected s cs k c h names = record {
+pub sound-connected : (s : State) (cs : List Connection) → Sound s → SoundConnections s.limits.queued cs → SoundHandles s.limits.handles cs s.handles → SoundSeats s.made s.documents s.told s.taken cs → Sound (record s { connections = cs })
+sound-connected s cs k c h seats = record {
   documented = k.documented;
   connected = record {
     seats_differ = c.0;
@@ -220,11 +212,12 @@ sound-connected s cs k c h names = record {
     files_apart = k.connected.files_apart;
     files_named = k.connected.files_named;
     files_told = k.connected.files_told;
-    taken_none = k.connected.taken_none;
+    handles_taken = k.connected.handles_taken;
+    generations_sound = k.connected.generations_sound;
     made_limit = k.connected.made_limit;
     queued_limit = k.connected.queued_limit;
   };
   handles_made = k.handles_made;
   folders_sound = k.folders_sound;
-  namings_sound = names;
+  seats_sound = seats;
 }

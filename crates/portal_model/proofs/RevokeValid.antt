@@ -15,7 +15,7 @@ use Rattle.portal_model.specs.Valid.{Valid}
 use Rattle.portal_model.specs.Verdict.{Doing, does}
 use Rattle.portal_model.proofs.DocumentChanges.{documented-taken}
 use Rattle.portal_model.proofs.WalkDoings.{IfDoes, if-passes}
-use Rattle.portal_model.proofs.SoundParts.{fewer-lists, valid-sound}
+use Rattle.portal_model.proofs.SoundParts.{fewer-lists, valid-seats, valid-sound}
 
 module _ (P : Doing → Type 0) (valid : (d : Doing) → Valid d.state → P d) (s : State) (who : Who) (call : RightsCall) (v : Valid s) where
   revoke_reached-valid : (o : Option Document) → IfDoes P (revoke_reached s who call o)
@@ -24,7 +24,7 @@ module _ (P : Doing → Type 0) (valid : (d : Doing) → Valid d.state → P d) 
       let listed = rights_named call.names in
       if-passes P (may_revoke (held_by s.rights who d.id.number) (names_itself who call.app)) Code.NotAllowed (does (revoked s call d) Answer.Done)
       (λ may. valid _ (fewer-lists s s.documents (take_rights call.app d.id.number listed s.rights) v
-      (documented-taken s.documents s.made s.rights s.applications call.app d.id listed (valid-sound s v).documented d.id.number) v.documents_within v.folders_sound v.namings_sound))
+      (documented-taken s.documents s.made s.rights s.applications call.app d.id listed (valid-sound s v).documented d.id.number) v.documents_within v.folders_sound (valid-seats s v)))
 
   pub revoke-valid : IfDoes P (revoke s who call)
   revoke-valid =

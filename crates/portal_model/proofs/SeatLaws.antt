@@ -17,9 +17,9 @@ use Rattle.portal_model.specs.declared.state.Connection.{Connection}
 use Rattle.portal_model.specs.Enter.{entered, new_connection}
 use Rattle.portal_model.specs.History.{run, of_seat}
 use Rattle.portal_model.specs.Leave.{left, of_others}
-use Rattle.portal_model.specs.Node.{connections_after, connections_named, counted, named_on, node_given, settled_on_node, walk_on_node}
-use Rattle.portal_model.specs.NodeVerdict.{HandleChange, HandlesStay, Opens, Closes, NameChange, Names, NamesStay, NodeVerdict, Errs, Yields}
-use Rattle.portal_model.specs.SeatNames.{with_naming}
+use Rattle.portal_model.specs.Node.{connections_after, connections_named, counted, named_on, node_given, settled_on_node, walk_on_node, temps_changed, with_temps}
+use Rattle.portal_model.specs.NodeVerdict.{HandleChange, HandlesStay, Opens, Closes, NameChange, Names, NamesStay, NodeVerdict, Errs, Yields, Temps}
+use Rattle.portal_model.specs.SeatNames.{with_naming, TempChange}
 use Rattle.portal_model.specs.Present.{requeued}
 use Rattle.portal_model.specs.Seated.{BeginsWith, Binding, Exchange, binding_of, bound, bound_after, bound_by, exchange, exchanges, is_open}
 use Rattle.portal_model.specs.State.{State, connection_of}
@@ -194,9 +194,26 @@ binding-named : (seat other : ℕ) (naming : Naming) (cs : List Connection) → 
 binding-named seat other naming [] = refl
 binding-named seat other naming (c ∷ cs) = named_first seat naming c (c.seat == other) (connection_of (map (named_on other naming) cs) seat) (connection_of cs seat) (binding-named seat other naming cs)
 
+temps_first : (seat : ℕ) (change : TempChange) (c : Connection) (b : Bool) (o p : Option Connection) → option_map binding_of o ≡ option_map binding_of p →
+    option_map binding_of (cond ((cond b (with_temps change c) c).seat == seat) (Some (cond b (with_temps change c) c)) o) ≡ option_map binding_of (cond (c.seat == seat) (Some c) p)
+temps_first seat change c true o p h = elim (c.seat == seat) as (λ m. option_map binding_of (cond m (Some (with_temps change c)) o) ≡ option_map binding_of (cond m (Some c) p)) [
+  | true ↦ refl
+  | false ↦ h
+]
+temps_first seat change c false o p h = elim (c.seat == seat) as (λ m. option_map binding_of (cond m (Some c) o) ≡ option_map binding_of (cond m (Some c) p)) [
+  | true ↦ refl
+  | false ↦ h
+]
+
+-- nor do its temporaries
+binding-temps : (seat other : ℕ) (change : TempChange) (cs : List Connection) → binding (map (temps_changed other change) cs) seat ≡ binding cs seat
+binding-temps seat other change [] = refl
+binding-temps seat other change (c ∷ cs) = temps_first seat change c (c.seat == other) (connection_of (map (temps_changed other change) cs) seat) (connection_of cs seat) (binding-temps seat other change cs)
+
 named_bound : (seat : ℕ) (c : Connection) (change : NameChange) (cs : List Connection) → binding (connections_named c change cs) seat ≡ binding cs seat
 named_bound seat c NamesStay cs = refl
 named_bound seat c (Names naming) cs = binding-named seat c.seat naming cs
+named_bound seat c (Temps change) cs = binding-temps seat c.seat change cs
 
 settled_bound : (s : State) (c : Connection) (v : Option NodeVerdict) (seat : ℕ) → bound (settled_on_node s c v).0 seat ≡ bound s seat
 settled_bound s c None seat = refl

@@ -26,16 +26,16 @@ use Rattle.portal_model.specs.Rows.{permissions_of, stored_rows, with_row, witho
 use Rattle.portal_model.specs.State.{State, is_none}
 use Rattle.portal_model.specs.Store.{becomes, becomes_if_told, can_be_told, change_of, entry_of, entry_to_set, has_row, new_entry, or_new, put_entry, store_call, with_entry, with_permissions, without_entry, without_permissions}
 use Rattle.portal_model.specs.StoreRequest.{are_data, are_store_arguments, data_of, own_table, store_allowed, store_request, store_verdict, table_of, tell_hosts, tell_kept, texts_of, texts_of_row, told_change}
-use Rattle.portal_model.specs.Valid.{Valid, has_entry_texts, has_no_temps, has_texts, is_bound_connection, is_caller, is_host_bus, is_sound_change, is_sound_connection, is_text, is_valid_entry}
+use Rattle.portal_model.specs.Valid.{Valid, has_entry_texts, has_texts, is_caller, is_host_bus, is_sound_change, is_sound_connection, is_text, is_valid_entry}
 use Rattle.portal_model.specs.Verdict.{Doing, Verdict, unless}
 use Rattle.portal_model.proofs.DocumentChanges.{both, first_of_both, second_of_both}
 use Rattle.portal_model.proofs.EntriesKept.{differ-put, differ-without, found-passes, pass-put, pass-without}
 use Rattle.portal_model.proofs.FewerRows.{fewer-told}
 use Rattle.portal_model.proofs.OpenHandles.{Alike, mapped-handles}
-use Rattle.portal_model.proofs.NamesValid.{names-mapped}
-use Rattle.portal_model.proofs.Queues.{is_sound_queue, seats, sound_bound, sound_no_temps}
+use Rattle.portal_model.proofs.Queues.{is_sound_queue, seats}
 use Rattle.portal_model.proofs.RowTexts.{have_texts, stored-texts, with-texts, without-texts}
-use Rattle.portal_model.proofs.SoundParts.{Valid-connections, Valid-entries, valid-handles}
+use Rattle.portal_model.proofs.SeatsValid.{SameNames, seats-mapped}
+use Rattle.portal_model.proofs.SoundParts.{Valid-connections, Valid-entries, valid-handles, valid-seats}
 use Rattle.portal_model.proofs.WalkDoings.{IfDoes, if-passes}
 
 -- ---- a change that hosts wait for
@@ -63,15 +63,13 @@ told_one queued change c true e k h =
     let waits = is_none c.unsent || is_host_bus c.who c.kind in
     let changes = list_all is_sound_change c.unsent in
     let queue = is_sound_queue queued c.queue in
-    let bound = sound_bound queued c h in
-    let behind = second_of_both (is_caller c.who) (waits && (changes && queue)) bound in
+    let behind = second_of_both (is_caller c.who) (waits && (changes && queue)) h in
     let later = second_of_both waits (changes && queue) behind in
     let more : list_all is_sound_change (c.unsent ++ change ∷ []) ≡ true =
     list_all-append is_sound_change c.unsent (change ∷ []) ∙ both changes (is_sound_change change && true) (first_of_both changes queue later) (both (is_sound_change change) true k refl) in
-    both (has_no_temps c) (is_bound_connection queued (record c { unsent = c.unsent ++ change ∷ [] })) (sound_no_temps queued c h)
-    (both (is_caller c.who) ((is_none (c.unsent ++ change ∷ []) || is_host_bus c.who c.kind) && (list_all is_sound_change (c.unsent ++ change ∷ []) && queue)) (first_of_both (is_caller c.who) (waits && (changes && queue)) bound)
+    both (is_caller c.who) ((is_none (c.unsent ++ change ∷ []) || is_host_bus c.who c.kind) && (list_all is_sound_change (c.unsent ++ change ∷ []) && queue)) (first_of_both (is_caller c.who) (waits && (changes && queue)) h)
     (both (is_none (c.unsent ++ change ∷ []) || is_host_bus c.who c.kind) (list_all is_sound_change (c.unsent ++ change ∷ []) && queue) (or_second (is_none (c.unsent ++ change ∷ [])) (is_host_bus c.who c.kind) e)
-    (both (list_all is_sound_change (c.unsent ++ change ∷ [])) queue more (second_of_both changes queue later))))
+    (both (list_all is_sound_change (c.unsent ++ change ∷ [])) queue more (second_of_both changes queue later)))
 told_one queued change c false e k h = h
 
 told_sound : (queued : ℕ) (change : Change) (cs : List Connection) → is_sound_change change ≡ true → list_all (is_sound_connection queued) cs ≡ true → list_all (is_sound_connection queued) (map (told_change change) cs) ≡ true
@@ -81,14 +79,17 @@ told_sound queued change (c ∷ cs) k h =
     (told_one queued change c (is_host_bus c.who c.kind) refl k (first_of_both (is_sound_connection queued c) (list_all (is_sound_connection queued) cs) h))
     (told_sound queued change cs k (second_of_both (is_sound_connection queued c) (list_all (is_sound_connection queued) cs) h))
 
-change_names : (change : Change) (c : Connection) → (told_change change c).namings ≡ c.namings
-change_names change c = elim (is_host_bus c.who c.kind) as (λ b. (cond b (record c { unsent = c.unsent ++ change ∷ [] }) c).namings ≡ c.namings) [ true ↦ refl | false ↦ refl ]
+change_same : (change : Change) (c : Connection) → SameNames c (told_change change c)
+change_same change c = elim (is_host_bus c.who c.kind) as (λ b. SameNames c (cond b (record c { unsent = c.unsent ++ change ∷ [] }) c)) [
+  | true ↦ record { namings = refl; temps = refl; added = refl; who = refl }
+  | false ↦ record { namings = refl; temps = refl; added = refl; who = refl }
+]
 
 pub told-valid : (s : State) (change : Change) → Valid s → is_sound_change change ≡ true → Valid (tell_hosts change s)
 told-valid s change v k = Valid-connections s (map (told_change change) s.connections) v
     (subst (IsDistinct nat_eq) (sym (told_seats change s.connections)) v.seats_differ, told_sound s.limits.queued change s.connections k v.connections_sound)
     (mapped-handles (told_change change) (told_alike change) s.limits.handles s.connections s.handles (valid-handles s v))
-    (names-mapped s.made s.documents (told_change change) (change_names change) s.connections v.namings_sound)
+    (seats-mapped s.made s.documents s.told s.taken (told_change change) (change_same change) s.connections (valid-seats s v))
 
 -- ---- the byte 0 is data
 

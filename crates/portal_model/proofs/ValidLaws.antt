@@ -6,13 +6,15 @@ use Rattle.std.proofs.lemmas.List.Folds.{list_all-append}
 use Rattle.std.proofs.lemmas.Cmp.{nat_eq_equiv}
 use Rattle.std.proofs.lemmas.Map.Keys.{IsDistinct-push}
 use Rattle.portal_base.specs.Names.{is_app_name, is_same}
-use Rattle.portal_base.specs.declared.files.File.{File}
+use Rattle.file_generations.specs.Generations.{Held}
 use Rattle.portal_base.specs.declared.names.doc_id.DocId.{DocId}
 use Rattle.portal_base.specs.declared.who.Kind.{Kind}
 use Rattle.portal_base.specs.declared.who.Who.{Who}
 use Rattle.portal_model.specs.declared.entry.Entry.{Entry}
 use Rattle.portal_model.specs.declared.entry.Fault.{Fault}
 use Rattle.portal_model.specs.declared.entry.Given.{Given}
+use Rattle.portal_model.specs.declared.handle.OpenHandle.{OpenHandle}
+use Rattle.portal_model.specs.declared.opening.TakenGeneration.{TakenGeneration}
 use Rattle.portal_model.specs.declared.reply.Answer.{Answer}
 use Rattle.portal_model.specs.declared.reply.Code.{Code}
 use Rattle.portal_model.specs.declared.request.AddRequest.{AddRequest}
@@ -28,13 +30,14 @@ use Rattle.portal_model.specs.Enter.{entered, new_connection}
 use Rattle.portal_model.specs.History.{run, EachLawful, Legal}
 use Rattle.portal_model.specs.Info.{info, info_of}
 use Rattle.portal_model.specs.Lawful.{Lawful, LawfulGiven, LawfulOnBus, LawfulOnNode}
-use Rattle.portal_model.specs.Leave.{left, of_others}
+use Rattle.portal_model.specs.Leave.{handles_left, left, of_others}
 use Rattle.portal_model.specs.ListDocuments.{documents_listed, list_documents}
 use Rattle.portal_model.specs.LookupDocument.{lookup_document, text_of}
 use Rattle.portal_model.specs.Outside.{AreDrawn, LawfulBus, files_told, meets_limit, verdict_of, words_drawn}
 use Rattle.portal_model.specs.Place.{sight_on}
 use Rattle.portal_model.specs.Present.{requeued, with_queue}
-use Rattle.portal_model.specs.State.{State, connection_of}
+use Rattle.portal_model.specs.SoundGenerations.{has_taken_handle, has_taken_temps}
+use Rattle.portal_model.specs.State.{State, connection_of, held_in}
 use Rattle.portal_model.specs.Step.{after, all_told, bus_of, bus_step, collect_step, is_mount, told_of, node_step, request_step, mount_of}
 use Rattle.portal_model.specs.Valid.{Valid, is_caller, is_sound_connection}
 use Rattle.portal_model.specs.Verdict.{Doing, Verdict, Refuses, Does, does}
@@ -47,12 +50,13 @@ use Rattle.portal_model.proofs.ListLookups.{found_in_all, found_passes, nat_is}
 use Rattle.portal_model.proofs.GrantValid.{grant-valid}
 use Rattle.portal_model.proofs.PresentValid.{present-valid}
 use Rattle.portal_model.proofs.MadeHandles.{left-made}
-use Rattle.portal_model.proofs.NamesValid.{names-entered, names-filtered, names-found, names-mapped, requeued_names, told_names}
-use Rattle.portal_model.proofs.NodeValid.{IsSoundSight, node-valid, place-sound}
+use Rattle.portal_model.proofs.NamesValid.{names-found}
+use Rattle.portal_model.proofs.NodeValid.{IsSoundSight, node-valid, place-sound, asking_in}
 use Rattle.portal_model.proofs.OpenHandles.{entered-handles, left-handles, requeued-handles, told-handles}
 use Rattle.portal_model.proofs.Queues.{caller_sound, dropped-connections, found_told, seats}
 use Rattle.portal_model.proofs.RevokeValid.{revoke-valid}
-use Rattle.portal_model.proofs.SoundParts.{AreSoundNames, SoundConnections, Valid-connections, Valid-open, valid-files, valid-handles}
+use Rattle.portal_model.proofs.SeatsValid.{requeued_same, seats-entered, seats-filtered, seats-mapped, temps-found, told_same}
+use Rattle.portal_model.proofs.SoundParts.{SoundConnections, SoundSeats, Valid-connections, Valid-open, valid-files, valid-handles, valid-seats}
 use Rattle.portal_model.proofs.StoreValid.{store-valid}
 
 -- ---- Enter
@@ -94,13 +98,18 @@ left_sound seat queued cs (Some c) k = (
 
 -- ---- what was named on them
 
-entered_names : (seat : ℕ) (who : Who) (kind : Kind) (made : List DocId) (ds : List Document) (cs : List Connection) (o : Option Connection) → AreSoundNames made ds cs → AreSoundNames made ds (entered seat who kind cs o)
-entered_names seat who kind made ds cs None h = names-entered made ds cs (new_connection seat who kind) refl h
-entered_names seat who kind made ds cs (Some c) h = h
+entered_names : (seat : ℕ) (who : Who) (kind : Kind) (s : State) (o : Option Connection) → SoundSeats s.made s.documents s.told s.taken s.connections → SoundSeats s.made s.documents s.told s.taken (entered seat who kind s.connections o)
+entered_names seat who kind s None h = seats-entered s.made s.documents s.told s.taken s.connections (new_connection seat who kind) refl refl (omega arith) h
+entered_names seat who kind s (Some c) h = h
 
-left_names : (seat : ℕ) (made : List DocId) (ds : List Document) (cs : List Connection) (o : Option Connection) → AreSoundNames made ds cs → AreSoundNames made ds (left seat cs o)
-left_names seat made ds cs None h = h
-left_names seat made ds cs (Some c) h = names-filtered made ds (λ (d : Connection). not (d.seat == seat)) cs h
+left_names : (seat : ℕ) (s : State) (o : Option Connection) → SoundSeats s.made s.documents s.told s.taken s.connections → SoundSeats s.made s.documents s.told s.taken (left seat s.connections o)
+left_names seat s None h = h
+left_names seat s (Some c) h = seats-filtered s.made s.documents s.told s.taken (λ (d : Connection). not (d.seat == seat)) s.connections h
+
+-- and what they have open
+left_taken : (told : Bool) (taken : List TakenGeneration) (seat : ℕ) (hs : List OpenHandle) (o : Option Connection) → list_all (has_taken_handle told taken) hs ≡ true → list_all (has_taken_handle told taken) (handles_left seat hs o) ≡ true
+left_taken told taken seat hs None h = h
+left_taken told taken seat hs (Some c) h = list_all-filter (has_taken_handle told taken) _ hs h
 
 -- ---- what is told
 
@@ -123,7 +132,7 @@ pub all_told-Valid : (s : State) (seat : ℕ) → Valid s → Valid (all_told se
 all_told-Valid s seat v = Valid-connections s (map (told_of seat) s.connections) v
     (subst (IsDistinct nat_eq) (sym (told_seats seat s.connections)) v.seats_differ, told_sound s.limits.queued seat s.connections v.connections_sound)
     (told-handles seat s.limits.handles s.connections s.handles (valid-handles s v))
-    (names-mapped s.made s.documents (told_of seat) (told_names seat) s.connections v.namings_sound)
+    (seats-mapped s.made s.documents s.told s.taken (told_of seat) (told_same seat) s.connections (valid-seats s v))
 
 -- ---- a step
 
@@ -160,7 +169,7 @@ module _ (s : State) (c found : Connection) (numbers : List DocId) (f : connecti
   list-valid (Who.App caller) app = tt
   list-valid Who.Host app = if-passes P (is_same app [] || is_app_name app) Code.InvalidArgument (does s (Answer.Listed (documents_listed s app))) (λ named. λ e l u. v)
 
-  abbrev tree : Option (List File)
+  abbrev tree : Option Held
   tree = files_told s
 
   walk-valid : (request : Request) → OnTree tree P (bus_walk s c request numbers)
@@ -181,7 +190,7 @@ module _ (s : State) (c found : Connection) (numbers : List DocId) (f : connecti
   taken-valid : (a : AddRequest) (b : Bool) → Valid (cond b (with_queue c.seat (drop a.fds) s) s)
   taken-valid a true = Valid-connections s _ v (dropped-connections s.limits.queued c.seat a.fds s.connections (v.seats_differ, v.connections_sound))
       (requeued-handles c.seat s.limits.handles (drop a.fds) s.connections s.handles (valid-handles s v))
-      (names-mapped s.made s.documents (requeued c.seat (drop a.fds)) (requeued_names c.seat (drop a.fds)) s.connections v.namings_sound)
+      (seats-mapped s.made s.documents s.told s.taken (requeued c.seat (drop a.fds)) (requeued_same c.seat (drop a.fds)) s.connections (valid-seats s v))
   taken-valid a false = v
 
   refused-valid : (request : Request) → Valid (refused_state s c request)
@@ -242,22 +251,32 @@ node_step-Valid s seat r given (Some c) e v l =
     let there = mount_is (connection_of s.connections seat) c e in
     let own : c.seat ≡ seat = nat_is c.seat seat (found_passes (λ (x : Connection). x.seat == seat) s.connections c there.0) in
     let here : connection_of s.connections c.seat ≡ Some c = subst (λ (n : ℕ). connection_of s.connections n ≡ Some c) (sym own) there.0 in
-    node-valid (all_told c.seat s) c (record c { unsent = [] }) (found_told c.seat c s.connections here) refl refl refl there.1 (all_told-Valid s c.seat v) r given l
+    node-valid (all_told c.seat s) c (record c { unsent = [] }) (found_told c.seat c s.connections here)
+    (record { opens = refl; who = refl; namings = refl; temps = refl; added = refl; mount = there.1 }) (all_told-Valid s c.seat v) r given l
 
 -- what the connection of a seat sees
-pub told-sight : (s : State) (seat : ℕ) (c : Connection) → connection_of s.connections seat ≡ Some c → Valid s → (node : ℕ) → IsSoundSight (record { who = c.who; made = s.made; documents = s.documents }) node (sight_on (all_told c.seat s) c node)
-told-sight s seat c e v node = place-sound (all_told c.seat s) (all_told-Valid s c.seat v) c node (names-found s.made s.documents seat s.connections c e v.namings_sound)
+pub told-sight : (s : State) (seat : ℕ) (c : Connection) → connection_of s.connections seat ≡ Some c → Valid s → (node : ℕ) → IsSoundSight (asking_in s c.who) node (sight_on (all_told c.seat s) c node)
+told-sight s seat c e v node =
+    place-sound (all_told c.seat s) (all_told-Valid s c.seat v) c node (names-found s.made s.documents seat s.connections c e v.namings_sound) (temps-found s.made s.documents seat s.connections c e v.temps_sound)
+    (found_in_all (λ (x : Connection). x.seat == seat) (has_taken_temps s.told s.taken) s.connections c e v.temps_taken)
 
 request_step-Valid : (s : State) (seat : ℕ) (request : Request) (given : Given) → LawfulGiven s seat request given → Valid s → Valid (request_step s seat request given).0
 request_step-Valid s seat (Request.Enter who kind) given l v =
     Valid-connections s _ v (entered_sound seat who kind s.limits.queued l.0 s.connections (connection_of s.connections seat) refl (v.seats_differ, v.connections_sound))
     (entered-handles seat s.limits.handles who kind s.connections s.handles (connection_of s.connections seat) refl (valid-handles s v))
-    (entered_names seat who kind s.made s.documents s.connections (connection_of s.connections seat) v.namings_sound)
+    (entered_names seat who kind s (connection_of s.connections seat) (valid-seats s v))
 request_step-Valid s seat Request.Leave given l v =
-    Valid-open s _ _ s.files v (left_sound seat s.limits.queued s.connections (connection_of s.connections seat) (v.seats_differ, v.connections_sound))
-    (left-handles seat s.limits.handles s.connections s.handles (connection_of s.connections seat) (valid-handles s v))
-    (left-made s.made seat s.handles (connection_of s.connections seat) v.handles_made) (valid-files s v)
-    (left_names seat s.made s.documents s.connections (connection_of s.connections seat) v.namings_sound) v.folders_sound
+    let gone : Option Connection = connection_of s.connections seat in
+    Valid-open s _ _ (held_in s) s.taken v (left_sound seat s.limits.queued s.connections gone (v.seats_differ, v.connections_sound))
+    (left-handles seat s.limits.handles s.connections s.handles gone (valid-handles s v))
+    (record {
+      made = left-made s.made seat s.handles gone v.handles_made;
+      handles_taken = left_taken s.told s.taken seat s.handles gone v.handles_taken;
+      files = valid-files s v;
+      generations = v.generations_sound;
+      seats = left_names seat s gone (valid-seats s v);
+      folders = v.folders_sound;
+    })
 request_step-Valid s seat Request.Collect given l v = collect_step-Valid s (bus_of (connection_of s.connections seat)) v
 request_step-Valid s seat (Request.Node r) given l v = node_step-Valid s seat r given (mount_of (connection_of s.connections seat)) refl v l
 request_step-Valid s seat (Request.Present path) given l v = bus_step-Valid s seat (Request.Present path) given (bus_of (connection_of s.connections seat)) refl v l

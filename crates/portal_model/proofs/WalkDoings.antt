@@ -1,6 +1,6 @@
 -- What is true of all that a walk may do, where it is true whatever the looks show.
 use Rattle.std.proofs.Common.{◌≡◌, ℕ, List, [], ◌∷◌, Bool, true, false, not, Option, Some, None, refl}
-use Rattle.portal_base.specs.declared.files.File.{File}
+use Rattle.file_generations.specs.Generations.{Held}
 use Rattle.portal_base.specs.declared.files.Look.{Look}
 use Rattle.portal_model.specs.declared.reply.Code.{Code}
 use Rattle.portal_model.specs.Verdict.{Doing, Verdict, Refuses, Does, unless, walk_unless}
@@ -47,13 +47,13 @@ module _ (P : Doing → Type 0) where
 -- ---- by what the tree may have shown
 
 -- what it showed at paths one after another
-abbrev pub AreShown : Option (List File) → List (List ℕ) → List Look → Type 0
+abbrev pub AreShown : Option Held → List (List ℕ) → List Look → Type 0
 AreShown tree [] [] = Unit {0}
 AreShown tree [] (look ∷ looks) = ⊥
 AreShown tree (path ∷ paths) [] = ⊥
 AreShown tree (path ∷ paths) (look ∷ looks) = IsShown tree (AtPath path) look × AreShown tree paths looks
 
-module _ (tree : Option (List File)) (P : Doing → Type 0) where
+module _ (tree : Option Held) (P : Doing → Type 0) where
   abbrev pub OnTree : Walk Verdict → Type 0
   OnTree (Answers v) = IfDoes P v
   OnTree (Looks target next) = (look : Look) → IsShown tree target look → OnTree (next look)

@@ -14,7 +14,7 @@ use Rattle.portal_model.specs.Step.{all_told, node_step, told_of, with_signals}
 use Rattle.portal_model.specs.Valid.{Valid, is_caller, is_host_bus, is_none, is_sound_change, is_sound_connection}
 use Rattle.portal_model.proofs.DocumentChanges.{first_of_both, second_of_both}
 use Rattle.portal_model.proofs.ListLookups.{found_in_all, found_passes, nat_is}
-use Rattle.portal_model.proofs.Queues.{is_sound_queue, seats, sound_bound}
+use Rattle.portal_model.proofs.Queues.{is_sound_queue, seats}
 
 pub none-nil : {X : Type 0} (xs : List X) → is_none xs ≡ true → xs ≡ []
 none-nil [] e = refl
@@ -29,7 +29,7 @@ pub quiet-nil : (queued : ℕ) (c : Connection) → is_sound_connection queued c
 quiet-nil queued c h n =
     let waits = is_none c.unsent || is_host_bus c.who c.kind in
     let rest = list_all is_sound_change c.unsent && is_sound_queue queued c.queue in
-    let either : (is_none c.unsent || is_host_bus c.who c.kind) ≡ true = first_of_both waits rest (second_of_both (is_caller c.who) (waits && rest) (sound_bound queued c h)) in
+    let either : (is_none c.unsent || is_host_bus c.who c.kind) ≡ true = first_of_both waits rest (second_of_both (is_caller c.who) (waits && rest) h) in
     none-nil c.unsent (either_first (is_none c.unsent) (is_host_bus c.who c.kind) either n)
 
 -- the open one of a seat

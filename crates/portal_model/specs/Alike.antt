@@ -60,6 +60,8 @@ NodeAlike NodeOp.OpenDir stepped given = given ≡ stepped
 NodeAlike (NodeOp.ReadDir fh offset size) stepped given = given ≡ stepped
 NodeAlike (NodeOp.ReleaseDir fh) stepped given = given ≡ stepped
 NodeAlike (NodeOp.Access mask) stepped given = given ≡ stepped
+NodeAlike (NodeOp.Rename new_parent flags old_name new_name) stepped given = given ≡ stepped
+NodeAlike (NodeOp.Unlink name) stepped given = given ≡ stepped
 
 -- the answers to a request
 abbrev pub AnswersAlike : Request → Answer → Answer → Type 0

@@ -1,6 +1,7 @@
 -- What a seat may ask: what is allowed is done, where no device fails and no limit is met.
-use Rattle.std.specs.Prelude.{ℕ, ◌+◌, List, [], map, Bool, true, false, not, ◌&&◌, ◌||◌, length, nat_lt, Option, Some, None, is_some, cond}
-use Rattle.portal_base.specs.Content.{file_named, has_room}
+use Rattle.std.specs.Prelude.{ℕ, ◌+◌, ◌==◌, List, [], map, Bool, true, false, not, ◌&&◌, ◌||◌, length, nat_lt, Option, Some, None, is_some, cond}
+use Rattle.portal_base.specs.Content.{has_room}
+use Rattle.file_generations.specs.Generations.{is_held, may_freshen, may_turn}
 use Rattle.portal_base.specs.Names.{is_app_name, is_same, name_of, named_child}
 use Rattle.portal_base.specs.declared.files.FileName.{FileName}
 use Rattle.portal_base.specs.declared.files.Look.{Look}
@@ -18,27 +19,30 @@ use Rattle.portal_model.specs.declared.rights.Right.TheVariants.{Delete, GrantPe
 use Rattle.portal_model.specs.declared.state.Connection.{Connection}
 use Rattle.portal_model.specs.declared.state.Document.{Document}
 use Rattle.portal_model.specs.declared.store.StoreCall.{StoreCall}
+use Rattle.portal_model.specs.declared.temporary.OwnTemp.{OwnTemp}
 use Rattle.portal_model.specs.Access.{executes, writes_to}
 use Rattle.portal_model.specs.Add.{are_of_kind, is_file, is_folder_look, may_list_all}
 use Rattle.portal_model.specs.AddArguments.{are_add_arguments, are_presented, document_paths, paths_shown}
 use Rattle.portal_model.specs.Arguments.{ahead_of_end, document_named, is_ended_path}
 use Rattle.portal_model.specs.Attributes.{is_writable}
 use Rattle.portal_model.specs.Content.{look_at}
+use Rattle.portal_model.specs.Create.{next_file}
 use Rattle.portal_model.specs.GetAttr.{names_handle}
 use Rattle.portal_model.specs.Grant.{are_rights_arguments, may_grant}
 use Rattle.portal_model.specs.Lookup.{naming_in, named_in_root, named_in_views}
-use Rattle.portal_model.specs.Node.{room_of}
-use Rattle.portal_model.specs.NodeVerdict.{is_too_long}
+use Rattle.portal_model.specs.Node.{room_of, temps_seen}
+use Rattle.portal_model.specs.NodeVerdict.{is_too_long, is_dots}
 use Rattle.portal_model.specs.Open.{has_no_mode, opens_to_write}
-use Rattle.portal_model.specs.Place.{Folder, RootOf, Views, FolderOf, Exported, Sight, SightOfFile, SightBelow, SightOfFolder, reach_at, sight_on}
+use Rattle.portal_model.specs.Place.{Folder, RootOf, Views, FolderOf, Exported, Sight, SightOfFile, SightOfTemp, SightBelow, SightOfFolder, reach_at, sight_on}
 use Rattle.portal_model.specs.Present.{may_present}
 use Rattle.portal_model.specs.Reach.{OpenFile, Reaching, may_read_now, may_write_now, open_file_of, reaches}
 use Rattle.portal_model.specs.Read.{read_limit}
+use Rattle.portal_model.specs.Rename.{Home, RenameCall, are_too_long, home_of, is_own_name, rename_call, same_home, temp_at}
 use Rattle.portal_model.specs.Revoke.{names_itself}
 use Rattle.portal_model.specs.Rights.{held_by}
-use Rattle.portal_model.specs.SeatNames.{lacks_number}
+use Rattle.portal_model.specs.SeatNames.{SeatTemps, found_temp, lacks_number, lacks_temp}
 use Rattle.portal_model.specs.SetAttr.{sets_by_handle, sets_owner_or_mode, sets_size}
-use Rattle.portal_model.specs.State.{State, connection_of, handle_of, is_host, who_has}
+use Rattle.portal_model.specs.State.{State, connection_of, handle_of, held_in, is_host, who_has}
 use Rattle.portal_model.specs.Store.{store_call}
 use Rattle.portal_model.specs.StoreRequest.{may_call, store_too_long}
 use Rattle.portal_model.specs.Step.{bus_of, mount_of}
@@ -130,7 +134,7 @@ abbrev pub has_file : State → List ℕ → Bool
 has_file s path = is_file (look_at s.files path)
 
 abbrev pub has_named : State → FileName → Bool
-has_named s name = is_some (file_named s.files name)
+has_named s name = is_held (held_in s) name
 
 -- what is at a path, where the tree tells
 abbrev pub look_told : State → List ℕ → Look
@@ -146,6 +150,7 @@ at_look file folder may_write here Look.Missing = false
 abbrev pub at_sight : State → (Bool → Bool) → (Folder → Bool) → Option Sight → Bool
 at_sight s file folder None = false
 at_sight s file folder (Some (SightOfFile d may_write)) = has_file s d.path && file may_write
+at_sight s file folder (Some (SightOfTemp d name may_write)) = has_named s name && file may_write
 at_sight s file folder (Some (SightBelow view d path may_write)) =
     at_look file folder may_write (Exported view d path may_write) (look_told s path)
 at_sight s file folder (Some (SightOfFolder f)) = folder f
@@ -177,13 +182,19 @@ abbrev pub has_path : State → Option (List ℕ) → Bool
 has_path s None = false
 has_path s (Some path) = not (is_missing (look_told s path))
 
-abbrev pub has_child : State → List ℕ → Folder → Bool
-has_child s name (RootOf view numbers has_views) =
+-- a temporary whose file is there
+abbrev pub has_temp : State → Option OwnTemp → Bool
+has_temp s None = false
+has_temp s (Some t) = has_named s t.temp.file
+
+abbrev pub has_child : State → List OwnTemp → List ℕ → Folder → Bool
+has_child s temps name (RootOf view numbers has_views) =
     is_some (named_in_root view numbers has_views name)
-has_child s name (Views applications) = is_some (named_in_views applications name)
-has_child s name (FolderOf view d may_write) =
-    is_same name (name_of d.path) && has_document s d
-has_child s name (Exported view d path may_write) = has_path s (named_child path name)
+has_child s temps name (Views applications) = is_some (named_in_views applications name)
+has_child s temps name (FolderOf view d may_write) =
+    cond (is_same name (name_of d.path)) (has_document s d)
+    (has_temp s (found_temp temps view d.id name))
+has_child s temps name (Exported view d path may_write) = has_path s (named_child path name)
 
 -- nothing is there, and the parent is a folder
 abbrev pub is_free : State → List ℕ → Bool
@@ -193,12 +204,21 @@ abbrev pub is_free_child : State → Option (List ℕ) → Bool
 is_free_child s None = false
 is_free_child s (Some path) = is_free s path
 
-abbrev pub may_create_in : State → List ℕ → Folder → Bool
-may_create_in s name (RootOf view numbers has_views) = false
-may_create_in s name (Views applications) = false
-may_create_in s name (FolderOf view d may_write) =
-    is_same name (name_of d.path) && (may_write && is_free s d.path)
-may_create_in s name (Exported view d path may_write) =
+-- another name than the document's is a temporary's, where there is none of it yet
+abbrev pub may_begin : State → SeatTemps → List ℕ → ℕ → Document → Bool
+may_begin s temps name view d =
+    not d.folder
+    && (not (is_dots name)
+    && (not (is_some (found_temp temps.temps view d.id name))
+    && may_freshen (held_in s) (next_file temps d)))
+
+abbrev pub may_create_in : State → SeatTemps → List ℕ → Folder → Bool
+may_create_in s temps name (RootOf view numbers has_views) = false
+may_create_in s temps name (Views applications) = false
+may_create_in s temps name (FolderOf view d may_write) =
+    may_write
+    && cond (is_same name (name_of d.path)) (is_free s d.path) (may_begin s temps name view d)
+may_create_in s temps name (Exported view d path may_write) =
     may_write && is_free_child s (named_child path name)
 
 abbrev pub never : {X : Type 0} → X → Bool
@@ -250,39 +270,90 @@ may_write_to s reach content (Some (Handle.File name node document strict read w
     && (is_none content || has_named s name)
 may_write_to s reach content (Some (Handle.Folder node names)) = false
 
+-- a temporary gets another name, or becomes the document's file
+abbrev pub may_rename_to : State → Home → List ℕ → OwnTemp → Bool
+may_rename_to s h name t =
+    not (is_dots name) && (not (is_own_name h name) || may_turn (held_in s) t.temp.file)
+
+abbrev pub may_rename_temp : State → Home → List ℕ → Option OwnTemp → Bool
+may_rename_temp s h name None = false
+may_rename_temp s h name (Some t) = h.may_write && may_rename_to s h name t
+
+abbrev pub may_rename_at : State → RenameCall → List OwnTemp → Home → Bool
+may_rename_at s call temps h =
+    not (is_own_name h call.old_name)
+    && may_rename_temp s h call.new_name (temp_at temps h call.old_name)
+
+abbrev pub may_rename_in :
+    State → RenameCall → List OwnTemp → Option Home → Option Home → Bool
+may_rename_in s call temps None second = false
+may_rename_in s call temps (Some first) None = false
+may_rename_in s call temps (Some first) (Some second) =
+    same_home first second && may_rename_at s call temps first
+
+abbrev pub may_rename_from :
+    State → RenameCall → List OwnTemp → Option Sight → Folder → Bool
+may_rename_from s call temps new_sight first =
+    at_sight s never (λ second. may_rename_in s call temps (home_of first) (home_of second))
+    new_sight
+
+abbrev pub may_rename :
+    State → RenameCall → List OwnTemp → Option Sight → Option Sight → Bool
+may_rename s call temps sight new_sight =
+    (call.flags == 0)
+    && (not (are_too_long call)
+    && at_sight s never (may_rename_from s call temps new_sight) sight)
+
+abbrev pub may_unlink_in : List ℕ → List OwnTemp → Option Home → Bool
+may_unlink_in name temps None = false
+may_unlink_in name temps (Some h) =
+    not (is_own_name h name) && (h.may_write && is_some (temp_at temps h name))
+
+abbrev pub may_unlink : State → List ℕ → List OwnTemp → Option Sight → Bool
+may_unlink s name temps sight =
+    not (is_too_long name)
+    && at_sight s never (λ folder. may_unlink_in name temps (home_of folder)) sight
+
 abbrev pub may_ask_at :
-    State → Reaching → NodeOp → Option Sight → (ℕ → Option Handle) → Bool
-may_ask_at s reach (NodeOp.Lookup name) sight handle =
-    not (is_too_long name) && at_sight s never (has_child s name) sight
-may_ask_at s reach (NodeOp.Forget count) sight handle = true
-may_ask_at s reach (NodeOp.BatchForget nodes) sight handle = true
-may_ask_at s reach (NodeOp.GetAttr flags fh) sight handle =
+    State → Reaching → SeatTemps → NodeOp → (ℕ → Option Sight) → Option Sight
+    → (ℕ → Option Handle) → Bool
+may_ask_at s reach temps (NodeOp.Lookup name) sight_of sight handle =
+    not (is_too_long name) && at_sight s never (has_child s temps.temps name) sight
+may_ask_at s reach temps (NodeOp.Forget count) sight_of sight handle = true
+may_ask_at s reach temps (NodeOp.BatchForget nodes) sight_of sight handle = true
+may_ask_at s reach temps (NodeOp.GetAttr flags fh) sight_of sight handle =
     may_get_attr s reach (names_handle flags) sight (handle fh)
-may_ask_at s reach (NodeOp.SetAttr valid fh size) sight handle =
+may_ask_at s reach temps (NodeOp.SetAttr valid fh size) sight_of sight handle =
     may_set_attr s reach valid sight (handle fh)
-may_ask_at s reach (NodeOp.Open flags) sight handle =
+may_ask_at s reach temps (NodeOp.Open flags) sight_of sight handle =
     not (has_no_mode flags)
     && at_sight s (λ may_write. not (opens_to_write flags) || may_write) never sight
-may_ask_at s reach (NodeOp.Create name flags) sight handle =
+may_ask_at s reach temps (NodeOp.Create name flags) sight_of sight handle =
     not (has_no_mode flags)
-    && (not (is_too_long name) && at_sight s never (may_create_in s name) sight)
-may_ask_at s reach (NodeOp.Read fh offset size) sight handle =
+    && (not (is_too_long name) && at_sight s never (may_create_in s temps name) sight)
+may_ask_at s reach temps (NodeOp.Read fh offset size) sight_of sight handle =
     not (nat_lt read_limit size) && on_handle s (may_read_now reach) (handle fh)
-may_ask_at s reach (NodeOp.Write fh offset content) sight handle =
+may_ask_at s reach temps (NodeOp.Write fh offset content) sight_of sight handle =
     not (nat_lt write_limit (length content)) && may_write_to s reach content (handle fh)
-may_ask_at s reach (NodeOp.Flush fh) sight handle = is_file_handle (handle fh)
-may_ask_at s reach (NodeOp.Fsync fh) sight handle = on_handle s always (handle fh)
-may_ask_at s reach (NodeOp.Release fh) sight handle = is_file_handle (handle fh)
-may_ask_at s reach NodeOp.OpenDir sight handle = at_sight s never (may_list s) sight
-may_ask_at s reach (NodeOp.ReadDir fh offset size) sight handle =
+may_ask_at s reach temps (NodeOp.Flush fh) sight_of sight handle = is_file_handle (handle fh)
+may_ask_at s reach temps (NodeOp.Fsync fh) sight_of sight handle = on_handle s always (handle fh)
+may_ask_at s reach temps (NodeOp.Release fh) sight_of sight handle = is_file_handle (handle fh)
+may_ask_at s reach temps NodeOp.OpenDir sight_of sight handle = at_sight s never (may_list s) sight
+may_ask_at s reach temps (NodeOp.ReadDir fh offset size) sight_of sight handle =
     not (nat_lt read_limit size) && is_folder_handle (handle fh)
-may_ask_at s reach (NodeOp.ReleaseDir fh) sight handle = is_folder_handle (handle fh)
-may_ask_at s reach (NodeOp.Access mask) sight handle = may_access s mask sight
+may_ask_at s reach temps (NodeOp.ReleaseDir fh) sight_of sight handle =
+    is_folder_handle (handle fh)
+may_ask_at s reach temps (NodeOp.Access mask) sight_of sight handle = may_access s mask sight
+may_ask_at s reach temps (NodeOp.Rename new_parent flags old_name new_name) sight_of sight handle =
+    may_rename s (rename_call flags old_name new_name) temps.temps sight (sight_of new_parent)
+may_ask_at s reach temps (NodeOp.Unlink name) sight_of sight handle =
+    may_unlink s name temps.temps sight
 
 -- A request on a node of this connection, which is a mount.
 abbrev pub may_ask_node : State → Connection → NodeRequest → Bool
 may_ask_node s c r =
-    may_ask_at s (reach_at s c.who) r.op (sight_on s c r.node) (handle_of s.handles c.seat)
+    may_ask_at s (reach_at s c.who) (temps_seen s c) r.op (sight_on s c) (sight_on s c r.node)
+    (handle_of s.handles c.seat)
 
 -- a name below an exported folder has a number, or there is one left for it
 abbrev pub has_number : List Naming → ℕ → Document → Option (List ℕ) → Bool
@@ -299,16 +370,33 @@ folder_within namings name (Exported view d path may_write) =
 abbrev pub names_within : List Naming → List ℕ → Option Sight → Bool
 names_within namings name None = true
 names_within namings name (Some (SightOfFile d may_write)) = true
+names_within namings name (Some (SightOfTemp d file may_write)) = true
 names_within namings name (Some (SightBelow view d path may_write)) =
     folder_within namings name (Exported view d path may_write)
 names_within namings name (Some (SightOfFolder f)) = folder_within namings name f
 
--- no limit is met: those of open handles and of names below exported folders, and that of a file's
--- length
+-- in a document's folder a name is the document's, or that of one temporary more than there are
+abbrev pub temps_within_in : SeatTemps → List ℕ → Folder → Bool
+temps_within_in temps name (RootOf view numbers has_views) = true
+temps_within_in temps name (Views applications) = true
+temps_within_in temps name (FolderOf view d may_write) =
+    is_same name (name_of d.path) || not (lacks_temp temps)
+temps_within_in temps name (Exported view d path may_write) = true
+
+abbrev pub temps_within : SeatTemps → List ℕ → Option Sight → Bool
+temps_within temps name None = true
+temps_within temps name (Some (SightOfFile d may_write)) = true
+temps_within temps name (Some (SightOfTemp d file may_write)) = true
+temps_within temps name (Some (SightBelow view d path may_write)) = true
+temps_within temps name (Some (SightOfFolder f)) = temps_within_in temps name f
+
+-- no limit is met: those of open handles, of names below exported folders and of temporaries, and
+-- that of a file's length
 abbrev pub within_at : State → Connection → NodeOp → Option Sight → Bool
 within_at s c (NodeOp.Open flags) sight = not (room_of s c).full
 within_at s c (NodeOp.Create name flags) sight =
-    not (room_of s c).full && names_within c.namings name sight
+    not (room_of s c).full
+    && (names_within c.namings name sight && temps_within (temps_seen s c) name sight)
 within_at s c (NodeOp.Lookup name) sight = names_within c.namings name sight
 within_at s c NodeOp.OpenDir sight = not (room_of s c).full
 within_at s c (NodeOp.SetAttr valid fh size) sight =
@@ -325,6 +413,8 @@ within_at s c (NodeOp.Release fh) sight = true
 within_at s c (NodeOp.ReadDir fh offset size) sight = true
 within_at s c (NodeOp.ReleaseDir fh) sight = true
 within_at s c (NodeOp.Access mask) sight = true
+within_at s c (NodeOp.Rename new_parent flags old_name new_name) sight = true
+within_at s c (NodeOp.Unlink name) sight = true
 
 abbrev pub within : State → Connection → NodeRequest → Bool
 within s c r = within_at s c r.op (sight_on s c r.node)

@@ -23,7 +23,7 @@ use Rattle.portal_model.specs.History.{EachLawful, cost_of, run}
 use Rattle.portal_model.specs.Lawful.{Lawful}
 use Rattle.portal_model.specs.Opening.{id_of, opened}
 use Rattle.portal_model.specs.Outside.{meets_limit, verdict_of, walk_of, words_drawn}
-use Rattle.portal_model.specs.State.{State, connection_of}
+use Rattle.portal_model.specs.State.{State, connection_of, held_in}
 use Rattle.portal_model.specs.Step.{after, bus_of, reply_at}
 use Rattle.portal_model.specs.Valid.{applications_limit, is_numbered}
 use Rattle.portal_model.specs.Walk.{looks_shown}
@@ -124,7 +124,7 @@ pub record Due : Type 0 where
 abbrev pub due_on : State → Entry → Option Connection → Due
 due_on s e None = record { looks = []; words = 0; full = false }
 due_on s e (Some c) = record {
-  looks = looks_shown s.files (walk_of s c e.request e.given);
+  looks = looks_shown (held_in s) (walk_of s c e.request e.given);
   words = words_drawn (verdict_of s c e.request e.given);
   full = meets_limit (verdict_of s c e.request e.given);
 }

@@ -22,6 +22,9 @@ eacces = 13
 abbrev pub eexist : ℕ
 eexist = 17
 
+abbrev pub exdev : ℕ
+exdev = 18
+
 abbrev pub enotdir : ℕ
 enotdir = 20
 

@@ -21,9 +21,9 @@ use Rattle.portal_model.specs.Examples.{a_text, document, editor, enters, grant,
 use Rattle.portal_model.specs.History.{run}
 use Rattle.portal_model.specs.Node.{walk_on_node}
 use Rattle.portal_model.specs.Opening.{opened}
-use Rattle.portal_model.specs.State.{State, connection_of}
+use Rattle.portal_model.specs.State.{State, connection_of, held_in}
 use Rattle.portal_model.specs.Step.{after, all_told, looks_taken, mount_of, reply_at}
-use Rattle.portal_model.specs.Walk.{listed_shown, reads_clock}
+use Rattle.portal_model.specs.Walk.{generation_reached, listed_shown, reads_clock}
 
 -- ---- requests over a tree that tells, at the moment 7
 
@@ -51,12 +51,21 @@ moment_for s r looks (Some c) =
 -- the names of a folder, where the request lists it
 abbrev pub listed_for : State → NodeRequest → Option Connection → Option (List ChildName)
 listed_for s r None = None
-listed_for s r (Some c) = listed_shown s.files (walk_on_node (all_told c.seat s) c r)
+listed_for s r (Some c) = listed_shown (held_in s) (walk_on_node (all_told c.seat s) c r)
+
+-- and the generation of the file, where the request makes one beside the present ones
+abbrev pub generation_for : State → NodeRequest → List Look → Option Connection → Option ℕ
+generation_for s r looks None = None
+generation_for s r looks (Some c) =
+    generation_reached (walk_on_node (all_told c.seat s) c r) looks
 
 abbrev pub given_on : State → ℕ → NodeRequest → List Look → Given
 given_on s seat r looks =
     let o = mount_of (connection_of s.connections seat) in
-    record (shown looks (moment_for s r looks o)) { listed = listed_for s r o }
+    record (shown looks (moment_for s r looks o)) {
+      listed = listed_for s r o;
+      generation = generation_for s r looks o;
+    }
 
 -- a request on a node, with the looks that the tree shows
 abbrev pub asks_node : State → ℕ → ℕ → NodeOp → Entry
@@ -252,7 +261,9 @@ pub record Creating : Type 0 where
   pub creates : answer_to of_none 1 a_folder (NodeOp.Create b_name 2)
       ≡ told (NodeAnswer.Created (file_attr a_node 0 7) 1)
   pub again : answer_to created_once 1 a_folder (NodeOp.Create b_name 2) ≡ errs 17
-  pub another_name : answer_to created_once 1 a_folder (NodeOp.Create (codes "c.txt") 2) ≡ errs 13
+  -- another name is that of a temporary, 5 * 2^32 + 1
+  pub another_name : answer_to created_once 1 a_folder (NodeOp.Create (codes "c.txt") 2)
+      ≡ told (NodeAnswer.Created (file_attr 21474836481 0 7) 2)
   pub to_write : answer_to (with_rights 1) 1 a_node (NodeOp.Open 1) ≡ errs 13
   pub may_not_write : answer_to (with_rights 1) 1 a_node (NodeOp.Access 2) ≡ errs 13
   pub may_read : answer_to (with_rights 1) 1 a_node (NodeOp.Access 4) ≡ told NodeAnswer.Empty

@@ -53,6 +53,8 @@ node_bytes NodeOp.OpenDir = 0
 node_bytes (NodeOp.ReadDir fh offset size) = 0
 node_bytes (NodeOp.ReleaseDir fh) = 0
 node_bytes (NodeOp.Access mask) = 0
+node_bytes (NodeOp.Rename new_parent flags old_name new_name) = length old_name + length new_name
+node_bytes (NodeOp.Unlink name) = length name
 
 abbrev pub who_bytes : Who → ℕ
 who_bytes Who.Host = 0

@@ -8,7 +8,7 @@ use Rattle.portal_model.specs.declared.state.Connection.{Connection}
 use Rattle.portal_model.specs.History.{run, Legal, cost, of_seat}
 use Rattle.portal_model.specs.Lawful.{Lawful}
 use Rattle.portal_model.specs.Node.{node_answer}
-use Rattle.portal_model.specs.Opening.{SoundOpening, ValidOpening, file_of}
+use Rattle.portal_model.specs.Opening.{SoundOpening, ValidOpening, held_items}
 use Rattle.portal_model.specs.State.{State, connection_of, is_mount}
 use Rattle.portal_model.specs.declared.opening.OpeningState.{OpeningState}
 use Rattle.portal_model.specs.Step.{after, node_step, with_signals}
@@ -73,7 +73,7 @@ pub record StaysValid : Type 0 where
 -- an opening state whose records are sound is valid, over a tree that tells its files and over one
 -- that tells nothing
 pub record OpeningsAreValid : Type 0 where
-  pub told : (o : OpeningState) → SoundOpening o → ValidOpening (Some (map file_of o.files)) o
+  pub told : (o : OpeningState) → SoundOpening o → ValidOpening (Some (held_items o.files)) o
   pub quiet : (o : OpeningState) → SoundOpening o → ValidOpening None o
 
 -- Hosts alone wait for changes of the permission store: in a valid state nothing waits to be told

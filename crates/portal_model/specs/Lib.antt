@@ -5,6 +5,7 @@ pub mod Documents
 pub mod Applications
 pub mod SeatNames
 pub mod SoundNames
+pub mod SoundGenerations
 pub mod Content
 pub mod NodeNumbers
 pub mod Place
@@ -23,6 +24,8 @@ pub mod SetAttr
 pub mod Open
 pub mod Create
 pub mod OpenDir
+pub mod Rename
+pub mod Unlink
 pub mod Read
 pub mod Write
 pub mod ReadDir
@@ -66,7 +69,9 @@ pub mod Examples
 pub mod DocumentLaws
 pub mod DocumentExamples
 pub mod NodeLaws
+pub mod SaveLaws
 pub mod FileExamples
 pub mod FolderExamples
+pub mod SaveExamples
 pub mod StoreExamples
 pub mod StoreLaws

@@ -8,12 +8,13 @@ use Rattle.portal_model.specs.declared.reply.Attr.{Attr}
 use Rattle.portal_model.specs.declared.reply.NodeAnswer.TheVariants as NodeAnswer
 use Rattle.portal_model.specs.declared.request.NodeRequest.{NodeRequest}
 use Rattle.portal_model.specs.declared.state.Document.{Document}
+use Rattle.portal_model.specs.declared.temporary.OwnTemp.{OwnTemp}
 use Rattle.portal_model.specs.Applications.{number_of}
 use Rattle.portal_model.specs.Attributes.{attr_of_file, attr_of_folder, on_node}
 use Rattle.portal_model.specs.Errno.{emfile, enametoolong, enoent, enotdir}
-use Rattle.portal_model.specs.NodeVerdict.{NodeVerdict, OnFile, by_place, errs, errs_if, is_too_long, names_path, no_file, told}
-use Rattle.portal_model.specs.Place.{Folder, RootOf, Views, FolderOf, Exported, Sight, by_app_node, file_node, folder_node, named_node, root_node}
-use Rattle.portal_model.specs.SeatNames.{lacks_number, number_of_naming}
+use Rattle.portal_model.specs.NodeVerdict.{NodeVerdict, OnFile, at_name, by_place, errs, errs_if, is_too_long, names_path, no_file, told}
+use Rattle.portal_model.specs.Place.{Folder, RootOf, Views, FolderOf, Exported, Sight, by_app_node, file_node, folder_node, named_node, root_node, temp_node}
+use Rattle.portal_model.specs.SeatNames.{found_temp, lacks_number, number_of_naming}
 use Rattle.portal_model.specs.Walk.{Walk, Answers, Looks, AtPath}
 
 -- the name of the folder of all views
@@ -51,6 +52,12 @@ found_document r node d may_write Look.Folder =
     (errs enoent)
 found_document r node d may_write Look.Missing = errs enoent
 
+-- a temporary of the seat in a document's folder
+abbrev pub found_own : NodeRequest → ℕ → Bool → Option OwnTemp → Walk NodeVerdict
+found_own r view may_write None = errs enoent
+found_own r view may_write (Some t) =
+    at_name t.temp.file (entry_of_file r (temp_node view t.k) may_write)
+
 -- ---- below an exported folder
 
 abbrev pub naming_in : ℕ → Document → List ℕ → Naming
@@ -82,19 +89,22 @@ lookup_child r namings view d may_write (Some path) =
 
 -- ---- the request
 
--- a document's folder has the document's name alone
-abbrev pub lookup_in : NodeRequest → List Naming → List ℕ → Folder → Walk NodeVerdict
-lookup_in r namings name (RootOf view numbers has_views) =
+-- a document's folder has the document's name, and those of the seat's own temporaries
+abbrev pub lookup_in :
+    NodeRequest → List Naming → List OwnTemp → List ℕ → Folder → Walk NodeVerdict
+lookup_in r namings temps name (RootOf view numbers has_views) =
     found_folder r (named_in_root view numbers has_views name)
-lookup_in r namings name (Views applications) = found_folder r (named_in_views applications name)
-lookup_in r namings name (FolderOf view d may_write) =
+lookup_in r namings temps name (Views applications) =
+    found_folder r (named_in_views applications name)
+lookup_in r namings temps name (FolderOf view d may_write) =
     cond (is_same name (name_of d.path))
     (Looks (AtPath d.path) (found_document r (file_node view d.id.number) d may_write))
-    (errs enoent)
-lookup_in r namings name (Exported view d path may_write) =
+    (found_own r view may_write (found_temp temps view d.id name))
+lookup_in r namings temps name (Exported view d path may_write) =
     lookup_child r namings view d may_write (named_child path name)
 
-abbrev pub lookup : NodeRequest → List Naming → List ℕ → Option Sight → Walk NodeVerdict
-lookup r namings name sight =
+abbrev pub lookup :
+    NodeRequest → List Naming → List OwnTemp → List ℕ → Option Sight → Walk NodeVerdict
+lookup r namings temps name sight =
     errs_if (is_too_long name) enametoolong
-    (by_place sight (no_file enotdir) (lookup_in r namings name))
+    (by_place sight (no_file enotdir) (lookup_in r namings temps name))

@@ -30,7 +30,7 @@ NodesStayValid = (s : State) (c : Connection) (r : NodeRequest) (given : Given) 
 -- may be over any tree: of one that doesn't tell, the state has no files.
 abbrev pub ToldForNode : State → NodeOp → Type 0
 ToldForNode s (NodeOp.Create name flags) = s.told ≡ true
-ToldForNode s op = s.told ≡ false → s.files ≡ []
+ToldForNode s op = s.told ≡ false → (s.files ≡ []) × (s.hidden ≡ [])
 
 -- what may be asked of a node is done, where no device fails and no limit is met
 abbrev pub AllowedOnNodesIsDone : Type 0

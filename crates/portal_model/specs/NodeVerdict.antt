@@ -2,7 +2,7 @@
 -- node, the seat's open handle and what it may do now, the content of a path, and how many handles
 -- the seat opened. Each kind of request is a walk over these, so whoever knows them answers it,
 -- without the state.
-use Rattle.std.specs.Prelude.{ℕ, ◌+◌, nat_lt, List, length, Bool, Option, Some, None, cond}
+use Rattle.std.specs.Prelude.{ℕ, ◌+◌, ◌==◌, ◌&&◌, nat_lt, List, [], ◌∷◌, length, Bool, false, Option, Some, None, cond}
 use Rattle.portal_base.specs.declared.files.FileName.{FileName}
 use Rattle.portal_base.specs.declared.files.Look.{Look}
 use Rattle.portal_model.specs.declared.handle.Handle.{Handle}
@@ -10,8 +10,9 @@ use Rattle.portal_model.specs.declared.naming.Naming.{Naming}
 use Rattle.portal_model.specs.declared.reply.NodeAnswer.{NodeAnswer}
 use Rattle.portal_model.specs.declared.state.Document.{Document}
 use Rattle.portal_model.specs.Errno.{ebadf, enoent}
-use Rattle.portal_model.specs.Place.{Folder, Exported, Sight, SightOfFile, SightBelow, SightOfFolder}
+use Rattle.portal_model.specs.Place.{Folder, Exported, Sight, SightOfFile, SightOfTemp, SightBelow, SightOfFolder}
 use Rattle.portal_model.specs.Reach.{OpenFile, open_file_of}
+use Rattle.portal_model.specs.SeatNames.{TempChange}
 use Rattle.portal_model.specs.Walk.{Walk, Answers, Looks, AtPath, Named}
 
 -- ---- what is done
@@ -25,6 +26,10 @@ pub data FileChange : Type 0 where
   Resizes : FileName → ℕ → ℕ → FileChange
   -- an empty file at a path
   Creates : List ℕ → ℕ → FileChange
+  -- an empty file beside the present ones
+  Adds : FileName → ℕ → FileChange
+  -- a file becomes the present one of its path
+  Stands : FileName → FileChange
 
 -- how the open handles of the seat change
 pub data HandleChange : Type 0 where
@@ -39,6 +44,8 @@ pub data NameChange : Type 0 where
   NamesStay : NameChange
   -- a path below an exported folder has a number, which it may have had
   Names : Naming → NameChange
+  -- its temporaries
+  Temps : TempChange → NameChange
 
 pub record NodeDoing : Type 0 where
   pub answer : NodeAnswer
@@ -76,6 +83,15 @@ names_path naming answer = Yields (record {
   file = FilesStay;
   handle = HandlesStay;
   names = Names naming;
+})
+
+-- the temporaries of the seat change
+abbrev pub changes_temps : TempChange → NodeAnswer → NodeVerdict
+changes_temps change answer = Yields (record {
+  answer = answer;
+  file = FilesStay;
+  handle = HandlesStay;
+  names = Temps change;
 })
 
 -- the tree isn't asked
@@ -131,13 +147,15 @@ by_look view at file folder Look.Folder =
 by_look view at file folder Look.Missing = errs enoent
 
 -- A request on what is seen at its node: a file is there where a look shows it, and is told by its
--- document, its path, whether it may be written, and the look. At an exported folder and below it
--- the look tells whether a file or a folder is there.
+-- document, its path, whether it may be written, and the look. That of a temporary is looked at by
+-- its name. At an exported folder and below it the look tells whether a file or a folder is there.
 abbrev pub by_place :
     Option Sight → (Spot → OnFile) → (Folder → Walk NodeVerdict) → Walk NodeVerdict
 by_place None file folder = errs enoent
 by_place (Some (SightOfFile d may_write)) file folder =
     at_file d.path (file (spot d d.path may_write))
+by_place (Some (SightOfTemp d name may_write)) file folder =
+    at_name name (file (spot d name.path may_write))
 by_place (Some (SightBelow view d path may_write)) file folder =
     Looks (AtPath path) (by_look view (spot d path may_write) file folder)
 by_place (Some (SightOfFolder f)) file folder = folder f
@@ -181,3 +199,10 @@ name_limit = 255
 
 abbrev pub is_too_long : List ℕ → Bool
 is_too_long name = nat_lt name_limit (length name)
+
+-- "." or "..", by which a folder names itself and the one that it stands in
+abbrev pub is_dots : List ℕ → Bool
+is_dots [] = false
+is_dots (b ∷ []) = b == 46
+is_dots (b ∷ c ∷ []) = b == 46 && c == 46
+is_dots (b ∷ c ∷ d ∷ bs) = false

@@ -8,11 +8,13 @@ use Rattle.portal_model.specs.declared.reply.DirName.{DirName}
 use Rattle.portal_model.specs.declared.reply.NodeAnswer.TheVariants as NodeAnswer
 use Rattle.portal_model.specs.declared.request.NodeRequest.{NodeRequest}
 use Rattle.portal_model.specs.declared.state.Document.{Document}
+use Rattle.portal_model.specs.declared.temporary.OwnTemp.{OwnTemp}
 use Rattle.portal_model.specs.Errno.{emfile, enoent, enotdir}
 use Rattle.portal_model.specs.Lookup.{by_app}
 use Rattle.portal_model.specs.NodeVerdict.{NodeVerdict, Errs, FilesStay, NamesStay, Opens, Room, Yields, by_place, errs_if, next_handle, no_file}
 use Rattle.portal_model.specs.Ordered.{bytes_less, put_all}
-use Rattle.portal_model.specs.Place.{Folder, RootOf, Views, FolderOf, Exported, Sight, by_app_node, file_node, folder_node, root_node}
+use Rattle.portal_model.specs.Place.{Folder, RootOf, Views, FolderOf, Exported, Sight, by_app_node, file_node, folder_node, root_node, temp_node}
+use Rattle.portal_model.specs.SeatNames.{temps_in}
 use Rattle.portal_model.specs.Walk.{Walk, Answers, Lists, Looks, AtPath}
 
 -- ---- the entries of a folder
@@ -56,6 +58,13 @@ names_of_look node d (Look.File generation size moment) = file_entry node (name_
 names_of_look node d Look.Folder = cond d.folder (folder_entry node (name_of d.path) ∷ []) []
 names_of_look node d Look.Missing = []
 
+-- behind it the seat's own temporaries, in byte order of their names
+abbrev pub entry_of_temp : ℕ → OwnTemp → DirName
+entry_of_temp view t = file_entry (temp_node view t.k) t.temp.name
+
+abbrev pub names_of_temps : ℕ → List OwnTemp → List DirName
+names_of_temps view temps = put_all name_less (map (entry_of_temp view) temps)
+
 -- what an exported folder has, and one below it: no entry has a node of its own before it is named
 abbrev pub unnamed_node : ℕ
 unnamed_node = 4294967295
@@ -82,22 +91,23 @@ opened_folder r room parent names = Yields (record {
   names = NamesStay;
 })
 
-abbrev pub open_found : NodeRequest → Room → Folder → Walk NodeVerdict
-open_found r room (RootOf view numbers has_views) =
+abbrev pub open_found : NodeRequest → Room → List OwnTemp → Folder → Walk NodeVerdict
+open_found r room temps (RootOf view numbers has_views) =
     Answers (opened_folder r room (parent_of_root view) (names_in_root view numbers has_views))
-open_found r room (Views applications) =
+open_found r room temps (Views applications) =
     Answers (opened_folder r room (root_node 0) (names_of_views applications))
-open_found r room (FolderOf view d may_write) =
+open_found r room temps (FolderOf view d may_write) =
     Looks (AtPath d.path) (λ look. Answers
     (opened_folder r room (root_node view)
-    (names_of_look (file_node view d.id.number) d look)))
-open_found r room (Exported view d path may_write) =
+    (names_of_look (file_node view d.id.number) d look
+    ++ names_of_temps view (temps_in temps view d.id))))
+open_found r room temps (Exported view d path may_write) =
     Lists path
     (λ children. opened_folder r room (parent_of_exported view d path) (names_of_children children))
     (Errs enoent)
 
-abbrev pub open_dir_in : NodeRequest → Room → Folder → Walk NodeVerdict
-open_dir_in r room folder = errs_if room.full emfile (open_found r room folder)
+abbrev pub open_dir_in : NodeRequest → Room → List OwnTemp → Folder → Walk NodeVerdict
+open_dir_in r room temps folder = errs_if room.full emfile (open_found r room temps folder)
 
-abbrev pub open_dir : NodeRequest → Option Sight → Room → Walk NodeVerdict
-open_dir r sight room = by_place sight (no_file enotdir) (open_dir_in r room)
+abbrev pub open_dir : NodeRequest → Option Sight → Room → List OwnTemp → Walk NodeVerdict
+open_dir r sight room temps = by_place sight (no_file enotdir) (open_dir_in r room temps)

@@ -1,6 +1,7 @@
 -- The state that an opening state of a portal stands for.
 use Rattle.std.specs.Prelude.{◌≡◌, ◌≤◌, ◌<◌, ◌^◌, ◌&&◌, length, nat_eq, nat_le, nat_lt, ℕ, ◌==◌, ◌/◌, ◌%◌, List, [], ◌∷◌, map, fold, not, Bool, true, false, Option, Some, None}
 use Rattle.std.specs.List.{filter, flat_map, list_all, IsDistinct}
+use Rattle.file_generations.specs.Generations.{Held, held_with}
 use Rattle.portal_base.specs.Names.{is_same, is_app_name, is_host_path}
 use Rattle.portal_base.specs.declared.names.doc_id.DocId.{DocId}
 use Rattle.portal_model.specs.declared.opening.FileItem.{FileItem}
@@ -59,9 +60,14 @@ rights_kept documents = fold with_grants [] documents
 abbrev pub each : {X Y : Type 0} → (X → List Y) → List X → List Y
 each f xs = flat_map f xs
 
--- a file that is there from the start is the first that its path has
 abbrev pub file_of : FileItem → File
-file_of f = record { path = f.path; generation = 0; bytes = f.content; moment = f.moment }
+file_of f =
+    record { path = f.path; generation = f.generation; bytes = f.content; moment = f.moment }
+
+-- the files, by whether they are present
+abbrev pub held_items : List FileItem → Held
+held_items items = held_with (map file_of (filter (λ f. f.present) items))
+    (map file_of (filter (λ f. not f.present) items))
 
 -- the first file of a path, which stands there
 abbrev pub first_item : List ℕ → List ℕ → ℕ → FileItem
@@ -76,16 +82,20 @@ first_item path content moment = record {
 abbrev pub is_first_item : FileItem → Bool
 is_first_item f = f.generation == 0 && f.present
 
-abbrev pub is_told : Option (List File) → Bool
+abbrev pub is_told : Option Held → Bool
 is_told None = false
-is_told (Some files) = true
+is_told (Some held) = true
 
-abbrev pub files_of : Option (List File) → List File
+abbrev pub files_of : Option Held → List File
 files_of None = []
-files_of (Some files) = files
+files_of (Some held) = held.present
+
+abbrev pub hidden_of : Option Held → List File
+hidden_of None = []
+hidden_of (Some held) = held.hidden
 
 -- the state over a tree that tells these files, or tells nothing
-abbrev pub opened_over : Option (List File) → OpeningState → State
+abbrev pub opened_over : Option Held → OpeningState → State
 opened_over files o = record {
   limits = o.limits;
   documents = map document_kept o.documents;
@@ -96,13 +106,14 @@ opened_over files o = record {
   handles = [];
   told = is_told files;
   files = files_of files;
+  hidden = hidden_of files;
   taken = o.taken;
   entries = o.entries;
 }
 
 -- the state over a tree that tells the files of the opening state
 abbrev pub opened : OpeningState → State
-opened o = opened_over (Some (map file_of o.files)) o
+opened o = opened_over (Some (held_items o.files)) o
 
 -- the names, each where it stands first
 abbrev pub first_named : List (List ℕ) → List (List ℕ)
@@ -121,7 +132,7 @@ has_grants d = list_all is_grant d.kept.grants
 
 -- No document was made but those that are live, and the applications are numbered as the records
 -- first name them, each by a right.
-pub record ValidOpening (files : Option (List File)) (o : OpeningState) : Type 0 where
+pub record ValidOpening (files : Option Held) (o : OpeningState) : Type 0 where
   pub valid : Valid (opened_over files o)
   pub grants : list_all has_grants o.documents ≡ true
   pub made : o.made ≡ map (λ d. id_of d.kept.number) o.documents
@@ -152,7 +163,7 @@ pub record SoundOpening (o : OpeningState) : Type 0 where
   pub files_apart : list_all (λ f. not (is_folder (map file_of o.files) f.path)) o.files ≡ true
   pub files_named : list_all (λ f. is_host_path f.path) o.files ≡ true
   pub folders_sound : list_all (is_folder_kept (map file_of o.files)) o.documents ≡ true
-  -- not yet: each file is the first that its path has
+  -- no file was made to be renamed later
   pub files_first : list_all is_first_item o.files ≡ true
   pub none_taken : o.taken ≡ []
   pub documents_within : length o.documents ≤ o.limits.documents

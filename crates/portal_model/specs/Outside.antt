@@ -1,6 +1,6 @@
 -- What the outside may have given to a request of a bus.
 use Rattle.std.specs.Prelude.{◌≡◌, ◌<◌, ◌^◌, ◌++◌, ℕ, List, [], ◌∷◌, length, Bool, false, Option, Some, None, is_some, cond}
-use Rattle.portal_base.specs.declared.files.File.{File}
+use Rattle.file_generations.specs.Generations.{Held}
 use Rattle.portal_base.specs.declared.names.doc_id.DocId.{DocId}
 use Rattle.portal_model.specs.declared.entry.Fault.{Fault}
 use Rattle.portal_model.specs.declared.entry.Given.{Given}
@@ -9,13 +9,13 @@ use Rattle.portal_model.specs.declared.state.Connection.{Connection}
 use Rattle.portal_model.specs.Bus.{bus_walk, is_tree, verdict_given}
 use Rattle.portal_model.specs.Documents.{IsUnused}
 use Rattle.portal_model.specs.Kept.{records_of}
-use Rattle.portal_model.specs.State.{State}
+use Rattle.portal_model.specs.State.{State, held_in}
 use Rattle.portal_model.specs.Verdict.{Verdict, Refuses, Does}
 use Rattle.portal_model.specs.Walk.{Walk, Gives, reads_clock}
 
 -- the files that a tree tells, where it does
-abbrev pub files_told : State → Option (List File)
-files_told s = cond s.told (Some s.files) None
+abbrev pub files_told : State → Option Held
+files_told s = cond s.told (Some (held_in s)) None
 
 -- Numbers that words come to, where these were made: each is the first at or above its word, 0
 -- behind the greatest, that neither was made nor is among the ones ahead of it.

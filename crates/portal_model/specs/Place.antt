@@ -3,6 +3,7 @@
 -- application k, for the host alone.
 use Rattle.std.specs.Prelude.{ℕ, zero, suc, ◌==◌, ◌&&◌, List, map, Bool, true, false, Option, Some, None, cond, option_map}
 use Rattle.std.specs.List.{filter}
+use Rattle.portal_base.specs.declared.files.FileName.{FileName}
 use Rattle.portal_base.specs.declared.who.Who.{Who}
 use Rattle.portal_model.specs.declared.naming.Naming.{Naming}
 use Rattle.portal_model.specs.declared.place.Place.{Place}
@@ -10,11 +11,12 @@ use Rattle.portal_model.specs.declared.rights.Right.TheVariants.{Read, Write}
 use Rattle.portal_model.specs.declared.state.Connection.{Connection}
 use Rattle.portal_model.specs.declared.state.Document.{Document}
 use Rattle.portal_model.specs.declared.state.Triple.{Triple}
+use Rattle.portal_model.specs.declared.temporary.Temp.{Temp}
 use Rattle.portal_model.specs.Applications.{name_of_number}
 use Rattle.portal_model.specs.ListDocuments.{lower}
 use Rattle.portal_model.specs.Ordered.{put_all}
 use Rattle.portal_model.specs.Reach.{Reach, Reaching, no_reach}
-use Rattle.portal_model.specs.SeatNames.{naming_of}
+use Rattle.portal_model.specs.SeatNames.{naming_of, temp_of}
 use Rattle.portal_model.specs.State.{State, document_of, has, is_host, who_has}
 pub use Rattle.portal_model.specs.NodeNumbers.{view_of_node, kind_of_node, id_of_node, node_number}
 
@@ -31,13 +33,14 @@ abbrev pub place_from_one : (ℕ → Place) → ℕ → Option Place
 place_from_one place k = cond (k == 0) None (Some (place k))
 
 -- kind 1 is a document's folder, kind 2 a document's file or the folder that it exports, kind 4 a
--- name below an exported folder
+-- name below an exported folder, kind 5 a temporary
 abbrev pub place_of_parts : ℕ → ℕ → ℕ → Option Place
 place_of_parts view kind id =
     cond (kind == 0) (place_of_kind_0 view id)
     (cond (kind == 1) (Some (Place.Folder view (record { number = id })))
     (cond (kind == 2) (Some (Place.File view (record { number = id })))
-    (cond (kind == 4) (place_from_one (Place.Named view) id) None)))
+    (cond (kind == 4) (place_from_one (Place.Named view) id)
+    (cond (kind == 5) (place_from_one (Place.Temporary view) id) None))))
 
 -- what a number names, whoever asks
 abbrev pub place_named : ℕ → Option Place
@@ -58,6 +61,9 @@ file_node view number = node_number view 2 number
 abbrev pub named_node : ℕ → ℕ → ℕ
 named_node view k = node_number view 4 k
 
+abbrev pub temp_node : ℕ → ℕ → ℕ
+temp_node view k = node_number view 5 k
+
 -- the number of a place
 abbrev pub node_of : Place → ℕ
 node_of (Place.Root view) = root_node view
@@ -65,6 +71,7 @@ node_of Place.ByApp = by_app_node
 node_of (Place.Folder view id) = folder_node view id.number
 node_of (Place.File view id) = file_node view id.number
 node_of (Place.Named view k) = named_node view k
+node_of (Place.Temporary view k) = temp_node view k
 
 -- the file of a document, in the caller's own view
 abbrev pub is_own_file : ℕ → Bool
@@ -89,6 +96,8 @@ pub data Folder : Type 0 where
 pub data Sight : Type 0 where
   -- a document's file: the document, and whether the subject may write the file
   SightOfFile : Document → Bool → Sight
+  -- a temporary: its document, its file, and the same
+  SightOfTemp : Document → FileName → Bool → Sight
   -- a file or a folder, as a look of its path tells: the exported one or what lies below it, told
   -- by the view, the document, the path and the same
   SightBelow : ℕ → Document → List ℕ → Bool → Sight
@@ -119,6 +128,13 @@ sight_below view rights who path None = None
 sight_below view rights who path (Some d) =
     cond (who_has rights who d.id.number Read)
     (Some (SightBelow view d path (who_has rights who d.id.number Write))) None
+
+-- and a temporary
+abbrev pub sight_of_temp : List Triple → Who → FileName → Option Document → Option Sight
+sight_of_temp rights who file None = None
+sight_of_temp rights who file (Some d) =
+    cond (who_has rights who d.id.number Read)
+    (Some (SightOfTemp d file (who_has rights who d.id.number Write))) None
 
 abbrev pub may_read : List Triple → Who → Document → Bool
 may_read rights who d = who_has rights who d.id.number Read
@@ -153,43 +169,54 @@ sight_of_root s caller view who =
 abbrev pub sight_of_views : State → Who → Option Sight
 sight_of_views s caller = cond (is_host caller) (Some (SightOfFolder (Views s.applications))) None
 
--- A name below an exported folder is there in its own view alone.
+-- A name below an exported folder, and a temporary, are there in their own view alone.
 abbrev pub sight_of_naming : State → ℕ → Who → Option Naming → Option Sight
 sight_of_naming s view who None = None
 sight_of_naming s view who (Some n) =
     cond (n.view == view)
     (sight_below view s.rights who n.path (document_of s.documents n.document.number)) None
 
--- What a caller sees at a place. What the connection that asks has named by the number of a node
--- below an exported folder is passed over at other places.
-abbrev pub sight_of_place : State → Who → Option Naming → Place → Option Sight
-sight_of_place s caller naming (Place.Root view) =
+abbrev pub sight_of_own_temp : State → ℕ → Who → Option Temp → Option Sight
+sight_of_own_temp s view who None = None
+sight_of_own_temp s view who (Some t) =
+    cond (t.view == view)
+    (sight_of_temp s.rights who t.file (document_of s.documents t.document.number)) None
+
+-- What a caller sees at a place. What the connection that asks has by the number of a node, below
+-- an exported folder or as a temporary, is passed over at other places.
+abbrev pub sight_of_place : State → Who → Option Naming → Option Temp → Place → Option Sight
+sight_of_place s caller naming temp (Place.Root view) =
     seen_by (subject_of s.applications caller view) (sight_of_root s caller view)
-sight_of_place s caller naming Place.ByApp = sight_of_views s caller
-sight_of_place s caller naming (Place.Folder view id) =
+sight_of_place s caller naming temp Place.ByApp = sight_of_views s caller
+sight_of_place s caller naming temp (Place.Folder view id) =
     seen_by (subject_of s.applications caller view)
     (λ who. sight_of_folder view s.rights who (document_of s.documents id.number))
-sight_of_place s caller naming (Place.File view id) =
+sight_of_place s caller naming temp (Place.File view id) =
     seen_by (subject_of s.applications caller view)
     (λ who. sight_of_document view s.rights who (document_of s.documents id.number))
-sight_of_place s caller naming (Place.Named view k) =
+sight_of_place s caller naming temp (Place.Named view k) =
     seen_by (subject_of s.applications caller view) (λ who. sight_of_naming s view who naming)
+sight_of_place s caller naming temp (Place.Temporary view k) =
+    seen_by (subject_of s.applications caller view) (λ who. sight_of_own_temp s view who temp)
 
-abbrev pub sight_at : State → Who → Option Naming → Option Place → Option Sight
-sight_at s caller naming None = None
-sight_at s caller naming (Some p) = sight_of_place s caller naming p
+abbrev pub sight_at : State → Who → Option Naming → Option Temp → Option Place → Option Sight
+sight_at s caller naming temp None = None
+sight_at s caller naming temp (Some p) = sight_of_place s caller naming temp p
 
 -- what a caller sees at a node
-abbrev pub place_of : State → Who → Option Naming → ℕ → Option Sight
-place_of s caller naming node = sight_at s caller naming (place_named node)
+abbrev pub place_of : State → Who → Option Naming → Option Temp → ℕ → Option Sight
+place_of s caller naming temp node = sight_at s caller naming temp (place_named node)
 
--- what a connection has named by the number in a node
+-- what a connection has by the number in a node: named below an exported folder, and as a temporary
 abbrev pub naming_on : Connection → ℕ → Option Naming
 naming_on c node = naming_of c.namings (id_of_node node)
 
+abbrev pub temp_on : Connection → ℕ → Option Temp
+temp_on c node = temp_of c.temps (id_of_node node)
+
 -- what a connection that asks sees at a node
 abbrev pub sight_on : State → Connection → ℕ → Option Sight
-sight_on s c node = place_of s c.who (naming_on c node) node
+sight_on s c node = place_of s c.who (naming_on c node) (temp_on c node) node
 
 -- ---- the rights that are looked at anew
 

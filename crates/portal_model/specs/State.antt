@@ -5,6 +5,7 @@ use Rattle.std.specs.Prelude.{ℕ, ◌==◌, ◌&&◌, List, [], ◌∷◌, Bool
 use Rattle.std.specs.List.{filter, find, list_any}
 use Rattle.portal_base.specs.Names.{is_same}
 use Rattle.rights_rule.specs.Rights.{RightSet}
+use Rattle.file_generations.specs.Generations.{Held, held_with}
 use Rattle.portal_base.specs.declared.limits.Limits.{Limits}
 use Rattle.portal_base.specs.declared.names.doc_id.DocId.{DocId}
 use Rattle.portal_base.specs.declared.who.Kind.{Kind}
@@ -36,11 +37,18 @@ pub record State : Type 0 where
   pub handles : List OpenHandle
   -- whether the tree of files tells what it has; where it does not, there are no files here
   pub told : Bool
+  -- the present files, of which each path has one at most
   pub files : List File
+  -- the files beside them, which stand at no path
+  pub hidden : List File
   -- the last generation taken for a file of a path, by path, none twice
   pub taken : List TakenGeneration
   -- the entries of the permission store, in order of creation
   pub entries : List StoredEntry
+
+-- the files, present or not
+abbrev pub held_in : State → Held
+held_in s = held_with s.files s.hidden
 
 abbrev pub is_none : {X : Type 0} → List X → Bool
 is_none [] = true

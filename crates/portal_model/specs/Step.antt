@@ -15,7 +15,7 @@ use Rattle.portal_model.specs.Collect.{collect}
 use Rattle.portal_model.specs.Enter.{enter}
 use Rattle.portal_model.specs.Leave.{leave}
 use Rattle.portal_model.specs.Node.{node_answer, walk_on_node}
-use Rattle.portal_model.specs.State.{State, connection_of}
+use Rattle.portal_model.specs.State.{State, connection_of, held_in}
 use Rattle.portal_model.specs.Walk.{looks_shown}
 pub use Rattle.portal_model.specs.State.{is_mount}
 
@@ -109,13 +109,14 @@ reply_at s e = (step s e).1
 
 abbrev pub node_looks : State → NodeRequest → Option Connection → List Look
 node_looks s r None = []
-node_looks s r (Some c) = looks_shown s.files (walk_on_node (all_told c.seat s) c r)
+node_looks s r (Some c) = looks_shown (held_in s) (walk_on_node (all_told c.seat s) c r)
 
 -- The looks of the walk: an Add's, and none of another request of a bus. The numbers that new
 -- documents get don't bear on them.
 abbrev pub bus_looks : State → Request → Option Connection → List Look
 bus_looks s request None = []
-bus_looks s request (Some c) = looks_shown s.files (bus_walk (all_told c.seat s) c request [])
+bus_looks s request (Some c) =
+    looks_shown (held_in s) (bus_walk (all_told c.seat s) c request [])
 
 abbrev pub looks_taken : State → ℕ → Request → List Look
 looks_taken s seat (Request.Enter who kind) = []

@@ -18,7 +18,8 @@ use Rattle.portal_model.specs.Content.{is_folder}
 use Rattle.portal_model.specs.Data.{is_data}
 use Rattle.portal_model.specs.NodeNumbers.{view_of_node}
 use Rattle.portal_model.specs.Rights.{are_in_order}
-use Rattle.portal_model.specs.SoundNames.{SoundNamings}
+use Rattle.portal_model.specs.SoundGenerations.{SoundGenerations, has_taken_handle, has_taken_temps}
+use Rattle.portal_model.specs.SoundNames.{SoundNamings, SoundTemps}
 use Rattle.portal_model.specs.State.{State, connection_of, document_of, handles_of, is_mount}
 use Rattle.portal_model.specs.Store.{can_be_told}
 pub use Rattle.portal_model.specs.State.{is_made, is_none}
@@ -80,19 +81,12 @@ is_caller (Who.App app) = is_app_name app
 
 -- A connection is bound to a caller. Only the host's buses wait for changes; these tell of entries
 -- that are valid, or were.
-abbrev pub is_bound_connection : ℕ → Connection → Bool
-is_bound_connection queued c =
+abbrev pub is_sound_connection : ℕ → Connection → Bool
+is_sound_connection queued c =
     is_caller c.who
     && ((is_none c.unsent || is_host_bus c.who c.kind)
     && (list_all is_sound_change c.unsent
     && (list_all is_host_path c.queue && nat_le (length c.queue) queued)))
-
--- not yet: no temporary was made on it
-abbrev pub has_no_temps : Connection → Bool
-has_no_temps c = is_none c.temps && c.added == 0
-
-abbrev pub is_sound_connection : ℕ → Connection → Bool
-is_sound_connection queued c = has_no_temps c && is_bound_connection queued c
 
 -- the greatest number of applications that may be numbered
 abbrev pub applications_limit : ℕ
@@ -161,21 +155,27 @@ pub record Valid (s : State) : Type 0 where
   -- what each has named below exported folders
   pub namings_sound :
       AllByRecursion (λ c. SoundNamings s.made s.documents c.namings) s.connections
+  -- and its temporaries
+  pub temps_sound :
+      AllByRecursion (λ c. SoundTemps s.made s.documents c.who c.added c.temps) s.connections
+  pub temps_taken : list_all (has_taken_temps s.told s.taken) s.connections ≡ true
   -- open handles of a seat differ in number
   pub handles_differ : IsDistinct same_handle s.handles
   pub handles_sound : list_all (is_sound_handle s.connections) s.handles ≡ true
   pub handles_made : list_all (is_of_made s.made) s.handles ≡ true
+  pub handles_taken : list_all (has_taken_handle s.told s.taken) s.handles ≡ true
   pub handles_within :
       list_all (opens_within s.limits.handles s.handles) s.connections ≡ true
   pub entries_differ : IsDistinct same_entry s.entries
   pub entries_sound : list_all is_valid_entry s.entries ≡ true
-  -- files differ in path, which is one on the host; none lies below a file, and none is the root
+  -- present files differ in path, which is one on the host; none lies below a present file, and
+  -- none is the root
   pub files_differ : IsDistinct is_same (map (λ f. f.path) s.files)
   pub files_apart : list_all (λ f. not (is_folder s.files f.path)) s.files ≡ true
   pub files_named : list_all (λ f. is_host_path f.path) s.files ≡ true
   pub files_told : s.told ≡ false → s.files ≡ []
-  -- not yet: no generation was taken
-  pub taken_none : s.taken ≡ []
+  -- those beside them, and the generations that were taken
+  pub generations_sound : SoundGenerations s.told s.files s.hidden s.taken
   pub documents_within : length s.documents ≤ s.limits.documents
   pub made_within : length s.made ≤ s.limits.made
   pub applications_within : length s.applications ≤ applications_limit

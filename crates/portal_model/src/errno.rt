@@ -2,7 +2,7 @@
 //! `errno.h` give them.
 
 ghost use Rattle.std.specs.Prelude.{◌≡◌};
-ghost use Rattle.portal_model.specs.Errno.{eacces, ebadf, eexist, efbig, einval, eio, eisdir, emfile, enametoolong, enoent, enomem, enospc, enosys, enotdir, eperm, eproto};
+ghost use Rattle.portal_model.specs.Errno.{eacces, ebadf, eexist, efbig, einval, eio, eisdir, emfile, enametoolong, enoent, enomem, enospc, enosys, enotdir, eperm, eproto, exdev};
 
 /// Operation not permitted.
 pub const EPERM: u32 = 1;
@@ -18,6 +18,8 @@ pub const ENOMEM: u32 = 12;
 pub const EACCES: u32 = 13;
 /// File exists.
 pub const EEXIST: u32 = 17;
+/// Cross-device link.
+pub const EXDEV: u32 = 18;
 /// Not a directory.
 pub const ENOTDIR: u32 = 20;
 /// Is a directory.
@@ -48,6 +50,7 @@ pub fn errnos_are_told()
     ensures is_enomem { ENOMEM ≡ enomem }
     ensures is_eacces { EACCES ≡ eacces }
     ensures is_eexist { EEXIST ≡ eexist }
+    ensures is_exdev { EXDEV ≡ exdev }
     ensures is_enotdir { ENOTDIR ≡ enotdir }
     ensures is_eisdir { EISDIR ≡ eisdir }
     ensures is_einval { EINVAL ≡ einval }

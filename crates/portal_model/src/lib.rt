@@ -16,8 +16,8 @@
 //! | `opening`, `records` | what a run begins with, and the records that outlive it |
 //! | `store`, `datum` | the calls of the permission store, its entries and their data |
 //! | `errno` | the numbers of errors on nodes |
-//! | `laws`, `document_laws`, `node_laws`, `store_laws` | laws of histories, of requests on documents and on nodes, and of data |
-//! | `examples`, `document_examples`, `file_examples`, `folder_examples`, `store_examples` | cases that are worked out by hand, computed over the definitions |
+//! | `laws`, `document_laws`, `node_laws`, `save_laws`, `store_laws` | laws of histories, of requests on documents and on nodes, of what is renamed, and of data |
+//! | `examples`, `document_examples`, `file_examples`, `folder_examples`, `save_examples`, `store_examples` | cases that are worked out by hand, computed over the definitions |
 //!
 //! ```text
 //! let asked = Request::Enter { who: Who::Host, kind: Kind::Bus };
@@ -47,6 +47,8 @@ pub mod records;
 pub mod reply;
 pub mod request;
 pub mod rights;
+pub mod save_examples;
+pub mod save_laws;
 pub mod state;
 pub mod store;
 pub mod store_examples;

@@ -55,6 +55,14 @@ pub enum Place {
         /// The number of the naming on the connection, from 1.
         k: u32,
     },
+    /// A file that the caller's connection made in a document's folder, to be
+    /// renamed later.
+    Temporary {
+        /// The view.
+        view: u32,
+        /// The number of the temporary on the connection, from 1.
+        k: u32,
+    },
 }
 
 /// The number of the document whose file a node is, in the caller's own view.

@@ -121,6 +121,22 @@ pub enum NodeOp {
         /// The rights that are asked for, as in access(2).
         mask: u32,
     },
+    /// FUSE_RENAME and FUSE_RENAME2, on the folder of the old name.
+    Rename {
+        /// The folder of the new name.
+        new_parent: u64,
+        /// The flags of renameat2(2); a FUSE_RENAME has none.
+        flags: u32,
+        /// The old name.
+        old_name: ByteList,
+        /// The new name.
+        new_name: ByteList,
+    },
+    /// FUSE_UNLINK.
+    Unlink {
+        /// The name.
+        name: ByteList,
+    },
 }
 
 /// The bit of the flags of a FUSE_GETATTR that says that it names an open
@@ -349,6 +365,20 @@ impl Replica for NodeOp {
             &NodeOp::ReadDir { fh, offset, size } => NodeOp::ReadDir { fh, offset, size },
             &NodeOp::ReleaseDir { fh } => NodeOp::ReleaseDir { fh },
             &NodeOp::Access { mask } => NodeOp::Access { mask },
+            NodeOp::Rename {
+                new_parent,
+                flags,
+                old_name,
+                new_name,
+            } => NodeOp::Rename {
+                new_parent: *new_parent,
+                flags: *flags,
+                old_name: old_name.replica(alloc)?,
+                new_name: new_name.replica(alloc)?,
+            },
+            NodeOp::Unlink { name } => NodeOp::Unlink {
+                name: name.replica(alloc)?,
+            },
         })
     }
 }

@@ -1,5 +1,4 @@
 -- Good records open a valid state, over any tree of files and over one that tells nothing.
-use Rattle.std.specs.Prelude.{IfSome}
 use Rattle.std.proofs.Common.{◌≡◌, ℕ, ◌+◌, ◌<◌, ◌≤◌, ◌^◌, nat_eq, nat_le, nat_lt, length, List, [], ◌∷◌, ◌++◌, map, Bool, true, false, not, ◌&&◌, ◌||◌, Option, Some, None, refl, sym, ap, subst, ◌∙◌, arith}
 use Rattle.std.specs.List.{list_any, list_all, IsDistinct, All, AllByRecursion}
 use Rattle.std.specs.List.Sorted.{IsStrictlySortedBy}
@@ -9,6 +8,7 @@ use Rattle.std.proofs.lemmas.Bool.Decides.{nat_tests}
 use Rattle.std.proofs.lemmas.List.{append-nil, append_assoc, length-append, length-map}
 use Rattle.std.proofs.lemmas.List.Elements.{All-cons, All-head, All-nil, All-tail}
 use Rattle.std.proofs.lemmas.List.Folds.{list_all-map, list_any-append}
+use Rattle.file_generations.specs.Generations.{Held}
 use Rattle.portal_base.specs.Content.{IsTree, paths_of}
 use Rattle.portal_base.specs.Names.{is_app_name, is_host_path, is_same, root}
 use Rattle.portal_base.specs.PathOrder.{path_order}
@@ -24,14 +24,17 @@ use Rattle.portal_model.specs.declared.records.GrantRecord.{GrantRecord}
 use Rattle.portal_model.specs.declared.records.Records.{Records}
 use Rattle.portal_model.specs.Content.{is_above, is_folder}
 use Rattle.portal_model.specs.Opening.{document_kept, each, first_named, has_grants, id_of, is_folder_kept, is_grant, names_kept, opened_over, GrantsDiffer, SoundOpening}
+use Rattle.portal_model.specs.SoundGenerations.{SoundGenerations}
 use Rattle.portal_model.specs.Store.{Entries}
 use Rattle.portal_model.specs.Valid.{Valid, applications_limit, is_sound_folder}
+use Rattle.portal_desk.proofs.Openings.{AreTree}
+use Rattle.portal_model.proofs.GenerationsValid.{first-generations}
 use Rattle.portal_model.proofs.OpeningLaws.{openings-valid}
 use Rattle.record_keeper.specs.BadRecords.{AllGood, AreGood, EachBehind, IsGoodDocument, IsGoodEntry, applications_of, names_granted}
 use Rattle.record_keeper.specs.KeptEntries.{KeepEntries}
 use Rattle.record_keeper.specs.SoundRecords.{IsGrant, IsSoundDocument, IsValidEntry}
 use Rattle.record_keeper.proofs.HeldEntries.{good_differ}
-use Rattle.portal_start.specs.Loading.{document_loaded, is_narrow, opening_loaded}
+use Rattle.portal_start.specs.Loading.{AreFirst, BeganFirst, document_loaded, is_narrow, opening_loaded}
 use Rattle.portal_start.proofs.KeptRights.{rising_names}
 
 -- ---- items that are good behind those before them
@@ -213,15 +216,18 @@ sorted_differ (p ∷ ps) h = (all_past p ps h.0, sorted_differ ps h.1)
 pub paths_differ : (files : List File) → IsTree files → IsDistinct is_same (paths_of files)
 paths_differ files t = sorted_differ (paths_of files) t.placed.in_order
 
--- a state over a tree that tells is valid where it is over one that doesn't, and the tree has the
--- folders that are documents
-with_files : (o : OpeningState) (files : List File) → list_all (is_folder_kept files) o.documents ≡ true → Valid (opened_over None o) → IsTree files → Valid (opened_over (Some files) o)
-with_files o files k v t = record {
+no_hidden : (held : Held) → AreFirst held → SoundGenerations true held.present held.hidden []
+no_hidden held f = subst (λ (hs : List File). SoundGenerations true held.present hs []) (sym f.none_hidden) (first-generations true held.present f.first)
+
+-- a state in which no generation was taken is valid over a tree that tells where it is over one
+-- that doesn't, and the tree has the folders that are documents, and just first files
+with_files : (o : OpeningState) (held : Held) → list_all (is_folder_kept held.present) o.documents ≡ true → o.taken ≡ [] → Valid (opened_over None o) → IsTree held.present → AreFirst held → Valid (opened_over (Some held) o)
+with_files o held k none v t f = record {
   numbers_differ = v.numbers_differ;
   numbers_made = v.numbers_made;
   identifiers = v.identifiers;
   paths = v.paths;
-  folders_sound = list_all-map (is_sound_folder true files) document_kept o.documents ∙ k;
+  folders_sound = list_all-map (is_sound_folder true held.present) document_kept o.documents ∙ k;
   applications_differ = v.applications_differ;
   names = v.names;
   rights_in_order = v.rights_in_order;
@@ -229,17 +235,20 @@ with_files o files k v t = record {
   seats_differ = v.seats_differ;
   connections_sound = v.connections_sound;
   namings_sound = tt;
+  temps_sound = tt;
+  temps_taken = refl;
   handles_differ = v.handles_differ;
   handles_sound = v.handles_sound;
   handles_made = v.handles_made;
+  handles_taken = refl;
   handles_within = v.handles_within;
   entries_differ = v.entries_differ;
   entries_sound = v.entries_sound;
-  files_differ = paths_differ files t;
-  files_apart = each_apart files files t.placed.no_root t.placed.apart;
-  files_named = sym (list_all-map is_host_path (λ (f : File). f.path) files) ∙ t.names;
+  files_differ = paths_differ held.present t;
+  files_apart = each_apart held.present held.present t.placed.no_root t.placed.apart;
+  files_named = sym (list_all-map is_host_path (λ (f : File). f.path) held.present) ∙ t.names;
   files_told = λ e. cc;
-  taken_none = v.taken_none;
+  generations_sound = subst (SoundGenerations true held.present held.hidden) (sym none) (no_hidden held f);
   documents_within = v.documents_within;
   made_within = v.made_within;
   applications_within = v.applications_within;
@@ -247,9 +256,9 @@ with_files o files k v t = record {
   queued_limit = v.queued_limit;
 }
 
-pub over_any : (o : OpeningState) (began : Option (List File)) → ((files : List File) → list_all (is_folder_kept files) o.documents ≡ true) → Valid (opened_over None o) → IfSome began IsTree → Valid (opened_over began o)
-over_any o None k v t = v
-over_any o (Some files) k v t = with_files o files (k files) v t
+pub over_any : (o : OpeningState) (began : Option Held) → ((files : List File) → list_all (is_folder_kept files) o.documents ≡ true) → o.taken ≡ [] → Valid (opened_over None o) → AreTree began → BeganFirst began → Valid (opened_over began o)
+over_any o None k none v t f = v
+over_any o (Some held) k none v t f = with_files o held (k held.present) none v t f
 
 pub valid_quiet : (o : OpeningState) → SoundOpening o → Valid (opened_over None o)
 valid_quiet o k = (openings-valid.quiet o k).valid

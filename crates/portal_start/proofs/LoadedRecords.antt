@@ -2,7 +2,7 @@
 use Rattle.std.specs.Prelude.{IfOk}
 use Rattle.std.proofs.Common.{◌≡◌, ◌<◌, ◌^◌, ℕ, List, [], ◌∷◌, map, true, Option, None, Result, Ok, Err, refl, sym, ap, subst, ◌∙◌}
 use Rattle.std.specs.List.{list_all}
-use Rattle.portal_base.specs.declared.files.File.{File}
+use Rattle.file_generations.specs.Generations.{Held}
 use Rattle.portal_base.specs.declared.limits.Limits.{Limits}
 use Rattle.portal_model.specs.declared.opening.OpeningDocument.{OpeningDocument}
 use Rattle.portal_model.specs.declared.opening.OpeningState.{OpeningState}
@@ -32,7 +32,7 @@ numbers_kept [] = refl
 numbers_kept (d ∷ ds) = ap (λ (ns : List ℕ). d.kept.number ∷ ns) (numbers_kept ds)
 
 -- the records that stand for the state that records open are those records, in this version
-pub back : (limits : Limits) (records : Records) (began : Option (List File)) (entries : Entries) → KeepEntries records.entries entries → AreGood limits records → records_of (opened_over began (opening_loaded entries limits records)) ≡ record records { version = records_version }
+pub back : (limits : Limits) (records : Records) (began : Option Held) (entries : Entries) → KeepEntries records.entries entries → AreGood limits records → records_of (opened_over began (opening_loaded entries limits records)) ≡ record records { version = records_version }
 back limits records began entries kept good = λ i. record {
   version = records_version;
   documents = all_back records.documents (numbers_apart records.version limits records.documents good.documents) (all_sound records.version limits records.documents [] good.documents) i;

@@ -6,8 +6,8 @@ use Rattle.std.proofs.lemmas.List.Elements.{All-head, All-tail}
 use Rattle.document_records.specs.Documents.{DocumentList}
 use Rattle.document_records.proofs.FreshItems.{any-mapped, any_same}
 use Rattle.permission_table.specs.Tables.{IsHeld}
+use Rattle.file_generations.specs.Generations.{Held}
 use Rattle.portal_base.specs.Names.{is_same}
-use Rattle.portal_base.specs.declared.files.File.{File}
 use Rattle.portal_model.specs.declared.handle.OpenHandle.{OpenHandle}
 use Rattle.portal_model.specs.declared.opening.OpeningDocument.{OpeningDocument}
 use Rattle.portal_model.specs.declared.records.GrantRecord.{GrantRecord}
@@ -18,11 +18,12 @@ use Rattle.portal_model.specs.declared.state.Document.{Document}
 use Rattle.portal_model.specs.declared.state.Triple.{Triple}
 use Rattle.portal_model.specs.Info.{holders}
 use Rattle.portal_model.specs.Kept.{bits_of, grant_record}
-use Rattle.portal_model.specs.Opening.{document_kept, files_of, id_of, is_told, opened_over, rights_kept, set_of_bits, with_grant, with_grants}
+use Rattle.portal_model.specs.Opening.{document_kept, files_of, hidden_of, id_of, is_told, opened_over, rights_kept, set_of_bits, with_grant, with_grants}
+use Rattle.portal_model.specs.Outside.{files_told}
 use Rattle.portal_model.specs.Ordered.{bytes_less, is_rising}
 use Rattle.portal_model.specs.Rights.{are_in_order, is_in, same_triple, triple_less, triples_of}
 use Rattle.portal_model.specs.Rows.{are_rows}
-use Rattle.portal_model.specs.State.{State, app_has, document_of, gives, held_of}
+use Rattle.portal_model.specs.State.{State, app_has, document_of, gives, held_in, held_of}
 use Rattle.portal_model.specs.Store.{Entries}
 use Rattle.portal_model.specs.Valid.{Valid, is_placed}
 use Rattle.portal_model.proofs.RisingLists.{any-put_all, rising-put_all, same_items}
@@ -198,17 +199,21 @@ all_placed : (s : State) (ts : List Triple) → list_all (is_placed s) ts ≡ tr
 all_placed s [] h = refl
 all_placed s (t ∷ ts) h = grind (arith, all_placed s ts)
 
-told_again : (told : Bool) (files : List File) → is_told (cond told (Some files) None) ≡ told
-told_again true files = refl
-told_again false files = refl
+told_again : (told : Bool) (held : Held) → is_told (cond told (Some held) None) ≡ told
+told_again true held = refl
+told_again false held = refl
 
-files_again : (told : Bool) (files : List File) → (told ≡ false → files ≡ []) → files_of (cond told (Some files) None) ≡ files
-files_again true files none = refl
-files_again false files none = sym (none refl)
+files_again : (told : Bool) (held : Held) → (told ≡ false → held.present ≡ []) → files_of (cond told (Some held) None) ≡ held.present
+files_again true held none = refl
+files_again false held none = sym (none refl)
+
+hidden_again : (told : Bool) (held : Held) → (told ≡ false → held.hidden ≡ []) → hidden_of (cond told (Some held) None) ≡ held.hidden
+hidden_again true held none = refl
+hidden_again false held none = sym (none refl)
 
 -- a state in which nothing is open is the one that its lists open with
 pub opened_again : (s : State) (most_live most_made : ℕ) → Valid s → s.connections ≡ [] → s.handles ≡ [] →
-    opened_over (cond s.told (Some s.files) None) (opening_of s.limits (record { most_live = most_live; most_made = most_made; live = s.documents; made = s.made }) s.rights s.applications s.entries) ≡ s
+    opened_over (files_told s) (opening_of s.limits (record { most_live = most_live; most_made = most_made; live = s.documents; made = s.made }) s.rights s.applications s.entries s.taken) ≡ s
 opened_again s most_live most_made v none closed = λ i. record {
   limits = s.limits;
   documents = documents_again s.rights s.documents i;
@@ -217,9 +222,10 @@ opened_again s most_live most_made v none closed = λ i. record {
   applications = s.applications;
   connections = sym none i;
   handles = sym closed i;
-  told = told_again s.told s.files i;
-  files = files_again s.told s.files v.files_told i;
-  taken = sym v.taken_none i;
+  told = told_again s.told (held_in s) i;
+  files = files_again s.told (held_in s) v.files_told i;
+  hidden = hidden_again s.told (held_in s) v.generations_sound.none_untold i;
+  taken = s.taken;
   entries = s.entries;
 }
 

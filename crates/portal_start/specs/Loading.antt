@@ -1,5 +1,7 @@
 -- The lists that records open a portal with, or why they open none.
-use Rattle.std.specs.Prelude.{◌≡◌, ◌≢◌, ◌⊎◌, ℕ, ◌^◌, nat_lt, [], ◌∷◌, Bool, true, false, map, Some}
+use Rattle.std.specs.Prelude.{◌≡◌, ◌≢◌, ◌⊎◌, ◌==◌, ℕ, ◌^◌, nat_lt, [], ◌∷◌, Bool, true, false, map, Option, Some, IfSome}
+use Rattle.std.specs.List.{list_all}
+use Rattle.file_generations.specs.Generations.{Held}
 use Rattle.portal_base.specs.declared.limits.Limits.{Limits}
 use Rattle.portal_base.specs.declared.names.doc_id.DocId.{DocId}
 use Rattle.portal_model.specs.declared.opening.OpeningDocument.{OpeningDocument}
@@ -98,6 +100,14 @@ LoadsBadly limits old Memory new =
     ((new ≡ after_call old false old.told) × FailsAsTold old.calls false)
     ⊎ FailsToUpgrade limits old done.Memory new
 
+-- where files are told, each is the first of its path, and present: no generation was taken yet
+pub record AreFirst (held : Held) : Type 0 where
+  pub none_hidden : held.hidden ≡ []
+  pub first : list_all (λ f. f.generation == 0) held.present ≡ true
+
+abbrev pub BeganFirst : Option Held → Type 0
+BeganFirst began = IfSome began AreFirst
+
 -- the lists are those of the opening state
 pub record AreLists (lists : Lists) : Type 0 where
   pub documents : lists.documents ≡ record {
@@ -109,6 +119,8 @@ pub record AreLists (lists : Lists) : Type 0 where
   pub rights : lists.rights ≡ rights_kept lists.opening.documents
   pub applications : lists.applications ≡ lists.opening.applications
   pub tables : lists.tables ≡ lists.opening.entries
+  pub none_made : lists.temps.seats ≡ []
+  pub taken : lists.temps.taken ≡ lists.opening.taken
 
 -- why records that were loaded make no portal
 abbrev pub AreBad : Limits → Records → StartError → Type 0

@@ -4,6 +4,7 @@ use Rattle.document_records.specs.Documents.{DocumentList}
 use Rattle.portal_base.specs.declared.limits.Limits.{Limits}
 use Rattle.portal_model.specs.declared.opening.OpeningDocument.{OpeningDocument}
 use Rattle.portal_model.specs.declared.opening.OpeningState.{OpeningState}
+use Rattle.portal_model.specs.declared.opening.TakenGeneration.{TakenGeneration}
 use Rattle.portal_model.specs.declared.state.Document.{Document}
 use Rattle.portal_model.specs.declared.state.Triple.{Triple}
 use Rattle.portal_model.specs.Kept.{document_record}
@@ -18,14 +19,16 @@ document_again rights d = record {
 }
 
 -- The live documents with their rights, all numbers that were made, the applications by their
--- numbers, and the entries of the permission store. The tree tells the files.
-abbrev pub opening_of : Limits → DocumentList → List Triple → List (List ℕ) → Entries → OpeningState
-opening_of limits documents rights applications entries = record {
+-- numbers, the entries of the permission store, and the generations that were taken. The tree tells
+-- the files.
+abbrev pub opening_of : Limits → DocumentList → List Triple → List (List ℕ) → Entries
+    → List TakenGeneration → OpeningState
+opening_of limits documents rights applications entries taken = record {
   limits = limits;
   documents = map (document_again rights) documents.live;
   made = documents.made;
   applications = applications;
   entries = entries;
   files = [];
-  taken = [];
+  taken = taken;
 }

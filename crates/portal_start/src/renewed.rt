@@ -11,13 +11,14 @@ use permission_table::Tables;
 use portal_base::limits::Limits;
 use portal_base::list::List;
 use portal_base::memory::WantOfMemory;
-use portal_model::opening::{OpeningDocument, OpeningState};
+use portal_model::opening::{OpeningDocument, OpeningState, TakenGeneration};
 use portal_model::records::DocRecord;
 use portal_model::state::Document;
 use std::alloc::Global;
 
-/// The opening state of a history that goes on from these lists. Its list of
-/// files is empty, and the rows of each of its entries stand in order.
+/// The opening state of a history that goes on from these lists, with the generations that
+/// were taken. Its list of files is empty, and the rows of each of its entries stand in
+/// order.
 pub fn opening_of(
     alloc: Global,
     limits: &Limits,
@@ -25,9 +26,11 @@ pub fn opening_of(
     rights: &Grants,
     applications: &Applications,
     tables: &Tables,
+    taken: &[TakenGeneration],
 ) -> Result<OpeningState, WantOfMemory>
     ensures value { IfOk result (λ opening. opening
-        ≡ opening_of limits.now documents.now rights.now applications.now tables.now) }
+        ≡ opening_of limits.now documents.now rights.now applications.now tables.now
+        taken.now) }
     ensures rows { OnOk result (list_all (λ e. are_rows e.rows) tables.now ≡ true) }
 {
     Ok(OpeningState {
@@ -37,7 +40,7 @@ pub fn opening_of(
         applications: copies(alloc, applications.names())?,
         entries: copies_of_entries(alloc, tables.entries())?,
         files: List::new(alloc),
-        taken: List::new(alloc),
+        taken: copies(alloc, taken)?,
     })
 }
 

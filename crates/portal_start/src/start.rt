@@ -10,7 +10,7 @@ ghost use Rattle.record_keeper.specs.BadRecords.{AreGood, first_version};
 ghost use Rattle.record_keeper.specs.Keepers.{Applies};
 ghost use Rattle.record_keeper.specs.declared.keeper.KeeperDone.TheVariants.{Done};
 
-use crate::copies::copies_of_entries;
+use crate::copies::{copies, copies_of_entries};
 use crate::opening;
 use document_records::{Applications, Documents, Grants};
 use permission_table::Tables;
@@ -22,6 +22,7 @@ use portal_model::opening::OpeningState;
 use portal_model::records::{RecordChange, Records};
 use record_keeper::laws::good_records_keep_good_entries;
 use record_keeper::{FIRST_VERSION, Keeper, KeeperDone, KeeperLoad, RecordsFault, records_fault};
+use save_files::Temps;
 use std::alloc::Global;
 use thiserror::Error;
 
@@ -78,6 +79,8 @@ pub struct Lists {
     pub applications: Applications,
     /// The tables of the permission store.
     pub tables: Tables,
+    /// The generations that were taken, and no temporary.
+    pub temps: Temps,
 }
 
 /// Loads the records of a keeper, which are to be good under the limits. Those of
@@ -204,11 +207,13 @@ pub fn lists_of_opening(alloc: Global, opening: OpeningState) -> Result<Lists, W
     let entries = copies_of_entries(alloc, opening.entries.as_slice())?;
     valid_entries_are_held();
     let tables = Tables::with_entries(alloc, entries)?;
+    let taken = copies(alloc, opening.taken.as_slice())?;
     Ok(Lists {
         opening,
         documents,
         rights,
         applications,
         tables,
+        temps: Temps::with_taken(alloc, taken),
     })
 }

@@ -1,6 +1,6 @@
 -- What an Add comes to: none of its own refusals tells that a device failed, and it comes to nothing only where a call of the tree failed.
 use Rattle.std.proofs.Common.{◌≡◌, ℕ, List, [], ◌∷◌, drop, Bool, true, false, not, cond, Option, Some, None, refl}
-use Rattle.portal_base.specs.declared.files.File.{File}
+use Rattle.file_generations.specs.Generations.{Held}
 use Rattle.portal_base.specs.declared.files.Look.{Look}
 use Rattle.portal_base.specs.declared.names.doc_id.DocId.{DocId}
 use Rattle.portal_model.specs.declared.reply.Code.{Code}
@@ -51,7 +51,7 @@ add-tells s c a numbers now looks failed =
 -- ---- where a call of the tree failed
 
 -- a walk comes to nothing just there
-pub gives-none : {X : Type 0} (told : Option (List File)) (now : ℕ) (failed : Bool) (looks : List Look) (walk : Walk X) → Gives told walk looks failed → walked walk now looks failed ≡ None → failed ≡ true
+pub gives-none : {X : Type 0} (told : Option Held) (now : ℕ) (failed : Bool) (looks : List Look) (walk : Walk X) → Gives told walk looks failed → walked walk now looks failed ≡ None → failed ≡ true
 gives-none told now failed looks (Answers x) k e = cc
 gives-none told now failed [] (Looks target next) k e = k
 gives-none told now failed (look ∷ looks) (Looks target next) k e = gives-none told now failed looks (next look) k.1 e
@@ -61,7 +61,7 @@ gives-none told now failed (look ∷ looks) (Ends call done missing) k e = cc
 gives-none told now true looks (Lists path done missing) k e = refl
 gives-none told now false looks (Lists path done missing) k e = cc
 
-pub gives-some : {X : Type 0} (told : Option (List File)) (now : ℕ) (failed : Bool) (looks : List Look) (walk : Walk X) (x : X) → Gives told walk looks failed → walked walk now looks failed ≡ Some x → failed ≡ false
+pub gives-some : {X : Type 0} (told : Option Held) (now : ℕ) (failed : Bool) (looks : List Look) (walk : Walk X) (x : X) → Gives told walk looks failed → walked walk now looks failed ≡ Some x → failed ≡ false
 gives-some told now failed looks (Answers x) y k e = k.1
 gives-some told now failed [] (Looks target next) y k e = cc
 gives-some told now failed (look ∷ looks) (Looks target next) y k e = gives-some told now failed looks (next look) y k.1 e

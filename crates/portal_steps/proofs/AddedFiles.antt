@@ -5,7 +5,7 @@ use Rattle.std.specs.List.{position}
 use Rattle.add_calls.specs.Placing.{HasDrawnUpTo}
 use Rattle.add_serving.specs.Adds.{documents_made}
 use Rattle.document_records.specs.Documents.{DocumentList}
-use Rattle.portal_base.specs.declared.files.File.{File}
+use Rattle.file_generations.specs.Generations.{Held}
 use Rattle.portal_base.specs.declared.memory.WantOfMemory.{WantOfMemory}
 use Rattle.portal_model.specs.declared.reply.Answer.{Answer}
 use Rattle.portal_model.specs.declared.reply.Code.{Code}
@@ -29,7 +29,7 @@ use Rattle.portal_steps.proofs.ServedLists.{none-there, on-some, same_lists}
 use Rattle.portal_steps.proofs.Steps.{bus_found}
 use Rattle.store_serving.specs.Waiting.{silent}
 
-module _ (ds : DocumentList) (rs : List Triple) (apps : List (List ℕ)) (cs : List Connection) (told : Option (List File)) where
+module _ (ds : DocumentList) (rs : List Triple) (apps : List (List ℕ)) (cs : List Connection) (told : Option Held) where
   -- what the whole call says of an Add that was served
   abbrev pub ServesAdd : Option Connection → AddRequest → DocumentList → List Triple → List (List ℕ) → List Connection → KeeperIs → KeeperIs → ServedCall → Type 0
   ServesAdd o a ds' rs' apps' cs' old new served =

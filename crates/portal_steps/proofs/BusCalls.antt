@@ -2,7 +2,7 @@
 use Rattle.std.proofs.Common.{◌≡◌, ℕ, zero, suc, List, [], ◌∷◌, length, map, replicate, Bool, true, false, not, Option, Some, None, is_some, refl, sym, ap, ◌∙◌}
 use Rattle.host_tree.specs.declared.tree.TreeCall.{TreeCall}
 use Rattle.node_looks.specs.TreeCalls.{Call, call_at, calls_by, unfailed}
-use Rattle.portal_base.specs.declared.files.File.{File}
+use Rattle.file_generations.specs.Generations.{Held}
 use Rattle.portal_base.specs.declared.files.Look.{Look}
 use Rattle.portal_base.specs.declared.names.doc_id.DocId.{DocId}
 use Rattle.portal_model.specs.declared.entry.Given.{Given}
@@ -47,7 +47,7 @@ answered-calls [] false e f = refl
 answered-calls [] true e f = absurd (cc)
 answered-calls (look ∷ looks) failed e f = absurd (cc)
 
-walk-calls : {X : Type 0} (last : X → TreeCall) (told : Option (List File)) (looks : List Look) (failed : Bool) (w : Walk X) → OnlyLooks w → Gives told w looks failed → calls_by last w looks failed ≡ listed (length looks) failed
+walk-calls : {X : Type 0} (last : X → TreeCall) (told : Option Held) (looks : List Look) (failed : Bool) (w : Walk X) → OnlyLooks w → Gives told w looks failed → calls_by last w looks failed ≡ listed (length looks) failed
 walk-calls last told looks failed (Answers x) o g = answered-calls looks failed g.0 g.1
 walk-calls last told [] failed (Looks target next) o g = ap (λ (k : TreeCall). (k, failed) ∷ []) o.0 ∙ (ap (λ (b : Bool). (TreeCall.Look, b) ∷ []) g ∙ ap (listed 0) (sym g))
 walk-calls last told (look ∷ looks) failed (Looks target next) o g =

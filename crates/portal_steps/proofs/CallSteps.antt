@@ -4,10 +4,9 @@ use Rattle.change_signals.specs.Unsent.{AtSeat as BoxAtSeat, Boxes, holding}
 use Rattle.document_records.specs.Documents.{DocumentList}
 use Rattle.portal_base.specs.Outside.{HasRisen}
 use Rattle.node_looks.specs.OpenHandles.{AreOpen}
-use Rattle.file_ops.specs.SeatNames.{AreNamed}
-use Rattle.folder_documents.specs.Named.{Named}
+use Rattle.file_generations.specs.Generations.{Held}
+use Rattle.file_ops.specs.SeatNames.{AreOwn, OwnTables}
 use Rattle.open_handles.specs.Opened.{HandleTable}
-use Rattle.portal_base.specs.declared.files.File.{File}
 use Rattle.portal_base.specs.declared.limits.Limits.{Limits}
 use Rattle.portal_model.specs.declared.entry.Entry.{Entry}
 use Rattle.portal_model.specs.declared.entry.Fault.{Fault}
@@ -53,7 +52,7 @@ use Rattle.portal_steps.proofs.BusCalls.{no-moment}
 use Rattle.portal_steps.proofs.CallVerdicts.{TellsNone, TellsOf, call-changes-none, call-on-bus, is_on_bus, lawful-on-bus, refused-stays, step-on-bus, tells-none, verdict_on, walk-is}
 use Rattle.portal_steps.proofs.SettledCalls.{Settles, settles}
 use Rattle.portal_steps.proofs.Boxes.{queued-waits, silent-queues, told-no-bus, unsent_of}
-use Rattle.portal_steps.proofs.NamedSteps.{named-heard, named-requeued, named-told}
+use Rattle.portal_steps.proofs.NamedSteps.{own-heard, own-requeued, own-same, own-told}
 use Rattle.portal_steps.proofs.OpenSteps.{open-heard, open-requeued, open-told}
 use Rattle.portal_steps.proofs.Steps.{bus-now, bus_found, holds_told, seat_found, stands_more, stored_more, stored_told, told_now, valid-now, valid-told}
 use Rattle.store_serving.specs.Serving.{HasStore}
@@ -196,20 +195,20 @@ tells-of-add s c a given lawful =
 -- ---- the portal's lists
 
 -- the calls of a bus leave the open handles, the names, the files and the limits
-module _ (limits : Limits) (table : HandleTable) (names : List (ℕ × Named)) (told : Option (List File)) where
+module _ (limits : Limits) (table : HandleTable) (own : OwnTables) (told : Option Held) where
   abbrev pub Leaves : State → Type 0
-  Leaves s = (s.limits ≡ limits) × AreOpen s table × AreNamed s names × (told_files s ≡ told)
+  Leaves s = (s.limits ≡ limits) × AreOpen s table × AreOwn s own × (told_files s ≡ told)
 
   pub bus-leaves : (s : State) (request : Request) (given : Given) (c : Option Connection) → Leaves s → Leaves (bus_step s request given c).0
   bus-leaves = bus_step-holds Leaves
-      (λ s seat l. (l.0, open-told table s seat l.1, named-told names s seat l.2, l.3))
-      (λ s seat change l. (l.0, open-requeued table s seat change l.1, named-requeued names s seat change l.2, l.3))
-      (λ s ds made rights apps l. (l.0, record { limit = l.1.limit; each = l.1.each }, l.2, l.3))
-      (λ s entries l. (l.0, record { limit = l.1.limit; each = l.1.each }, l.2, l.3))
-      (λ s change l. (l.0, open-heard table s change l.1, named-heard names s change l.2, l.3))
+      (λ s seat l. (l.0, open-told table s seat l.1, own-told own s seat l.2, l.3))
+      (λ s seat change l. (l.0, open-requeued table s seat change l.1, own-requeued own s seat change l.2, l.3))
+      (λ s ds made rights apps l. (l.0, record { limit = l.1.limit; each = l.1.each }, own-same own s (record s { documents = ds; made = made; rights = rights; applications = apps }) refl refl l.2, l.3))
+      (λ s entries l. (l.0, record { limit = l.1.limit; each = l.1.each }, own-same own s (record s { entries = entries }) refl refl l.2, l.3))
+      (λ s change l. (l.0, open-heard table s change l.1, own-heard own s change l.2, l.3))
 
-module _ (began : Option (List File)) (o : OpeningState) (h : List Entry) (limit : ℕ) (ds : DocumentList) (rs : List Triple) (apps : List (List ℕ)) (cs : List Connection) (table : HandleTable) (names : List (ℕ × Named)) (told : Option (List File))
-    (p : Stands began o h limit ds rs apps cs table names told) where
+module _ (began : Option Held) (o : OpeningState) (h : List Entry) (limit : ℕ) (ds : DocumentList) (rs : List Triple) (apps : List (List ℕ)) (cs : List Connection) (table : HandleTable) (own : OwnTables) (told : Option Held)
+    (p : Stands began o h limit ds rs apps cs table own told) where
   abbrev at : State
   at = run (opened_over began o) h
 
@@ -217,16 +216,16 @@ module _ (began : Option (List File)) (o : OpeningState) (h : List Entry) (limit
   queued-at = ap (λ (l : Limits). l.queued) p.holds.limits_are
 
   -- the words that a refused Add of a seat drew
-  pub drew_added : (seat : ℕ) (a : AddRequest) (tells : Option (List File)) → tells ≡ told → (words words' : Option (List ℕ)) →
+  pub drew_added : (seat : ℕ) (a : AddRequest) (tells : Option Held) → tells ≡ told → (words words' : Option (List ℕ)) →
       ((s : State) (b : Option Connection) → Valid s → HasLists s ds rs apps cs → files_told s ≡ tells → option_map silent b ≡ bus_of (connection_of cs seat) → DrewOn s a words words' b) →
       DrewForMade at a words words'
   drew_added seat a tells t words words' k =
-      inr (seat, k at (bus_of (connection_of at.connections seat)) (valid-now began o h limit ds rs apps cs table names told p) p.holds.lists (p.holds.files ∙ sym t) (bus-now began o h limit ds rs apps cs table names told p seat))
+      inr (seat, k at (bus_of (connection_of at.connections seat)) (valid-now began o h limit ds rs apps cs table own told p) p.holds.lists (p.holds.files ∙ sym t) (bus-now began o h limit ds rs apps cs table own told p seat))
 
   module _ (ds' : DocumentList) (rs' : List Triple) (apps' : List (List ℕ)) (cs' : List Connection) (seat : ℕ) (request : Request) (given : Given) (signals : List Change) (answer : Answer) (old new : KeeperIs) where
     -- the state in which the request is answered, and the one after it
     abbrev asked : State
-    asked = told_now began o h limit ds rs apps cs table names told p seat
+    asked = told_now began o h limit ds rs apps cs table own told p seat
 
     abbrev next : State
     next = with_lists asked ds' rs' apps' cs'
@@ -240,40 +239,40 @@ module _ (began : Option (List File)) (o : OpeningState) (h : List Entry) (limit
 
     served-now : CallServed → ServedOn asked request given next answer old new (bus_of (connection_of at.connections seat))
     served-now k =
-        k asked (bus_of (connection_of at.connections seat)) (valid-told began o h limit ds rs apps cs table names told p seat) (holds_told began o h limit ds rs apps cs table names told p seat).lists queued-at (bus-now began o h limit ds rs apps cs table names told p seat)
+        k asked (bus_of (connection_of at.connections seat)) (valid-told began o h limit ds rs apps cs table own told p seat) (holds_told began o h limit ds rs apps cs table own told p seat).lists queued-at (bus-now began o h limit ds rs apps cs table own told p seat)
 
     pub comes : is_document_call request ≡ true → SignalsTaken → KeepsState old.told at → CallServed → Comes at seat request given next signals answer old new
     comes call taken keeps k =
-        comes-on at (valid-now began o h limit ds rs apps cs table names told p) seat request given signals taken next answer old new (call-on-bus request call) keeps (bus_of (connection_of at.connections seat)) refl refl
+        comes-on at (valid-now began o h limit ds rs apps cs table own told p) seat request given signals taken next answer old new (call-on-bus request call) keeps (bus_of (connection_of at.connections seat)) refl refl
         (λ c lawful. tells-of-call asked c request given call) (λ c. ap records_of (refused-stays asked c request call)) (served-now k)
 
     pub untreed : is_document_call request ≡ true → CallServed → IsUntreed request given
     untreed call k = untreed-on asked request given next answer old new (bus_of (connection_of at.connections seat)) call (served-now k)
 
     -- of an Add
-    pub comes_added : (a : AddRequest) → request ≡ Request.Add a → (tells : Option (List File)) → tells ≡ told → SignalsTaken → KeepsState old.told at →
+    pub comes_added : (a : AddRequest) → request ≡ Request.Add a → (tells : Option Held) → tells ≡ told → SignalsTaken → KeepsState old.told at →
         ((s : State) (b : Option Connection) → Valid s → HasLists s ds rs apps cs → files_told s ≡ tells → option_map silent b ≡ bus_of (connection_of cs seat) → ServedOn s (Request.Add a) given (with_lists s ds' rs' apps' cs') answer old new b) →
         Comes at seat request given next signals answer old new
     comes_added a e tells t taken keeps k =
         subst (λ (r : Request). Comes at seat r given next signals answer old new) (sym e)
-        (comes-on at (valid-now began o h limit ds rs apps cs table names told p) seat (Request.Add a) given signals taken next answer old new refl keeps (bus_of (connection_of at.connections seat)) refl refl
+        (comes-on at (valid-now began o h limit ds rs apps cs table own told p) seat (Request.Add a) given signals taken next answer old new refl keeps (bus_of (connection_of at.connections seat)) refl refl
         (λ c lawful. tells-of-add asked c a given lawful) (λ c. queue-records asked c a)
-        (k asked (bus_of (connection_of at.connections seat)) (valid-told began o h limit ds rs apps cs table names told p seat) (holds_told began o h limit ds rs apps cs table names told p seat).lists (p.holds.files ∙ sym t) (bus-now began o h limit ds rs apps cs table names told p seat)))
+        (k asked (bus_of (connection_of at.connections seat)) (valid-told began o h limit ds rs apps cs table own told p seat) (holds_told began o h limit ds rs apps cs table own told p seat).lists (p.holds.files ∙ sym t) (bus-now began o h limit ds rs apps cs table own told p seat)))
 
     -- entries and boxes after it
     pub stored_served : (entries : Entries) (boxes boxes' : Boxes) → Comes at seat request given next signals answer old new → BoxAtSeat (holding []) boxes boxes' seat → HasStore at entries boxes → HasStore (run (opened_over began o) (h ++ entry_with seat request given ∷ [])) entries boxes'
     stored_served entries boxes boxes' k taken st =
-        let before : HasStore asked entries boxes' = stored_told began o h limit ds rs apps cs table names told p seat entries boxes boxes' taken st in
-        stored_more began o h limit ds rs apps cs table names told p (entry_with seat request given) entries boxes'
+        let before : HasStore asked entries boxes' = stored_told began o h limit ds rs apps cs table own told p seat entries boxes boxes' taken st in
+        stored_more began o h limit ds rs apps cs table own told p (entry_with seat request given) entries boxes'
         (subst (λ (s : State). HasStore s entries boxes') (sym k.after_is) (record { stored = before.stored; waiting = queued-waits asked.connections cs' boxes' before.waiting }))
 
     -- the state after it holds the new lists, and the open handles, the names and the files as before
-    holds-served : is_on_bus request ≡ true → with_queues cs cs' ≡ cs' → Comes at seat request given next signals answer old new → SameLimits ds ds' → Holds (after at (entry_with seat request given)) o.limits ds' rs' apps' cs' table names told
+    holds-served : is_on_bus request ≡ true → with_queues cs cs' ≡ cs' → Comes at seat request given next signals answer old new → SameLimits ds ds' → Holds (after at (entry_with seat request given)) o.limits ds' rs' apps' cs' table own told
     holds-served on queues k same =
         let step : after at (entry_with seat request given) ≡ (bus_step at request given (bus_of (connection_of at.connections seat))).0 = ap (λ (x : State × Reply). x.0) (step-on-bus at seat request given on) in
-        let leaves : Leaves o.limits table names told next = subst (Leaves o.limits table names told) (sym step ∙ k.after_is)
-        (bus-leaves o.limits table names told at request given (bus_of (connection_of at.connections seat)) (p.holds.limits_are, p.holds.handles, p.holds.names, p.holds.files)) in
-        subst (λ (s : State). Holds s o.limits ds' rs' apps' cs' table names told) (sym k.after_is) (record {
+        let leaves : Leaves o.limits table own told next = subst (Leaves o.limits table own told) (sym step ∙ k.after_is)
+        (bus-leaves o.limits table own told at request given (bus_of (connection_of at.connections seat)) (p.holds.limits_are, p.holds.handles, p.holds.own, p.holds.files)) in
+        subst (λ (s : State). Holds s o.limits ds' rs' apps' cs' table own told) (sym k.after_is) (record {
           limits_are = leaves.0;
           lists = record {
             book = record {
@@ -284,16 +283,16 @@ module _ (began : Option (List File)) (o : OpeningState) (h : List Entry) (limit
               held = refl;
               numbered = refl;
             };
-            connected = silent-queues asked.connections cs' ∙ (ap (λ (xs : List Connection). with_queues xs cs') (holds_told began o h limit ds rs apps cs table names told p seat).lists.connected ∙ queues);
+            connected = silent-queues asked.connections cs' ∙ (ap (λ (xs : List Connection). with_queues xs cs') (holds_told began o h limit ds rs apps cs table own told p seat).lists.connected ∙ queues);
           };
           handles = leaves.1;
-          names = leaves.2;
+          own = leaves.2;
           files = leaves.3;
         })
 
     pub stands_served : is_on_bus request ≡ true → with_queues cs cs' ≡ cs' → Comes at seat request given next signals answer old new → SameLimits ds ds' → cost h + cost_of request ≤ o.limits.history →
-        Stands began o (h ++ entry_with seat request given ∷ []) limit ds' rs' apps' cs' table names told
-    stands_served on queues k same room = stands_more began o h limit ds rs apps cs table names told p (entry_with seat request given) ds' rs' apps' cs' table names told k.lawful (holds-served on queues k same) room
+        Stands began o (h ++ entry_with seat request given ∷ []) limit ds' rs' apps' cs' table own told
+    stands_served on queues k same room = stands_more began o h limit ds rs apps cs table own told p (entry_with seat request given) ds' rs' apps' cs' table own told k.lawful (holds-served on queues k same) room
 
     -- the state after the longer history is that of the step
     next-is : Comes at seat request given next signals answer old new → run (opened_over began o) (h ++ entry_with seat request given ∷ []) ≡ next
@@ -307,18 +306,18 @@ module _ (began : Option (List File)) (o : OpeningState) (h : List Entry) (limit
 
 -- ---- a tree that began so goes by another name
 
-pub stands_over : (began began' : Option (List File)) (o : OpeningState) (h : List Entry) (limit : ℕ) (ds : DocumentList) (rs : List Triple) (apps : List (List ℕ)) (cs : List Connection) (table : HandleTable) (names : List (ℕ × Named)) (files files' : Option (List File)) (told : Option Records) → began' ≡ began → files' ≡ files → Stands began o h limit ds rs apps cs table names files → KeepsState told (run (opened_over began o) h) →
-    Stands began' o h limit ds rs apps cs table names files' × KeepsState told (run (opened_over began' o) h)
-stands_over began began' o h limit ds rs apps cs table names files files' told e f s k = (
-  subst (λ (b : Option (List File)). Stands b o h limit ds rs apps cs table names files') (sym e) (subst (λ (x : Option (List File)). Stands began o h limit ds rs apps cs table names x) (sym f) s),
-  subst (λ (b : Option (List File)). KeepsState told (run (opened_over b o) h)) (sym e) k,
+pub stands_over : (began began' : Option Held) (o : OpeningState) (h : List Entry) (limit : ℕ) (ds : DocumentList) (rs : List Triple) (apps : List (List ℕ)) (cs : List Connection) (table : HandleTable) (own : OwnTables) (files files' : Option Held) (told : Option Records) → began' ≡ began → files' ≡ files → Stands began o h limit ds rs apps cs table own files → KeepsState told (run (opened_over began o) h) →
+    Stands began' o h limit ds rs apps cs table own files' × KeepsState told (run (opened_over began' o) h)
+stands_over began began' o h limit ds rs apps cs table own files files' told e f s k = (
+  subst (λ (b : Option Held). Stands b o h limit ds rs apps cs table own files') (sym e) (subst (λ (x : Option Held). Stands began o h limit ds rs apps cs table own x) (sym f) s),
+  subst (λ (b : Option Held). KeepsState told (run (opened_over b o) h)) (sym e) k,
 )
 
-pub stored_over : (began began' : Option (List File)) (o : OpeningState) (h : List Entry) (entries : Entries) (boxes : Boxes) → began' ≡ began → HasStore (run (opened_over began o) h) entries boxes → HasStore (run (opened_over began' o) h) entries boxes
-stored_over began began' o h entries boxes e k = subst (λ (b : Option (List File)). HasStore (run (opened_over b o) h) entries boxes) (sym e) k
+pub stored_over : (began began' : Option Held) (o : OpeningState) (h : List Entry) (entries : Entries) (boxes : Boxes) → began' ≡ began → HasStore (run (opened_over began o) h) entries boxes → HasStore (run (opened_over began' o) h) entries boxes
+stored_over began began' o h entries boxes e k = subst (λ (b : Option Held). HasStore (run (opened_over b o) h) entries boxes) (sym e) k
 
-pub keeping_over : (began began' : Option (List File)) (o : OpeningState) (h : List Entry) (s : State) (e : Entry) (old new : KeeperIs) → began' ≡ began → Keeping s e (run (opened_over began o) h) old new → Keeping s e (run (opened_over began' o) h) old new
-keeping_over began began' o h s e old new b k = subst (λ (x : Option (List File)). Keeping s e (run (opened_over x o) h) old new) (sym b) k
+pub keeping_over : (began began' : Option Held) (o : OpeningState) (h : List Entry) (s : State) (e : Entry) (old new : KeeperIs) → began' ≡ began → Keeping s e (run (opened_over began o) h) old new → Keeping s e (run (opened_over began' o) h) old new
+keeping_over began began' o h s e old new b k = subst (λ (x : Option Held). Keeping s e (run (opened_over x o) h) old new) (sym b) k
 
 -- Failed tells of the device that failed
 pub failed_device : (tree tree_after : TreeIs) (n : ℕ) (fault : Fault) (then : State) (answer : Answer) (old new : KeeperIs) → Asked tree n (is_tree fault) tree_after → Settles then fault answer old new → answer ≡ Answer.Refused Code.Failed →

@@ -1,13 +1,13 @@
 -- What a request on a node asks of the devices, and how it is replied to.
 use Rattle.std.proofs.Common.{◌≡◌, ◌≢◌, ℕ, List, [], ◌∷◌, map, Bool, true, false, Option, Some, None, refl, sym, ap, subst, ◌∙◌}
 use Rattle.node_looks.specs.TreeCalls.{Call, after_calls, unfailed}
+use Rattle.file_ops.specs.SeatNames.{OwnTables}
 use Rattle.file_ops.specs.Wanting.{may_be_below, may_call_in_vain, may_change_file, vain_by}
 use Rattle.node_looks.specs.declared.served.NodeDone.{NodeDone}
 use Rattle.host_tree.specs.Trees.{TreeIs, after_call}
-use Rattle.folder_documents.specs.Named.{Named}
 use Rattle.node_serving.specs.Seats.{ServesSeat}
 use Rattle.open_handles.specs.Opened.{HandleTable}
-use Rattle.portal_base.specs.declared.files.File.{File}
+use Rattle.file_generations.specs.Generations.{Held}
 use Rattle.portal_model.specs.declared.entry.Entry.{Entry}
 use Rattle.portal_model.specs.declared.entry.Fault.{Fault}
 use Rattle.portal_model.specs.declared.entry.Given.{Given}
@@ -40,7 +40,7 @@ after-began : (calls : List Call) (old : TreeIs) → (after_calls old calls).beg
 after-began [] old = refl
 after-began (call ∷ more) old = after-began more (after_call old call.0 call.1 old.told)
 
-pub calls-keep : (old : TreeIs) (calls : List Call) (files : Option (List File)) (new : TreeIs) → Calling old calls files new → new.began ≡ old.began
+pub calls-keep : (old : TreeIs) (calls : List Call) (files : Option Held) (new : TreeIs) → Calling old calls files new → new.began ≡ old.began
 calls-keep old calls files new k = ap (λ (t : TreeIs). t.began) k.goes ∙ after-began calls old
 
 pub was-called-keeps : (most : ℕ) (old new : TreeIs) → WasCalledUpTo most old new → (new.began ≡ old.began) × (new.told ≡ old.told)
@@ -75,5 +75,5 @@ pub told-on : (h : List Entry) (s : State) → (run s h).told ≡ s.told
 told-on [] s = refl
 told-on (e ∷ es) s = told-on es (after s e) ∙ step_told s e.seat e.request e.given
 
-pub replied-node : (told : Bool) (s : State) (seat : ℕ) (r : NodeRequest) (old : TreeIs) (done : NodeDone) (cs : List Connection) (table : HandleTable) (names : List (ℕ × Named)) (new : TreeIs) → s.told ≡ told → ServesSeat s seat r old done cs table names new → Alike told (Request.Node r) (reply_at s (node_entry seat r done)) (reply_with [] done.answer)
-replied-node told s seat r old done cs table names new e k = subst (λ (b : Bool). Alike b (Request.Node r) (reply_at s (node_entry seat r done)) (reply_with [] done.answer)) e k.reply
+pub replied-node : (told : Bool) (s : State) (seat : ℕ) (r : NodeRequest) (old : TreeIs) (done : NodeDone) (cs : List Connection) (table : HandleTable) (own : OwnTables) (new : TreeIs) → s.told ≡ told → ServesSeat s seat r old done cs table own new → Alike told (Request.Node r) (reply_at s (node_entry seat r done)) (reply_with [] done.answer)
+replied-node told s seat r old done cs table own new e k = subst (λ (b : Bool). Alike b (Request.Node r) (reply_at s (node_entry seat r done)) (reply_with [] done.answer)) e k.reply

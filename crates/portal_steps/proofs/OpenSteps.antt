@@ -3,7 +3,8 @@ use Rattle.std.proofs.Common.{◌≡◌, ℕ, ◌==◌, List, [], ◌∷◌, ◌
 use Rattle.std.specs.List.{list_all}
 use Rattle.std.proofs.lemmas.Bool.Decides.{nat_tests}
 use Rattle.node_looks.specs.OpenHandles.{AreOpen, AreOpened, numbered, open_on}
-use Rattle.file_ops.specs.SeatNames.{AreNamed}
+use Rattle.file_ops.specs.SeatNames.{AreNamed, AreOwn, OwnTables}
+use Rattle.file_ops.specs.SeatTemps.{AreTemps, held_by, held_of}
 use Rattle.folder_documents.specs.Named.{Named, named_on}
 use Rattle.node_serving.specs.Seats.{AreEntered}
 use Rattle.open_handles.specs.Opened.{AtSeat, Enters, HandleTable, Leaves, Opened, opened_on}
@@ -21,6 +22,8 @@ use Rattle.portal_model.specs.Step.{all_told, told_of}
 use Rattle.portal_model.specs.StoreRequest.{tell_hosts, told_change}
 use Rattle.portal_model.specs.Valid.{has_host_path, is_host_bus, is_sound_handle, opened_here, viewed_here}
 use Rattle.portal_steps.proofs.Boxes.{hushed, hushed-found, joined-elsewhere, joined-here, left-elsewhere, left-here, silent-found, some-silent}
+use Rattle.save_files.specs.Own.{Own, own_on}
+use Rattle.save_files.specs.Tables.{TempTable}
 use Rattle.store_serving.specs.Waiting.{silent}
 
 pub is-number : (a b : ℕ) → (a == b) ≡ true → a ≡ b
@@ -31,9 +34,12 @@ turned a b t e = grind (arith, nat_tests)
 
 -- ---- connections that change
 
--- what is done to a connection leaves its seat, the last number that it was given and what it has named
+-- what is done to a connection leaves its seat, the last number that it was given, what it has named and its temporaries
+abbrev pub KeptOf : Connection → Connection → Type 0
+KeptOf c d = (d.seat ≡ c.seat) × (d.opens ≡ c.opens) × (d.namings ≡ c.namings) × (held_of d ≡ held_of c)
+
 abbrev pub Keeps : (Connection → Connection) → Type 0
-Keeps f = (c : Connection) → ((f c).seat ≡ c.seat) × ((f c).opens ≡ c.opens) × ((f c).namings ≡ c.namings)
+Keeps f = (c : Connection) → KeptOf c (f c)
 
 pub mapped-of : (f : Connection → Connection) (cs : List Connection) (q : ℕ) → Keeps f → connection_of (map f cs) q ≡ option_map f (connection_of cs q)
 mapped-of f [] q k = refl
@@ -57,13 +63,11 @@ open-mapped s f table k a = record {
 
 pub told-keeps : (seat : ℕ) → Keeps (told_of seat)
 told-keeps seat c =
-    elim (c.seat == seat) as (λ b. ((cond b (record c { unsent = [] }) c).seat ≡ c.seat) × ((cond b (record c { unsent = [] }) c).opens ≡ c.opens) × ((cond b (record c { unsent = [] }) c).namings ≡ c.namings))
-    [ true ↦ (refl, refl, refl) | false ↦ (refl, refl, refl) ]
+    elim (c.seat == seat) as (λ b. KeptOf c (cond b (record c { unsent = [] }) c)) [ true ↦ (refl, refl, refl, refl) | false ↦ (refl, refl, refl, refl) ]
 
 pub requeued-keeps : (seat : ℕ) (change : List (List ℕ) → List (List ℕ)) → Keeps (requeued seat change)
 requeued-keeps seat change c =
-    elim (c.seat == seat) as (λ b. ((cond b (record c { queue = change c.queue }) c).seat ≡ c.seat) × ((cond b (record c { queue = change c.queue }) c).opens ≡ c.opens) × ((cond b (record c { queue = change c.queue }) c).namings ≡ c.namings))
-    [ true ↦ (refl, refl, refl) | false ↦ (refl, refl, refl) ]
+    elim (c.seat == seat) as (λ b. KeptOf c (cond b (record c { queue = change c.queue }) c)) [ true ↦ (refl, refl, refl, refl) | false ↦ (refl, refl, refl, refl) ]
 
 pub open-told : (table : HandleTable) (s : State) (seat : ℕ) → AreOpen s table → AreOpen (all_told seat s) table
 open-told table s seat a = open-mapped s (told_of seat) table (told-keeps seat) a
@@ -73,8 +77,7 @@ open-requeued table s seat change a = open-mapped s (requeued seat change) table
 
 pub heard-keeps : (change : Change) → Keeps (told_change change)
 heard-keeps change c =
-    elim (is_host_bus c.who c.kind) as (λ b. ((cond b (record c { unsent = c.unsent ++ change ∷ [] }) c).seat ≡ c.seat) × ((cond b (record c { unsent = c.unsent ++ change ∷ [] }) c).opens ≡ c.opens) × ((cond b (record c { unsent = c.unsent ++ change ∷ [] }) c).namings ≡ c.namings))
-    [ true ↦ (refl, refl, refl) | false ↦ (refl, refl, refl) ]
+    elim (is_host_bus c.who c.kind) as (λ b. KeptOf c (cond b (record c { unsent = c.unsent ++ change ∷ [] }) c)) [ true ↦ (refl, refl, refl, refl) | false ↦ (refl, refl, refl, refl) ]
 
 pub open-heard : (table : HandleTable) (s : State) (change : Change) → AreOpen s table → AreOpen (tell_hosts change s) table
 open-heard table s change a = open-mapped s (told_change change) table (heard-keeps change) a
@@ -82,7 +85,7 @@ open-heard table s change a = open-mapped s (told_change change) table (heard-ke
 -- ---- what connections wait for has nothing to do with handles
 
 pub hushed-keeps : Keeps hushed
-hushed-keeps c = (refl, refl, refl)
+hushed-keeps c = (refl, refl, refl, refl)
 
 pub open-hushed : (table : HandleTable) (s : State) → AreOpen s table → AreOpen (record s { connections = map hushed s.connections }) table
 open-hushed table s a = open-mapped s hushed table hushed-keeps a
@@ -193,10 +196,17 @@ seats-alike : (s : State) (cs : List Connection) → map silent s.connections �
 seats-alike s cs e q =
     sym (some-silent (connection_of s.connections q)) ∙ (ap (λ (o : Option Connection). is_some o) (sym (silent-found s.connections q)) ∙ ap (λ (l : List Connection). is_some (connection_of l q)) e)
 
-pub are-entered : (s : State) (cs : List Connection) (table : HandleTable) (names : List (ℕ × Named)) → map silent s.connections ≡ cs → AreOpen s table → AreNamed s names → AreEntered cs table names
-are-entered s cs table names e a m = λ q. (
+owned-alike : (n : Option Own) (o : Option Connection) → option_map held_by n ≡ option_map held_of o → is_some n ≡ is_some o
+owned-alike None None e = refl
+owned-alike None (Some c) e = cc
+owned-alike (Some n) None e = cc
+owned-alike (Some n) (Some c) e = refl
+
+pub are-entered : (s : State) (cs : List Connection) (table : HandleTable) (own : OwnTables) → map silent s.connections ≡ cs → AreOpen s table → AreOwn s own → AreEntered cs table own
+are-entered s cs table own e a m = λ q. (
   entered-alike (open_on s.handles q) (connection_of s.connections q) (opened_on table.seats q) (a.each q) ∙ seats-alike s cs e q,
-  named-alike (named_on names q) (connection_of s.connections q) (m q) ∙ seats-alike s cs e q,
+  named-alike (named_on own.names q) (connection_of s.connections q) (m.named q) ∙ seats-alike s cs e q,
+  owned-alike (own_on own.temps.seats q) (connection_of s.connections q) (m.temps.each q) ∙ seats-alike s cs e q,
 )
 
 pub not-entered : (s : State) (cs : List Connection) (table : HandleTable) (seat : ℕ) → map silent s.connections ≡ cs → AreOpen s table → connection_of cs seat ≡ None → opened_on table.seats seat ≡ None
@@ -212,5 +222,13 @@ not-named s cs names seat e m c =
     nothing (named_on names seat) (named-alike (named_on names seat) (connection_of s.connections seat) (m seat) ∙ (seats-alike s cs e seat ∙ ap (λ (o : Option Connection). is_some o) c))
   where
     nothing : (n : Option Named) → is_some n ≡ false → n ≡ None
+    nothing None h = refl
+    nothing (Some n) h = absurd (cc)
+
+pub not-owned : (s : State) (cs : List Connection) (temps : TempTable) (seat : ℕ) → map silent s.connections ≡ cs → AreTemps s temps → connection_of cs seat ≡ None → own_on temps.seats seat ≡ None
+not-owned s cs temps seat e m c =
+    nothing (own_on temps.seats seat) (owned-alike (own_on temps.seats seat) (connection_of s.connections seat) (m.each seat) ∙ (seats-alike s cs e seat ∙ ap (λ (o : Option Connection). is_some o) c))
+  where
+    nothing : (n : Option Own) → is_some n ≡ false → n ≡ None
     nothing None h = refl
     nothing (Some n) h = absurd (cc)

@@ -7,10 +7,10 @@ use Rattle.node_looks.specs.Served.{given_to}
 use Rattle.node_looks.specs.TreeCalls.{Call, Calling, calls_of}
 use Rattle.node_looks.specs.declared.served.NodeDone.{NodeDone}
 use Rattle.host_tree.specs.Trees.{TreeIs}
-use Rattle.file_ops.specs.SeatNames.{AreNamed}
-use Rattle.folder_documents.specs.Named.{Named}
+use Rattle.file_ops.specs.SeatNames.{AreOwn, OwnTables}
 use Rattle.node_serving.specs.Seats.{ServesSeat, calls_on, seat_step, unnamed}
 use Rattle.open_handles.specs.Opened.{HandleTable}
+use Rattle.file_generations.specs.Generations.{all_held}
 use Rattle.portal_base.specs.declared.who.Who.{Who}
 use Rattle.portal_model.specs.declared.entry.Given.{Given}
 use Rattle.portal_model.specs.declared.handle.OpenHandle.{OpenHandle}
@@ -21,26 +21,27 @@ use Rattle.portal_model.specs.declared.reply.Reply.{Reply}
 use Rattle.portal_model.specs.declared.request.NodeRequest.{NodeRequest}
 use Rattle.portal_model.specs.declared.request.Request.TheVariants as Request
 use Rattle.portal_model.specs.declared.state.Connection.{Connection}
+use Rattle.portal_model.specs.declared.temporary.Temp.{Temp}
 use Rattle.portal_model.specs.Alike.{Alike}
 use Rattle.portal_model.specs.Bus.{is_tree}
 use Rattle.portal_model.specs.Lawful.{LawfulOnNode}
-use Rattle.portal_model.specs.Node.{bytes_named, connections_after, connections_named, counted, files_after, handles_after, named_on, node_answer, node_given, node_walk, room_of, settled_on_node, walk_on_node}
-use Rattle.portal_model.specs.NodeVerdict.{HandleChange, HandlesStay, Opens, Closes, NameChange, NamesStay, Names, NodeVerdict, Errs, Yields}
+use Rattle.portal_model.specs.Node.{bytes_named, connections_after, connections_named, counted, files_after, handles_after, named_on, node_answer, node_given, node_walk, room_of, settled_on_node, walk_on_node, taken_after, temps_changed, temps_seen, with_temps}
+use Rattle.portal_model.specs.NodeVerdict.{HandleChange, HandlesStay, Opens, Closes, NameChange, NamesStay, Names, NodeVerdict, Errs, Yields, Temps}
 use Rattle.portal_model.specs.Outside.{files_told}
-use Rattle.portal_model.specs.Place.{place_named, reach_of_subject, sight_at, subject_of, view_of_node, naming_on}
-use Rattle.portal_model.specs.SeatNames.{with_naming}
-use Rattle.portal_model.specs.State.{State, connection_of, handle_of, is_mount}
+use Rattle.portal_model.specs.Place.{place_named, reach_of_subject, sight_at, subject_of, view_of_node, naming_on, temp_on}
+use Rattle.portal_model.specs.SeatNames.{with_naming, TempChange}
+use Rattle.portal_model.specs.State.{State, connection_of, handle_of, is_mount, held_in}
 use Rattle.portal_model.specs.Step.{all_told, mount_of, node_step, reply_with, told_of, with_signals}
-use Rattle.portal_model.specs.Walk.{Walk, Gives, reads_clock, GivesNames}
-use Rattle.portal_model.specs.Valid.{Valid, has_no_temps, is_bound_connection, is_caller, is_host_bus, is_none, is_sound_change, is_sound_connection}
+use Rattle.portal_model.specs.Walk.{Walk, Gives, reads_clock, GivesNames, generation_reached}
+use Rattle.portal_model.specs.Valid.{Valid, is_caller, is_host_bus, is_none, is_sound_change, is_sound_connection}
 use Rattle.portal_model.proofs.DocumentChanges.{both, first_of_both, second_of_both}
-use Rattle.portal_model.proofs.NamesValid.{names-mapped}
+use Rattle.portal_model.proofs.SeatsValid.{seats-mapped}
 use Rattle.portal_model.proofs.OpenHandles.{Alike as AlikeConnections, mapped-handles}
-use Rattle.portal_model.proofs.Queues.{is_sound_queue, seats, sound_bound, sound_no_temps}
-use Rattle.portal_model.proofs.SoundParts.{Valid-connections, valid-handles}
+use Rattle.portal_model.proofs.Queues.{is_sound_queue, seats}
+use Rattle.portal_model.proofs.SoundParts.{Valid-connections, valid-handles, valid-seats}
 use Rattle.portal_model.proofs.WhoWaits.{node_step-quiet}
 use Rattle.portal_steps.proofs.Boxes.{hushed, hushed-found, hushed-unnamed, kept-waits, mount-hushed, told-hushed}
-use Rattle.portal_steps.proofs.NamedSteps.{named-loud}
+use Rattle.portal_steps.proofs.NamedSteps.{own-loud}
 use Rattle.portal_steps.proofs.OpenSteps.{open-loud}
 use Rattle.store_serving.specs.Waiting.{AreWaiting, box_of, silent}
 
@@ -73,10 +74,8 @@ quiet-one queued c h =
     let waits = is_none c.unsent || is_host_bus c.who c.kind in
     let changes = list_all is_sound_change c.unsent in
     let queue = is_sound_queue queued c.queue in
-    let bound = sound_bound queued c h in
-    let later = second_of_both waits (changes && queue) (second_of_both (is_caller c.who) (waits && (changes && queue)) bound) in
-    both (has_no_temps c) (is_bound_connection queued (hushed c)) (sound_no_temps queued c h)
-    (both (is_caller c.who) queue (first_of_both (is_caller c.who) (waits && (changes && queue)) bound) (second_of_both changes queue later))
+    let later = second_of_both waits (changes && queue) (second_of_both (is_caller c.who) (waits && (changes && queue)) h) in
+    both (is_caller c.who) queue (first_of_both (is_caller c.who) (waits && (changes && queue)) h) (second_of_both changes queue later)
 
 quiet-sound : (queued : ℕ) (cs : List Connection) → list_all (is_sound_connection queued) cs ≡ true → list_all (is_sound_connection queued) (map hushed cs) ≡ true
 quiet-sound queued [] h = refl
@@ -92,7 +91,7 @@ pub quiet-valid : (s : State) → Valid s → Valid (quiet s)
 quiet-valid s v = Valid-connections s (map hushed s.connections) v
     (subst (IsDistinct nat_eq) (sym (quiet-seats s.connections)) v.seats_differ, quiet-sound s.limits.queued s.connections v.connections_sound)
     (mapped-handles hushed quiet-alike s.limits.handles s.connections s.handles (valid-handles s v))
-    (names-mapped s.made s.documents hushed (λ c. refl) s.connections v.namings_sound)
+    (seats-mapped s.made s.documents s.told s.taken hushed (λ c. record { namings = refl; temps = refl; added = refl; who = refl }) s.connections (valid-seats s v))
 
 -- ---- the step
 
@@ -129,13 +128,29 @@ all-named : (seat : ℕ) (naming : Naming) (cs : List Connection) → map (named
 all-named seat naming [] = refl
 all-named seat naming (c ∷ cs) = λ i. one-named seat naming c i ∷ all-named seat naming cs i
 
+-- so do its temporaries
+temps-seat : (seat : ℕ) (change : TempChange) (c : Connection) → (temps_changed seat change c).seat ≡ c.seat
+temps-seat seat change c = elim (c.seat == seat) as (λ b. (cond b (with_temps change c) c).seat ≡ c.seat) [ true ↦ refl | false ↦ refl ]
+
+temps-box : (seat : ℕ) (change : TempChange) (c : Connection) → box_of (temps_changed seat change c) ≡ box_of c
+temps-box seat change c = elim (c.seat == seat) as (λ b. box_of (cond b (with_temps change c) c) ≡ box_of c) [ true ↦ refl | false ↦ refl ]
+
+one-temps : (seat : ℕ) (change : TempChange) (c : Connection) → temps_changed seat change (hushed c) ≡ hushed (temps_changed seat change c)
+one-temps seat change c = elim (c.seat == seat) as (λ b. cond b (with_temps change (hushed c)) (hushed c) ≡ hushed (cond b (with_temps change c) c)) [ true ↦ refl | false ↦ refl ]
+
+all-temps : (seat : ℕ) (change : TempChange) (cs : List Connection) → map (temps_changed seat change) (map hushed cs) ≡ map hushed (map (temps_changed seat change) cs)
+all-temps seat change [] = refl
+all-temps seat change (c ∷ cs) = λ i. one-temps seat change c i ∷ all-temps seat change cs i
+
 names-hushed : (c : Connection) (change : NameChange) (cs : List Connection) → connections_named (hushed c) change (map hushed cs) ≡ map hushed (connections_named c change cs)
 names-hushed c NamesStay cs = refl
 names-hushed c (Names naming) cs = all-named c.seat naming cs
+names-hushed c (Temps change) cs = all-temps c.seat change cs
 
 names-waiting : (c : Connection) (change : NameChange) (cs : List Connection) (boxes : Boxes) → AreWaiting cs boxes → AreWaiting (connections_named c change cs) boxes
 names-waiting c NamesStay cs boxes w = w
 names-waiting c (Names naming) cs boxes w = kept-waits (named_on c.seat naming) cs boxes (named-seat c.seat naming) (named-box c.seat naming) w
+names-waiting c (Temps change) cs boxes w = kept-waits (temps_changed c.seat change) cs boxes (temps-seat c.seat change) (temps-box c.seat change) w
 
 connections-waiting : (c : Connection) (change : HandleChange) (cs : List Connection) (boxes : Boxes) → AreWaiting cs boxes → AreWaiting (connections_after c change cs) boxes
 connections-waiting c HandlesStay cs boxes w = w
@@ -149,13 +164,14 @@ handles-hushed c (Closes fh) hs = refl
 
 -- what a request comes to has nothing to do with connections
 module _ (s : State) (cs ds : List Connection) where
-  place-over : (who : Who) (naming : Option Naming) (o : Option Place) → sight_at (record s { connections = cs }) who naming o ≡ sight_at (record s { connections = ds }) who naming o
-  place-over who naming None = refl
-  place-over who naming (Some (Place.Root view)) = refl
-  place-over who naming (Some Place.ByApp) = refl
-  place-over who naming (Some (Place.Folder view id)) = refl
-  place-over who naming (Some (Place.File view id)) = refl
-  place-over who naming (Some (Place.Named view k)) = refl
+  place-over : (who : Who) (naming : Option Naming) (temp : Option Temp) (o : Option Place) → sight_at (record s { connections = cs }) who naming temp o ≡ sight_at (record s { connections = ds }) who naming temp o
+  place-over who naming temp None = refl
+  place-over who naming temp (Some (Place.Root view)) = refl
+  place-over who naming temp (Some Place.ByApp) = refl
+  place-over who naming temp (Some (Place.Folder view id)) = refl
+  place-over who naming temp (Some (Place.File view id)) = refl
+  place-over who naming temp (Some (Place.Named view k)) = refl
+  place-over who naming temp (Some (Place.Temporary view k)) = refl
 
   reach-over : (number : ℕ) (subject : Option Who) → reach_of_subject (record s { connections = cs }) number subject ≡ reach_of_subject (record s { connections = ds }) number subject
   reach-over number None = refl
@@ -163,12 +179,14 @@ module _ (s : State) (cs ds : List Connection) where
 
   walk-over : (c : Connection) (r : NodeRequest) → walk_on_node (record s { connections = cs }) (hushed c) r ≡ walk_on_node (record s { connections = ds }) c r
   walk-over c r = λ i. node_walk (record {
-    sight = place-over c.who (naming_on c r.node) (place_named r.node) i;
+    sight = place-over c.who (naming_on c r.node) (temp_on c r.node) (place_named r.node) i;
+    sight_of = λ node. place-over c.who (naming_on c node) (temp_on c node) (place_named node) i;
     handle = handle_of s.handles c.seat;
     reach = λ node number. reach-over number (subject_of s.applications c.who (view_of_node node)) i;
-    bytes = bytes_named s.files;
+    bytes = bytes_named (all_held (held_in s));
     room = room_of s c;
     namings = c.namings;
+    temps = temps_seen s c;
     file_limit = s.limits.file_bytes;
   }) r r.op
 
@@ -186,7 +204,9 @@ settled-quiet s c (Some (Yields d)) = λ i. (
   record s {
     connections = (ap (connections_named (hushed c) d.names) (connections-hushed c d.handle s.connections) ∙ names-hushed c d.names (connections_after c d.handle s.connections)) i;
     handles = handles-hushed c d.handle s.handles i;
-    files = files_after s.told d.file s.files;
+    files = (files_after s.told d.file (held_in s)).present;
+    hidden = (files_after s.told d.file (held_in s)).hidden;
+    taken = taken_after d.file s.taken;
   },
   Answer.Node d.answer,
 )
@@ -235,7 +255,7 @@ module _ (s : State) (v : Valid s) (seat : ℕ) (r : NodeRequest) (given : Given
     looks = subst (λ (w : Walk NodeVerdict). Gives (files_told s) w given.looks (is_tree given.fault)) (walk-told c) l.looks;
     clock = l.clock ∙ ap (λ (w : Walk NodeVerdict). reads_clock w given.looks) (walk-told c);
     listed = subst (λ (w : Walk NodeVerdict). GivesNames (files_told s) w given.looks given.listed (is_tree given.fault)) (walk-told c) l.listed;
-    generation = l.generation;
+    generation = l.generation ∙ ap (λ (w : Walk NodeVerdict). generation_reached w given.looks) (walk-told c);
     words = l.words;
     numbers = l.numbers;
     full = l.full;
@@ -248,20 +268,20 @@ module _ (s : State) (v : Valid s) (seat : ℕ) (r : NodeRequest) (given : Given
 
 -- ---- what serves the state but for that serves the state
 
-pub record ServesLoudly (s : State) (seat : ℕ) (r : NodeRequest) (old : TreeIs) (done : NodeDone) (cs' : List Connection) (table' : HandleTable) (names' : List (ℕ × Named)) (new : TreeIs) : Type 0 where
-  pub serves : ServesSeat s seat r old done (map unnamed (seat_step s seat r (given_to done)).0.connections) table' names' new
+pub record ServesLoudly (s : State) (seat : ℕ) (r : NodeRequest) (old : TreeIs) (done : NodeDone) (cs' : List Connection) (table' : HandleTable) (own' : OwnTables) (new : TreeIs) : Type 0 where
+  pub serves : ServesSeat s seat r old done (map unnamed (seat_step s seat r (given_to done)).0.connections) table' own' new
   pub connected : map silent (seat_step s seat r (given_to done)).0.connections ≡ cs'
   pub waiting : (boxes : Boxes) → AreWaiting s.connections boxes → AreWaiting (seat_step s seat r (given_to done)).0.connections boxes
 
-pub serves-loudly : (s : State) (seat : ℕ) (r : NodeRequest) (old : TreeIs) (done : NodeDone) (cs' : List Connection) (table' : HandleTable) (names' : List (ℕ × Named)) (new : TreeIs) → Valid s → ServesSeat (quiet s) seat r old done cs' table' names' new →
-    ServesLoudly s seat r old done cs' table' names' new
-serves-loudly s seat r old done cs' table' names' new v k =
+pub serves-loudly : (s : State) (seat : ℕ) (r : NodeRequest) (old : TreeIs) (done : NodeDone) (cs' : List Connection) (table' : HandleTable) (own' : OwnTables) (new : TreeIs) → Valid s → ServesSeat (quiet s) seat r old done cs' table' own' new →
+    ServesLoudly s seat r old done cs' table' own' new
+serves-loudly s seat r old done cs' table' own' new v k =
     let given : Given = given_to done in
     let step : State × Reply = seat_step s seat r given in
     let hushed_step : State × Reply = seat_step (quiet s) seat r given in
     let same : hushed_step ≡ quiet_reply step = quiet-step s v seat r given in
-    let stays : quiet step.0 ≡ record (quiet s) { connections = hushed_step.0.connections; handles = step.0.handles; files = step.0.files } =
-    ap (λ (x : State × Reply). x.0) (sym same) ∙ (k.stays ∙ (λ i. record (quiet s) { connections = hushed_step.0.connections; handles = (same i).0.handles; files = (same i).0.files })) in
+    let stays : quiet step.0 ≡ record (quiet s) { connections = hushed_step.0.connections; handles = step.0.handles; files = step.0.files; hidden = step.0.hidden; taken = step.0.taken } =
+    ap (λ (x : State × Reply). x.0) (sym same) ∙ (k.stays ∙ (λ i. record (quiet s) { connections = hushed_step.0.connections; handles = (same i).0.handles; files = (same i).0.files; hidden = (same i).0.hidden; taken = (same i).0.taken })) in
     let mount : Option Connection = mount_of (connection_of s.connections seat) in
     let mount_is : mount_of (connection_of (quiet s).connections seat) ≡ option_map hushed mount = mount-now s v seat r given in
     record {
@@ -275,11 +295,10 @@ serves-loudly s seat r old done cs' table' names' new v k =
           rights = (ap (λ (t : State). t.rights) stays) i;
           applications = (ap (λ (t : State). t.applications) stays) i;
           told = (ap (λ (t : State). t.told) stays) i;
-          taken = (ap (λ (t : State). t.taken) stays) i;
           entries = (ap (λ (t : State). t.entries) stays) i;
         };
         connected = refl;
-        names = named-loud names' step.0 (subst (λ (x : State × Reply). AreNamed x.0 names') same k.names);
+        own = own-loud own' step.0 (subst (λ (x : State × Reply). AreOwn x.0 own') same k.own);
         handles = open-loud table' step.0 (subst (λ (x : State × Reply). AreOpen x.0 table') same k.handles);
         files = ap (λ (x : State × Reply). files_told x.0) (sym same) ∙ k.files;
         calls = subst (λ (calls : List Call). Calling old calls new.told new) (ap (calls_on (quiet s) r given) mount_is ∙ calls-loud s v seat r given mount) k.calls;

@@ -7,10 +7,10 @@ use Rattle.node_looks.specs.declared.served.FileBook.{FileBook}
 use Rattle.node_looks.specs.declared.served.NodeDone.{NodeDone}
 use Rattle.host_tree.specs.Trees.{TreeIs}
 use Rattle.node_serving.specs.Seats.{AreEntered, IsServedIn, ServesSeat}
-use Rattle.file_ops.specs.SeatNames.{AreNamed, NamesKept}
-use Rattle.folder_documents.specs.Named.{AtSeat as NamedAtSeat, Enters as BeginsNames, Leaves as EndsNames, Named, named_on}
+use Rattle.file_generations.specs.Generations.{Held}
+use Rattle.file_ops.specs.SeatNames.{AreOwn, OwnTables}
+use Rattle.folder_documents.specs.Named.{named_on}
 use Rattle.open_handles.specs.Opened.{AtSeat, Enters, HandleTable, Leaves, opened_on}
-use Rattle.portal_base.specs.declared.files.File.{File}
 use Rattle.portal_base.specs.declared.limits.Limits.{Limits}
 use Rattle.portal_base.specs.declared.who.Kind.{Kind}
 use Rattle.portal_base.specs.declared.who.Who.{Who}
@@ -45,9 +45,10 @@ use Rattle.portal_steps.specs.Held.{Holds, Stands}
 use Rattle.portal_steps.specs.Served.{collect_answer, entry_of, node_entry}
 use Rattle.portal_steps.specs.Stored.{Hears}
 use Rattle.portal_steps.proofs.Boxes.{back-waits, bus-silent, entered-waits, hushed-unnamed, left-waits, silent-found, silent-joined, silent-others, silent-told, some-silent, taken-is, taken-waits, told-no-bus, unsent_of}
-use Rattle.portal_steps.proofs.NamedSteps.{named-entered, named-hushed, named-kept, named-left, named-told}
-use Rattle.portal_steps.proofs.OpenSteps.{are-entered, not-entered, not-named, open-entered, open-hushed, open-left, open-told}
+use Rattle.portal_steps.proofs.NamedSteps.{BeginsOwn, EndsOwn, OwnKept, own-entered, own-hushed, own-kept, own-left, own-told}
+use Rattle.portal_steps.proofs.OpenSteps.{are-entered, not-entered, not-named, not-owned, open-entered, open-hushed, open-left, open-told}
 use Rattle.portal_steps.proofs.QuietNodes.{ServesLoudly, quiet, quiet-valid, serves-loudly}
+use Rattle.save_files.specs.Own.{own_on}
 use Rattle.store_serving.specs.Serving.{HasStore}
 use Rattle.store_serving.specs.Waiting.{box_on, silent}
 
@@ -72,8 +73,8 @@ fewer_others seat (c ∷ cs) e = grind (arith, fewer_others seat cs, others_with
 
 -- ---- the portal's lists
 
-module _ (began : Option (List File)) (o : OpeningState) (h : List Entry) (limit : ℕ) (ds : DocumentList) (rs : List Triple) (apps : List (List ℕ)) (cs : List Connection) (table : HandleTable) (names : List (ℕ × Named)) (told : Option (List File))
-    (p : Stands began o h limit ds rs apps cs table names told) where
+module _ (began : Option Held) (o : OpeningState) (h : List Entry) (limit : ℕ) (ds : DocumentList) (rs : List Triple) (apps : List (List ℕ)) (cs : List Connection) (table : HandleTable) (own : OwnTables) (told : Option Held)
+    (p : Stands began o h limit ds rs apps cs table own told) where
   abbrev now : State
   now = run (opened_over began o) h
 
@@ -91,13 +92,13 @@ module _ (began : Option (List File)) (o : OpeningState) (h : List Entry) (limit
   some-now seat = sym (some-silent (connection_of now.connections seat)) ∙ ap (λ (c : Option Connection). is_some c) (connection-now seat)
 
   -- a step on: the state after it holds what the portal has then
-  pub stands_more : (e : Entry) (ds' : DocumentList) (rs' : List Triple) (apps' : List (List ℕ)) (cs' : List Connection) (table' : HandleTable) (names' : List (ℕ × Named)) (told' : Option (List File)) → Lawful now e → Holds (after now e) o.limits ds' rs' apps' cs' table' names' told' → cost h + cost_of e.request ≤ o.limits.history →
-      Stands began o (h ++ e ∷ []) limit ds' rs' apps' cs' table' names' told'
-  stands_more e ds' rs' apps' cs' table' names' told' k a room = record {
+  pub stands_more : (e : Entry) (ds' : DocumentList) (rs' : List Triple) (apps' : List (List ℕ)) (cs' : List Connection) (table' : HandleTable) (own' : OwnTables) (told' : Option Held) → Lawful now e → Holds (after now e) o.limits ds' rs' apps' cs' table' own' told' → cost h + cost_of e.request ≤ o.limits.history →
+      Stands began o (h ++ e ∷ []) limit ds' rs' apps' cs' table' own' told'
+  stands_more e ds' rs' apps' cs' table' own' told' k a room = record {
     legal = Legal-append h (e ∷ []) (opened_over began o) p.legal (record { opening = valid-now; lawful = (k, tt) });
     limit_is = p.limit_is;
     within = rw (cost-append h (e ∷ [])) (omega arith);
-    holds = subst (λ (s : State). Holds s o.limits ds' rs' apps' cs' table' names' told') (sym (run-append h (e ∷ []) (opened_over began o))) a;
+    holds = subst (λ (s : State). Holds s o.limits ds' rs' apps' cs' table' own' told') (sym (run-append h (e ∷ []) (opened_over began o))) a;
   }
 
   -- the records stay where the step leaves them
@@ -119,16 +120,16 @@ module _ (began : Option (List File)) (o : OpeningState) (h : List Entry) (limit
   stored_more e entries boxes a = subst (λ (s : State). HasStore s entries boxes) (sym (run-append h (e ∷ []) (opened_over began o))) a
 
   -- the state itself, where nothing changes
-  stays : (e : Entry) → Lawful now e → after now e ≡ now → cost h + cost_of e.request ≤ o.limits.history → Stands began o (h ++ e ∷ []) limit ds rs apps cs table names told
-  stays e k a room = stands_more e ds rs apps cs table names told k (subst (λ (s : State). Holds s o.limits ds rs apps cs table names told) (sym a) p.holds) room
+  stays : (e : Entry) → Lawful now e → after now e ≡ now → cost h + cost_of e.request ≤ o.limits.history → Stands began o (h ++ e ∷ []) limit ds rs apps cs table own told
+  stays e k a room = stands_more e ds rs apps cs table own told k (subst (λ (s : State). Holds s o.limits ds rs apps cs table own told) (sym a) p.holds) room
 
   stored_stays : (e : Entry) (entries : Entries) (boxes : Boxes) → after now e ≡ now → HasStore now entries boxes → HasStore (run (opened_over began o) (h ++ e ∷ [])) entries boxes
   stored_stays e entries boxes a k = stored_more e entries boxes (subst (λ (s : State). HasStore s entries boxes) (sym a) k)
 
   -- other connections
-  holds_connected : (now' : List Connection) (cs' : List Connection) (table' : HandleTable) (names' : List (ℕ × Named)) (handles : List OpenHandle) → map silent now' ≡ cs' → AreOpen (record now { connections = now'; handles = handles }) table' → AreNamed (record now { connections = now'; handles = handles }) names' →
-      Holds (record now { connections = now'; handles = handles }) o.limits ds rs apps cs' table' names' told
-  holds_connected now' cs' table' names' handles silent-is a m = record {
+  holds_connected : (now' : List Connection) (cs' : List Connection) (table' : HandleTable) (own' : OwnTables) (handles : List OpenHandle) → map silent now' ≡ cs' → AreOpen (record now { connections = now'; handles = handles }) table' → AreOwn (record now { connections = now'; handles = handles }) own' →
+      Holds (record now { connections = now'; handles = handles }) o.limits ds rs apps cs' table' own' told
+  holds_connected now' cs' table' own' handles silent-is a m = record {
     limits_are = p.holds.limits_are;
     lists = record {
       book = record {
@@ -142,7 +143,7 @@ module _ (began : Option (List File)) (o : OpeningState) (h : List Entry) (limit
       connected = silent-is;
     };
     handles = a;
-    names = m;
+    own = m;
     files = p.holds.files;
   }
 
@@ -163,7 +164,7 @@ module _ (began : Option (List File)) (o : OpeningState) (h : List Entry) (limit
   there_stays seat who kind t = λ i. record now { connections = entered_there seat who kind now.connections (connection_of now.connections seat) (some-now seat ∙ t) i }
 
   pub stands_there : (seat : ℕ) (who : Who) (kind : Kind) → is_caller who ≡ true → is_some (connection_of cs seat) ≡ true → cost h + cost_of (Request.Enter who kind) ≤ o.limits.history →
-      Stands began o (h ++ entry_of seat (Request.Enter who kind) [] Fault.None ∷ []) limit ds rs apps cs table names told
+      Stands began o (h ++ entry_of seat (Request.Enter who kind) [] Fault.None ∷ []) limit ds rs apps cs table own told
   stands_there seat who kind named t room =
       stays (entry_of seat (Request.Enter who kind) [] Fault.None) (enter_lawful seat who kind named)
       (there_stays seat who kind t) room
@@ -202,19 +203,22 @@ module _ (began : Option (List File)) (o : OpeningState) (h : List Entry) (limit
   pub closed : (seat : ℕ) → is_some (connection_of cs seat) ≡ false → opened_on table.seats seat ≡ None
   closed seat t = not-entered now cs table seat p.holds.lists.connected p.holds.handles (no_connection (connection_of cs seat) t)
 
-  pub unnamed_now : (seat : ℕ) → is_some (connection_of cs seat) ≡ false → named_on names seat ≡ None
-  unnamed_now seat t = not-named now cs names seat p.holds.lists.connected p.holds.names (no_connection (connection_of cs seat) t)
+  pub unnamed_now : (seat : ℕ) → is_some (connection_of cs seat) ≡ false → named_on own.names seat ≡ None
+  unnamed_now seat t = not-named now cs own.names seat p.holds.lists.connected p.holds.own.named (no_connection (connection_of cs seat) t)
 
-  pub stands_new : (seat : ℕ) (who : Who) (kind : Kind) (table' : HandleTable) (names' : List (ℕ × Named)) → is_caller who ≡ true → is_some (connection_of cs seat) ≡ false → table'.most ≡ table.most → AtSeat Enters table.seats table'.seats seat → NamedAtSeat BeginsNames names names' seat → cost h + cost_of (Request.Enter who kind) ≤ o.limits.history →
-      Stands began o (h ++ entry_of seat (Request.Enter who kind) [] Fault.None ∷ []) limit ds rs apps (cs ++ new_connection seat who kind ∷ []) table' names' told
-  stands_new seat who kind table' names' named t most enters begins room =
+  pub unowned_now : (seat : ℕ) → is_some (connection_of cs seat) ≡ false → own_on own.temps.seats seat ≡ None
+  unowned_now seat t = not-owned now cs own.temps seat p.holds.lists.connected p.holds.own.temps (no_connection (connection_of cs seat) t)
+
+  pub stands_new : (seat : ℕ) (who : Who) (kind : Kind) (table' : HandleTable) (own' : OwnTables) → is_caller who ≡ true → is_some (connection_of cs seat) ≡ false → table'.most ≡ table.most → AtSeat Enters table.seats table'.seats seat → BeginsOwn own own' seat → cost h + cost_of (Request.Enter who kind) ≤ o.limits.history →
+      Stands began o (h ++ entry_of seat (Request.Enter who kind) [] Fault.None ∷ []) limit ds rs apps (cs ++ new_connection seat who kind ∷ []) table' own' told
+  stands_new seat who kind table' own' named t most enters begins room =
       let free : connection_of now.connections seat ≡ None = free_now seat t in
       let more : List Connection = now.connections ++ new_connection seat who kind ∷ [] in
       let silent-is : map silent more ≡ cs ++ new_connection seat who kind ∷ [] = silent-joined now.connections seat who kind ∙ ap (λ (l : List Connection). l ++ new_connection seat who kind ∷ []) p.holds.lists.connected in
-      stands_more (entry_of seat (Request.Enter who kind) [] Fault.None) ds rs apps (cs ++ new_connection seat who kind ∷ []) table' names' told (enter_lawful seat who kind named)
-      (subst (λ (s : State). Holds s o.limits ds rs apps (cs ++ new_connection seat who kind ∷ []) table' names' told) (sym (new_joins seat who kind t))
-      (holds_connected more (cs ++ new_connection seat who kind ∷ []) table' names' now.handles silent-is (open-entered now seat who kind table table' p.holds.handles free valid-now.handles_sound most enters)
-      (named-entered now seat who kind names names' p.holds.names free begins))) room
+      stands_more (entry_of seat (Request.Enter who kind) [] Fault.None) ds rs apps (cs ++ new_connection seat who kind ∷ []) table' own' told (enter_lawful seat who kind named)
+      (subst (λ (s : State). Holds s o.limits ds rs apps (cs ++ new_connection seat who kind ∷ []) table' own' told) (sym (new_joins seat who kind t))
+      (holds_connected more (cs ++ new_connection seat who kind ∷ []) table' own' now.handles silent-is (open-entered now seat who kind table table' p.holds.handles free valid-now.handles_sound most enters)
+      (own-entered now seat who kind own own' p.holds.own free begins))) room
 
   pub stored_new : (seat : ℕ) (who : Who) (kind : Kind) (entries : Entries) (boxes boxes' : Boxes) → is_some (connection_of cs seat) ≡ false → Hears (is_host_bus who kind) seat boxes boxes' → HasStore now entries boxes →
       HasStore (run (opened_over began o) (h ++ entry_of seat (Request.Enter who kind) [] Fault.None ∷ [])) entries boxes'
@@ -250,7 +254,7 @@ module _ (began : Option (List File)) (o : OpeningState) (h : List Entry) (limit
   pub absent_closed : (seat : ℕ) → is_some (connection_of cs seat) ≡ false → is_open now seat ≡ true → ⊥
   absent_closed seat t here = let no : true ≡ false = sym here ∙ (some-now seat ∙ t) in cc
 
-  pub stands_absent : (seat : ℕ) → is_some (connection_of cs seat) ≡ false → Stands began o (h ++ entry_of seat Request.Leave [] Fault.None ∷ []) limit ds rs apps cs table names told
+  pub stands_absent : (seat : ℕ) → is_some (connection_of cs seat) ≡ false → Stands began o (h ++ entry_of seat Request.Leave [] Fault.None ∷ []) limit ds rs apps cs table own told
   stands_absent seat t = stays (entry_of seat Request.Leave [] Fault.None) (leave_lawful seat) (absent_stays seat t) (omega (arith, p.within))
 
   pub stored_absent : (seat : ℕ) (entries : Entries) (boxes : Boxes) → is_some (connection_of cs seat) ≡ false → HasStore now entries boxes → HasStore (run (opened_over began o) (h ++ entry_of seat Request.Leave [] Fault.None ∷ [])) entries boxes
@@ -266,14 +270,14 @@ module _ (began : Option (List File)) (o : OpeningState) (h : List Entry) (limit
   pub left_replied : (seat : ℕ) → is_some (connection_of cs seat) ≡ true → reply_with [] Answer.Done ≡ reply_at now (entry_of seat Request.Leave [] Fault.None)
   left_replied seat t = ap (reply_with []) (left_answered (connection_of now.connections seat) (some-now seat ∙ t))
 
-  pub stands_left : (seat : ℕ) (table' : HandleTable) (names' : List (ℕ × Named)) → is_some (connection_of cs seat) ≡ true → table'.most ≡ table.most → AtSeat Leaves table.seats table'.seats seat → NamedAtSeat EndsNames names names' seat →
-      Stands began o (h ++ entry_of seat Request.Leave [] Fault.None ∷ []) limit ds rs apps (of_others seat cs) table' names' told
-  stands_left seat table' names' t most leaves ends =
+  pub stands_left : (seat : ℕ) (table' : HandleTable) (own' : OwnTables) → is_some (connection_of cs seat) ≡ true → table'.most ≡ table.most → AtSeat Leaves table.seats table'.seats seat → EndsOwn own own' seat →
+      Stands began o (h ++ entry_of seat Request.Leave [] Fault.None ∷ []) limit ds rs apps (of_others seat cs) table' own' told
+  stands_left seat table' own' t most leaves ends =
       let silent-is : map silent (of_others seat now.connections) ≡ of_others seat cs = silent-others seat now.connections ∙ ap (of_others seat) p.holds.lists.connected in
-      stands_more (entry_of seat Request.Leave [] Fault.None) ds rs apps (of_others seat cs) table' names' told (leave_lawful seat)
-      (subst (λ (s : State). Holds s o.limits ds rs apps (of_others seat cs) table' names' told) (sym (here_leaves seat t))
-      (holds_connected (of_others seat now.connections) (of_others seat cs) table' names' (handles_of_others seat now.handles) silent-is (open-left now seat table table' p.holds.handles most leaves)
-      (named-left now seat names names' p.holds.names ends))) (omega (arith, p.within))
+      stands_more (entry_of seat Request.Leave [] Fault.None) ds rs apps (of_others seat cs) table' own' told (leave_lawful seat)
+      (subst (λ (s : State). Holds s o.limits ds rs apps (of_others seat cs) table' own' told) (sym (here_leaves seat t))
+      (holds_connected (of_others seat now.connections) (of_others seat cs) table' own' (handles_of_others seat now.handles) silent-is (open-left now seat table table' p.holds.handles most leaves)
+      (own-left now seat own own' p.holds.own ends))) (omega (arith, p.within))
 
   pub stored_left : (seat : ℕ) (entries : Entries) (boxes boxes' : Boxes) → is_some (connection_of cs seat) ≡ true → BoxAtSeat left_box boxes boxes' seat → HasStore now entries boxes → HasStore (run (opened_over began o) (h ++ entry_of seat Request.Leave [] Fault.None ∷ [])) entries boxes'
   stored_left seat entries boxes boxes' t gone k =
@@ -291,7 +295,7 @@ module _ (began : Option (List File)) (o : OpeningState) (h : List Entry) (limit
     pub valid-told : Valid told_now
     valid-told = all_told-Valid now seat valid-now
 
-    pub holds_told : Holds told_now o.limits ds rs apps cs table names told
+    pub holds_told : Holds told_now o.limits ds rs apps cs table own told
     holds_told = record {
       limits_are = p.holds.limits_are;
       lists = record {
@@ -306,7 +310,7 @@ module _ (began : Option (List File)) (o : OpeningState) (h : List Entry) (limit
         connected = silent-told seat now.connections ∙ p.holds.lists.connected;
       };
       handles = open-told table now seat p.holds.handles;
-      names = named-told names now seat p.holds.names;
+      own = own-told own now seat p.holds.own;
       files = p.holds.files;
     }
 
@@ -333,10 +337,10 @@ module _ (began : Option (List File)) (o : OpeningState) (h : List Entry) (limit
     collect_after : after now (entry_of seat Request.Collect [] Fault.None) ≡ told_now
     collect_after = collect_told (bus_of (connection_of now.connections seat)) refl
 
-    pub stands_collected : cost h + cost_of Request.Collect ≤ o.limits.history → Stands began o (h ++ entry_of seat Request.Collect [] Fault.None ∷ []) limit ds rs apps cs table names told
+    pub stands_collected : cost h + cost_of Request.Collect ≤ o.limits.history → Stands began o (h ++ entry_of seat Request.Collect [] Fault.None ∷ []) limit ds rs apps cs table own told
     stands_collected room =
-        stands_more (entry_of seat Request.Collect [] Fault.None) ds rs apps cs table names told (record { given = refl })
-        (subst (λ (s : State). Holds s o.limits ds rs apps cs table names told) (sym collect_after) holds_told) room
+        stands_more (entry_of seat Request.Collect [] Fault.None) ds rs apps cs table own told (record { given = refl })
+        (subst (λ (s : State). Holds s o.limits ds rs apps cs table own told) (sym collect_after) holds_told) room
 
     pub stored_collected : (entries : Entries) (boxes boxes' : Boxes) → BoxAtSeat (holding []) boxes boxes' seat → HasStore now entries boxes → HasStore (run (opened_over began o) (h ++ entry_of seat Request.Collect [] Fault.None ∷ [])) entries boxes'
     stored_collected entries boxes boxes' taken k =
@@ -363,7 +367,7 @@ module _ (began : Option (List File)) (o : OpeningState) (h : List Entry) (limit
   -- a request on a node
 
   -- the state but for what connections wait for, which are those of the portal then
-  pub served_in : (book : FileBook) → book.view.documents.now ≡ ds → book.view.grants.now ≡ rs → book.view.applications.now ≡ apps → book.file_limit ≡ o.limits.file_bytes → IsServedIn (quiet now) book cs table names told
+  pub served_in : (book : FileBook) → book.view.documents.now ≡ ds → book.view.grants.now ≡ rs → book.view.applications.now ≡ apps → book.file_limit ≡ o.limits.file_bytes → IsServedIn (quiet now) book cs table own told
   served_in book d r a l = record {
     valid = quiet-valid now valid-now;
     lists = record {
@@ -374,16 +378,16 @@ module _ (began : Option (List File)) (o : OpeningState) (h : List Entry) (limit
     limit = ap (λ (x : Limits). x.file_bytes) p.holds.limits_are ∙ sym l;
     connected = hushed-unnamed now.connections ∙ p.holds.lists.connected;
     handles = open-hushed table now p.holds.handles;
-    names = named-hushed names now p.holds.names;
+    own = own-hushed own now p.holds.own;
     files = p.holds.files;
   }
 
-  pub entered-now : AreEntered cs table names
-  entered-now = are-entered now cs table names p.holds.lists.connected p.holds.handles p.holds.names
+  pub entered-now : AreEntered cs table own
+  entered-now = are-entered now cs table own p.holds.lists.connected p.holds.handles p.holds.own
 
   -- where memory was wanted, the tables may have changed
-  pub stands_wanting : (table' : HandleTable) (names' : List (ℕ × Named)) → ((s : State) → AreOpen s table → AreOpen s table') → NamesKept names names' → Stands began o h limit ds rs apps cs table' names' told
-  stands_wanting table' names' w k = record {
+  pub stands_wanting : (table' : HandleTable) (own' : OwnTables) → ((s : State) → AreOpen s table → AreOpen s table') → OwnKept own own' → Stands began o h limit ds rs apps cs table' own' told
+  stands_wanting table' own' w k = record {
     legal = p.legal;
     limit_is = p.limit_is;
     within = p.within;
@@ -391,16 +395,16 @@ module _ (began : Option (List File)) (o : OpeningState) (h : List Entry) (limit
       limits_are = p.holds.limits_are;
       lists = p.holds.lists;
       handles = w now p.holds.handles;
-      names = named-kept now names names' k p.holds.names;
+      own = own-kept now own own' k p.holds.own;
       files = p.holds.files;
     };
   }
 
-  module _ (seat : ℕ) (r : NodeRequest) (old : TreeIs) (done : NodeDone) (cs' : List Connection) (table' : HandleTable) (names' : List (ℕ × Named)) (new : TreeIs) (served : ServesSeat (quiet now) seat r old done cs' table' names' new) where
-    pub loud-served : ServesLoudly now seat r old done cs' table' names' new
-    loud-served = serves-loudly now seat r old done cs' table' names' new valid-now served
+  module _ (seat : ℕ) (r : NodeRequest) (old : TreeIs) (done : NodeDone) (cs' : List Connection) (table' : HandleTable) (own' : OwnTables) (new : TreeIs) (served : ServesSeat (quiet now) seat r old done cs' table' own' new) where
+    pub loud-served : ServesLoudly now seat r old done cs' table' own' new
+    loud-served = serves-loudly now seat r old done cs' table' own' new valid-now served
 
-    holds-served : Holds (after now (node_entry seat r done)) o.limits ds rs apps cs' table' names' new.told
+    holds-served : Holds (after now (node_entry seat r done)) o.limits ds rs apps cs' table' own' new.told
     holds-served =
         let k = loud-served.serves in
         record {
@@ -417,15 +421,15 @@ module _ (began : Option (List File)) (o : OpeningState) (h : List Entry) (limit
             connected = loud-served.connected;
           };
           handles = k.handles;
-          names = k.names;
+          own = k.own;
           files = k.files;
         }
 
     pub lawful_node : Lawful now (node_entry seat r done)
     lawful_node = record { given = loud-served.serves.lawful }
 
-    pub stands_node : cost h + cost_of (Request.Node r) ≤ o.limits.history → Stands began o (h ++ node_entry seat r done ∷ []) limit ds rs apps cs' table' names' new.told
-    stands_node room = stands_more (node_entry seat r done) ds rs apps cs' table' names' new.told lawful_node holds-served room
+    pub stands_node : cost h + cost_of (Request.Node r) ≤ o.limits.history → Stands began o (h ++ node_entry seat r done ∷ []) limit ds rs apps cs' table' own' new.told
+    stands_node room = stands_more (node_entry seat r done) ds rs apps cs' table' own' new.told lawful_node holds-served room
 
     pub stored_node : (entries : Entries) (boxes : Boxes) → HasStore now entries boxes → HasStore (run (opened_over began o) (h ++ node_entry seat r done ∷ [])) entries boxes
     stored_node entries boxes k =

@@ -5,7 +5,8 @@ use Rattle.change_signals.specs.Unsent.{AtSeat as BoxAtSeat, Boxes, holding}
 use Rattle.document_calls.specs.KeeperCalls.{fault_if}
 use Rattle.document_calls.specs.declared.served.ServedCall.{ServedCall}
 use Rattle.document_records.specs.Documents.{DocumentList}
-use Rattle.folder_documents.specs.Named.{Named}
+use Rattle.file_generations.specs.Generations.{Held}
+use Rattle.file_ops.specs.SeatNames.{OwnTables}
 use Rattle.open_handles.specs.Opened.{HandleTable}
 use Rattle.portal_base.specs.declared.files.File.{File}
 use Rattle.portal_base.specs.declared.memory.WantOfMemory.{WantOfMemory}
@@ -88,8 +89,8 @@ stored-somewhere call entries entries' boxes boxes' old new r here bus e =
 
 -- ---- the step
 
-module _ (began : Option (List File)) (o : OpeningState) (h : List Entry) (limit : ℕ) (ds : DocumentList) (rs : List Triple) (apps : List (List ℕ)) (cs : List Connection) (table : HandleTable) (names : List (ℕ × Named)) (told : Option (List File))
-    (p : Stands began o h limit ds rs apps cs table names told) where
+module _ (began : Option Held) (o : OpeningState) (h : List Entry) (limit : ℕ) (ds : DocumentList) (rs : List Triple) (apps : List (List ℕ)) (cs : List Connection) (table : HandleTable) (own : OwnTables) (told : Option Held)
+    (p : Stands began o h limit ds rs apps cs table own told) where
   abbrev at : State
   at = run (opened_over began o) h
 
@@ -99,7 +100,7 @@ module _ (began : Option (List File)) (o : OpeningState) (h : List Entry) (limit
 
     -- the state in which the call is answered
     abbrev asked : State
-    asked = told_now began o h limit ds rs apps cs table names told p seat
+    asked = told_now began o h limit ds rs apps cs table own told p seat
 
     -- what the code says of the call
     abbrev pub StoreCallServed : Type 0
@@ -109,7 +110,7 @@ module _ (began : Option (List File)) (o : OpeningState) (h : List Entry) (limit
     pub record Stores : Type 0 where
       pub next : State
       pub comes : Comes at seat request served.given next signals served.answer old new
-      pub holds : Holds next o.limits ds rs apps cs table names told
+      pub holds : Holds next o.limits ds rs apps cs table own told
       pub stored : HasStore next entries' boxes'
       pub untreed : IsUntreed request served.given
 
@@ -117,19 +118,19 @@ module _ (began : Option (List File)) (o : OpeningState) (h : List Entry) (limit
         StoredOn asked call entries taken old entries' boxes' new served b → Stores
     stores-on None e sent keeps st k = record {
       next = asked;
-      comes = comes-nowhere at (valid-now began o h limit ds rs apps cs table names told p) seat request served.given signals sent asked served.answer old new refl keeps e (k.given_is, k.answer_is, refl, k.keeper_stays);
-      holds = holds_told began o h limit ds rs apps cs table names told p seat;
+      comes = comes-nowhere at (valid-now began o h limit ds rs apps cs table own told p) seat request served.given signals sent asked served.answer old new refl keeps e (k.given_is, k.answer_is, refl, k.keeper_stays);
+      holds = holds_told began o h limit ds rs apps cs table own told p seat;
       stored = record { stored = st.stored ∙ sym k.entries_stay; waiting = same-waits asked.connections taken boxes' k.boxes_stay st.waiting };
       untreed = nothing-untreed call served.given k.given_is;
     }
     stores-on (Some c) e sent keeps st k =
-        let before : Holds asked o.limits ds rs apps cs table names told = holds_told began o h limit ds rs apps cs table names told p seat in
+        let before : Holds asked o.limits ds rs apps cs table own told = holds_told began o h limit ds rs apps cs table own told p seat in
         let settled : Settles k.after served.given.fault served.answer old new = record { kept = k.kept keeps; no_errno = k.outside.no_errno; failed = λ u f. k.outside.risen f } in
         let came : Comes at seat request served.given k.after signals served.answer old new =
-        comes-here at (valid-now began o h limit ds rs apps cs table names told p) seat request served.given signals sent k.after served.answer old new refl keeps c e k.serves settled in
+        comes-here at (valid-now began o h limit ds rs apps cs table own told p) seat request served.given signals sent k.after served.answer old new refl keeps c e k.serves settled in
         let step : after at (entry_with seat request served.given) ≡ (bus_step at request served.given (bus_of (connection_of at.connections seat))).0 = ap (λ (x : State × Reply). x.0) (step-on-bus at seat request served.given refl) in
-        let leaves : Leaves o.limits table names told k.after =
-        subst (Leaves o.limits table names told) (sym step ∙ came.after_is) (bus-leaves o.limits table names told at request served.given (bus_of (connection_of at.connections seat)) (p.holds.limits_are, p.holds.handles, p.holds.names, p.holds.files)) in
+        let leaves : Leaves o.limits table own told k.after =
+        subst (Leaves o.limits table own told) (sym step ∙ came.after_is) (bus-leaves o.limits table own told at request served.given (bus_of (connection_of at.connections seat)) (p.holds.limits_are, p.holds.handles, p.holds.own, p.holds.files)) in
         record {
           next = k.after;
           comes = came;
@@ -147,7 +148,7 @@ module _ (began : Option (List File)) (o : OpeningState) (h : List Entry) (limit
               connected = k.connected ∙ before.lists.connected;
             };
             handles = leaves.1;
-            names = leaves.2;
+            own = leaves.2;
             files = leaves.3;
           };
           stored = k.has;
@@ -156,15 +157,15 @@ module _ (began : Option (List File)) (o : OpeningState) (h : List Entry) (limit
 
     pub stores : signals ≡ unsent_of (bus_of (connection_of at.connections seat)) → BoxAtSeat (holding []) boxes taken seat → KeepsState old.told at → HasStore at entries boxes → StoreCallServed → Stores
     stores sent t keeps st k =
-        let now : HasStore asked entries taken = stored_told began o h limit ds rs apps cs table names told p seat entries boxes taken t st in
-        stores-on (bus_of (connection_of at.connections seat)) refl sent keeps now (k asked (bus_of (connection_of at.connections seat)) now (bus-now began o h limit ds rs apps cs table names told p seat))
+        let now : HasStore asked entries taken = stored_told began o h limit ds rs apps cs table own told p seat entries boxes taken t st in
+        stores-on (bus_of (connection_of at.connections seat)) refl sent keeps now (k asked (bus_of (connection_of at.connections seat)) now (bus-now began o h limit ds rs apps cs table own told p seat))
 
-    pub stands_stored : Stores → cost h + cost_of request ≤ o.limits.history → Stands began o (h ++ entry_with seat request served.given ∷ []) limit ds rs apps cs table names told
+    pub stands_stored : Stores → cost h + cost_of request ≤ o.limits.history → Stands began o (h ++ entry_with seat request served.given ∷ []) limit ds rs apps cs table own told
     stands_stored k room =
-        stands_more began o h limit ds rs apps cs table names told p (entry_with seat request served.given) ds rs apps cs table names told k.comes.lawful (subst (λ (s : State). Holds s o.limits ds rs apps cs table names told) (sym k.comes.after_is) k.holds) room
+        stands_more began o h limit ds rs apps cs table own told p (entry_with seat request served.given) ds rs apps cs table own told k.comes.lawful (subst (λ (s : State). Holds s o.limits ds rs apps cs table own told) (sym k.comes.after_is) k.holds) room
 
     pub stored_stored : Stores → HasStore (run (opened_over began o) (h ++ entry_with seat request served.given ∷ [])) entries' boxes'
-    stored_stored k = stored_more began o h limit ds rs apps cs table names told p (entry_with seat request served.given) entries' boxes' (subst (λ (s : State). HasStore s entries' boxes') (sym k.comes.after_is) k.stored)
+    stored_stored k = stored_more began o h limit ds rs apps cs table own told p (entry_with seat request served.given) entries' boxes' (subst (λ (s : State). HasStore s entries' boxes') (sym k.comes.after_is) k.stored)
 
     next-is : (k : Stores) → run (opened_over began o) (h ++ entry_with seat request served.given ∷ []) ≡ k.next
     next-is k = run-append h (entry_with seat request served.given ∷ []) (opened_over began o) ∙ k.comes.after_is

@@ -3,7 +3,7 @@ use Rattle.std.proofs.Common.{◌≡◌, ◌≢◌, ℕ, List, [], ◌∷◌, �
 use Rattle.host_tree.specs.Trees.{TreeIs}
 use Rattle.file_ops.specs.Wanting.{calls_in_vain}
 use Rattle.node_looks.specs.Done.{MayRead, Reads}
-use Rattle.portal_base.specs.declared.files.File.{File}
+use Rattle.file_generations.specs.Generations.{Held}
 use Rattle.portal_model.specs.declared.entry.Entry.{Entry}
 use Rattle.portal_model.specs.declared.entry.Fault.{Fault}
 use Rattle.portal_model.specs.declared.entry.Given.{Given}
@@ -111,7 +111,7 @@ module _ {T K C W : Type 0} (tree_is : T → TreeIs) (keeper_is : K → KeeperIs
   went-add b o h draws changes calls asked keeping moment c drew = record {
     grown = story-grown b o h;
     tree = subst (λ (l : List Call). Calling (tree_is old.tree) l (tree_is new.tree).told (tree_is new.tree)) (sym calls)
-        (subst (λ (files : Option (List File)). Calling (tree_is old.tree) (listed (length e.given.looks) (is_tree e.given.fault)) files (tree_is new.tree)) (sym (asked-keeps (length e.given.looks) (is_tree e.given.fault) (tree_is old.tree) (tree_is new.tree) asked).1)
+        (subst (λ (files : Option Held). Calling (tree_is old.tree) (listed (length e.given.looks) (is_tree e.given.fault)) files (tree_is new.tree)) (sym (asked-keeps (length e.given.looks) (is_tree e.given.fault) (tree_is old.tree) (tree_is new.tree) asked).1)
         (asked-calling (length e.given.looks) (is_tree e.given.fault) (tree_is old.tree) (tree_is new.tree) asked));
     keeper = keeping;
     clock = reads-none clock_reads old.clock e.given.now new.clock moment c;

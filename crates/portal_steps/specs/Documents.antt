@@ -34,7 +34,7 @@ is_document_call (Request.Node r) = false
 is_document_call (Request.Store call) = false
 
 -- the state has these documents and their limits, these rights, applications and connections, but
--- for what the connections wait for and have named, and anything else
+-- for what the connections wait for, what they have named and their temporaries, and anything else
 pub record HasLists (s : State) (documents : DocumentList) (rights : List Triple)
     (applications : List (List ℕ)) (connections : List Connection) : Type 0 where
   pub book : IsBook s documents rights applications

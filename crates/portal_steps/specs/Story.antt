@@ -1,6 +1,6 @@
 -- What a portal is to contracts: its devices, its story, and how often it refused.
 use Rattle.std.specs.Prelude.{◌≡◌, ◌+◌, ◌<◌, ◌≤◌, ℕ, List, Option}
-use Rattle.portal_base.specs.declared.files.File.{File}
+use Rattle.file_generations.specs.Generations.{Held}
 use Rattle.portal_model.specs.declared.entry.Entry.{Entry}
 use Rattle.portal_model.specs.declared.opening.OpeningState.{OpeningState}
 use Rattle.portal_model.specs.declared.reply.Refused.{Refused}
@@ -13,7 +13,7 @@ use Rattle.portal_model.specs.State.{State}
 -- the files that the tree began with, where it tells them; the opening state, whose own list of
 -- files doesn't count; and the history
 pub record Story : Type 0 where
-  pub began : Option (List File)
+  pub began : Option Held
   pub opening : OpeningState
   pub history : List Entry
 

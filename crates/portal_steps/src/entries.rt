@@ -43,6 +43,7 @@ pub fn node_entry(alloc: Global, seat: u32, request: NodeRequest, done: NodeDone
         looks,
         listed,
         now,
+        generation,
         fault,
     } = done;
     let given = Given {
@@ -51,7 +52,7 @@ pub fn node_entry(alloc: Global, seat: u32, request: NodeRequest, done: NodeDone
         numbers: List::new(alloc),
         looks,
         listed,
-        generation: None,
+        generation,
         full: false,
         fault,
     };

@@ -11,13 +11,14 @@
 //! |---|---|
 //! | `entries` | the entries of requests, and the replies to them |
 //! | `lists` | what is looked up among connections |
-//! | `seats` | the connections of seats, each with its open handles |
+//! | `seats` | the connections of seats, each with its open handles and its temporaries |
 //! | `documents` | the requests on documents that neither ask the tree nor draw a word |
 //! | `additions` | Add |
 //! | `store` | the calls of the permission store |
 //!
 //! ```text
-//! seats::enter(&mut connections, &mut handles, &mut namings, &mut outboxes, connection)?;
+//! seats::enter(&mut connections, &mut handles, &mut namings, &mut temps, &mut outboxes,
+//!     connection)?;
 //! ```
 //!
 //! Its `specs` say what contracts see of a portal (`Story`), which devices a request may have

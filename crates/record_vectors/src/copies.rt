@@ -8,11 +8,13 @@ use portal_base::memory::Replica;
 use portal_base::names::{AppId, DocId, HostPath};
 use portal_base::text::Text;
 use portal_base::who::{Kind, Who};
-use portal_model::opening::{FileItem, OpeningDocument};
+use portal_model::naming::Naming;
+use portal_model::opening::{FileItem, OpeningDocument, TakenGeneration};
 use portal_model::records::{DocRecord, EntryRecord, GrantRecord, Row};
 use portal_model::request::{NodeOp, NodeRequest, Request};
 use portal_model::rights::Right;
 use portal_model::state::{Document, Triple};
+use portal_model::temporary::{OwnTemp, Temp};
 use std::alloc::Global;
 use vector_lines::error::{LineError, VectorError, bad, given};
 
@@ -30,6 +32,8 @@ pub fn copy(alloc: Global, out: &mut String, kind: &str) -> Result<(), VectorErr
         "entries" => entries(alloc)?,
         "documents" => documents(alloc)?,
         "requests" => requests(alloc)?,
+        "namings" => namings(alloc)?,
+        "temps" => temps(alloc)?,
         _ => return bad(),
     }
     out.push_str("copied")?;
@@ -108,6 +112,34 @@ fn files(alloc: Global) -> Result<(), VectorError> {
             moment: 7,
         },
     )
+}
+
+fn namings(alloc: Global) -> Result<(), VectorError> {
+    let path = given(alloc, HostPath::read(alloc, b"/p/a"))?;
+    copied(
+        alloc,
+        Naming {
+            view: 1,
+            document: DocId { number: 10 },
+            path,
+        },
+    )
+}
+
+fn temps(alloc: Global) -> Result<(), VectorError> {
+    let path = given(alloc, HostPath::read(alloc, b"/home/a.txt"))?;
+    let temp = Temp {
+        document: DocId { number: 10 },
+        view: 0,
+        name: List::copied(alloc, b"a.tmp")?,
+        file: FileName {
+            path,
+            generation: 1,
+        },
+    };
+    copied(alloc, OwnTemp { k: 1, temp })?;
+    let path = List::copied(alloc, b"/home/a.txt")?;
+    copied(alloc, TakenGeneration { path, last: 1 })
 }
 
 fn settings(alloc: Global) -> Result<(), VectorError> {

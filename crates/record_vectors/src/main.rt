@@ -1,4 +1,5 @@
-//! Vectors of names, lists and copies; of rights, documents and applications.
+//! Vectors of names, lists and copies; of rights, documents and applications; of names below
+//! exported folders, and of files that wait to be renamed.
 //!
 //! Reads lines from standard input. A line names a call, and what the call is
 //! given; its answer is printed as a line. Empty lines and lines that begin with
@@ -12,7 +13,9 @@ mod documents;
 mod grants;
 mod lists;
 mod names;
+mod namings;
 mod rights;
+mod temps;
 
 use std::alloc::Global;
 use std::io;
@@ -47,6 +50,9 @@ fn put_answer(alloc: Global, out: &mut String, line: &str) -> Result<(), VectorE
         "documents" => documents::documents(alloc, out, rest),
         "grants" => grants::grants(alloc, out, rest),
         "applications" => applications::applications(alloc, out, rest),
+        "below" => namings::below(alloc, out, rest),
+        "namings" => namings::namings(alloc, out, rest),
+        "temps" => temps::temps(alloc, out, rest),
         _ => bad(),
     }
 }

@@ -1,7 +1,7 @@
 -- The devices of a script, before their first use.
 use Rattle.std.specs.Prelude.{ℕ, List, [], ◌∷◌}
 use Rattle.host_tree.specs.Devices.{TreeState}
-use Rattle.host_tree.specs.Trees.{put_file, unnoted}
+use Rattle.host_tree.specs.Trees.{held_with, put_file, unnoted}
 use Rattle.portal_base.specs.Calls.{uncalled}
 use Rattle.portal_base.specs.declared.files.File.{File}
 use Rattle.portal_model.specs.Opening.{each, file_of}
@@ -25,10 +25,15 @@ with_files files (item ∷ items) = with_files (put_file (file_of item) files) i
 abbrev pub tree_files : List ScriptLine → List File
 tree_files lines = with_files [] (files_of lines)
 
--- a tree with these files, before its first call, and with the numbers of the calls that fail
+-- a tree with these files, all of them present, before its first call, and with the numbers of the
+-- calls that fail
 abbrev pub tree_with : List File → List ℕ → TreeState
-tree_with files fails =
-    record { began = files; files = files; count = uncalled fails; noted = unnoted }
+tree_with files fails = record {
+  began = held_with files [];
+  files = held_with files [];
+  count = uncalled fails;
+  noted = unnoted;
+}
 
 abbrev pub script_tree : List ScriptLine → TreeState
 script_tree lines = tree_with (tree_files lines) (each tree_call_in lines)

@@ -103,10 +103,11 @@ fn add_file(
     line: &ScriptLine,
     time: u64,
 ) -> Result<(), WantOfMemory>
-    requires fresh { tree.old ≡ tree_with tree.old.files tree.old.count.calls.failing }
-    requires placed { ArePlaced (paths_of (with_files tree.old.files (file_in time line.now))) }
+    requires fresh { tree.old ≡ tree_with tree.old.files.present tree.old.count.calls.failing }
+    requires placed { ArePlaced
+        (paths_of (with_files tree.old.files.present (file_in time line.now))) }
     ensures { OnOk result (tree.new ≡ tree_with
-        (with_files tree.old.files (file_in time line.now)) tree.old.count.calls.failing) }
+        (with_files tree.old.files.present (file_in time line.now)) tree.old.count.calls.failing) }
 {
     match line {
         ScriptLine::File { path, content } => {

@@ -78,6 +78,14 @@ impl<'a, R: Clock, T: HostTree> HostTree for HeldTree<'a, R, T> {
         self.tree.create(path, now)
     }
 
+    fn fresh(&mut self, file: &FileName, now: u64) -> TreeDone {
+        self.tree.fresh(file, now)
+    }
+
+    fn turn(&mut self, file: &FileName) -> TreeDone {
+        self.tree.turn(file)
+    }
+
     fn sync(&mut self, file: &FileName) -> TreeDone {
         self.tree.sync(file)
     }

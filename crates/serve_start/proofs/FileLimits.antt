@@ -9,7 +9,7 @@ fullest held sockets posts = record {
   listeners = sockets;
   connections = posts;
   spares = posts;
-  tree = 13;
+  tree = 16;
   store = 6;
   folders = 2;
   passing = 4;
@@ -27,7 +27,7 @@ comes held sockets posts = record {
   passing = omega arith;
 }
 
-pub least_limit : (held sockets posts : ℕ) → IsLeastLimit held sockets posts (held + sockets + 2 * posts + 13 + 6 + 2 + 4)
+pub least_limit : (held sockets posts : ℕ) → IsLeastLimit held sockets posts (held + sockets + 2 * posts + 16 + 6 + 2 + 4)
 least_limit held sockets posts = record {
   suffices = λ m c. omega (arith, c.held, c.listeners, c.connections, c.spares, c.tree, c.store, c.folders, c.passing);
   least = λ lower enough. let most = enough (fullest held sockets posts) (comes held sockets posts) in omega (arith, most);

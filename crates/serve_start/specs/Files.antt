@@ -32,7 +32,7 @@ pub record MayCome (before sockets posts : ℕ) (m : Moment) : Type 0 where
   pub listeners : m.listeners ≤ sockets
   pub connections : m.connections ≤ posts
   pub spares : m.spares ≤ posts
-  pub tree : m.tree ≤ 13
+  pub tree : m.tree ≤ 16
   pub store : m.store ≤ 6
   pub folders : m.folders ≤ 2
   pub passing : m.passing ≤ 4

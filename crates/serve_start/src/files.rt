@@ -4,8 +4,9 @@ ghost use Rattle.std.specs.Prelude.{◌≡◌, ◌≤◌};
 ghost use Rattle.serve_start.specs.Files.{IsLeastLimit};
 
 /// The files that the tree has open at once: one that it keeps, the one that was written last,
-/// three folders on the way down, and one that each of its eight threads opens.
-const TREE_FILES: u64 = 13;
+/// three folders on the way down, one that each of its eight threads opens, the folder of those
+/// that aren't present and its lock, and one that is made.
+const TREE_FILES: u64 = 16;
 
 /// The files that the store has open at once: its database and the log of that, and what
 /// it opens to sync their folder.

@@ -2,7 +2,7 @@
 use Rattle.std.proofs.Common.{◌≡◌, ℕ, List, [], ◌∷◌, ◌++◌, Bool, true, false, cond, refl, sym, ap, ◌∙◌}
 use Rattle.std.specs.List.{filter, flat_map}
 use Rattle.portal_model.specs.Content.{Content}
-use Rattle.app_world.specs.Effect.{Effect, Gained, Lost, Gone, Bytes, apply, apply_all, changed}
+use Rattle.app_world.specs.Effect.{Effect, Gained, Lost, Gone, Bytes, Turned, apply, apply_all, changed}
 use Rattle.app_world.specs.View.{Alone, AppView, Below, HeldDocument, is_held}
 use Rattle.served_world.specs.ServedItem.{ServedItem, bare, items_of_effect}
 use Rattle.served_world.specs.ServedWorld.{view_after, views_after}
@@ -26,6 +26,10 @@ still-held v f = held-twice (changed v f).documents
 pub bytes-bare : (v : AppView) (path : List ℕ) (generation : ℕ) (content : Content) → AllHeld v → bare (apply v (Bytes path generation content)) ≡ bare v
 bytes-bare v path generation content h = λ i. record (bare v) { documents = h i }
 
+-- nor does another file at a path
+pub turned-bare : (v : AppView) (path : List ℕ) (generation : ℕ) (content : Content) → AllHeld v → bare (apply v (Turned path generation content)) ≡ bare v
+turned-bare v path generation content h = λ i. record (bare v) { documents = h i }
+
 views-joined : (v : AppView) (is more : List ServedItem) → views_after v (is ++ more) ≡ views_after (views_after v is) more
 views-joined v [] more = refl
 views-joined v (i ∷ is) more = views-joined (view_after v i) is more
@@ -36,6 +40,7 @@ one-effect v (Gained d rights (Below files)) h = refl
 one-effect v (Lost id rights) h = refl
 one-effect v (Gone id) h = refl
 one-effect v (Bytes path generation content) h = sym (bytes-bare v path generation content h)
+one-effect v (Turned path generation content) h = sym (turned-bare v path generation content h)
 
 -- what is told of effects gives the view after them
 pub effects-bare : (fs : List Effect) (v : AppView) → AllHeld v → views_after (bare v) (flat_map items_of_effect fs) ≡ bare (apply_all v fs)

@@ -17,9 +17,10 @@ use Rattle.portal_model.specs.AddArguments.{are_add_arguments, are_presented, do
 use Rattle.portal_model.specs.Arguments.{document_named, if_reached}
 use Rattle.portal_model.specs.History.{makes}
 use Rattle.portal_model.specs.Lawful.{Lawful}
-use Rattle.portal_model.specs.Node.{bytes_named, node_given, walk_on_node}
+use Rattle.file_generations.specs.Generations.{all_held}
+use Rattle.portal_model.specs.Node.{node_given, walk_on_node}
 use Rattle.portal_model.specs.NodeVerdict.{NodeVerdict, Errs, Yields}
-use Rattle.portal_model.specs.State.{State, connection_of, held_of, is_none}
+use Rattle.portal_model.specs.State.{State, connection_of, held_in, held_of, is_none}
 use Rattle.portal_model.specs.Step.{after, bus_of, mount_of, reply_at}
 use Rattle.portal_model.specs.Valid.{Valid}
 use Rattle.portal_model.proofs.WhoWaits.{none-nil}
@@ -29,7 +30,7 @@ use Rattle.app_world.specs.DeleteDocument.{deleted_from}
 use Rattle.app_world.specs.Effect.{Effect, Gone}
 use Rattle.app_world.specs.Grant.{gained_in, granted_to}
 use Rattle.app_world.specs.Laws.{asks}
-use Rattle.app_world.specs.Node.{bytes_effects, node_touch, verdict_touch}
+use Rattle.app_world.specs.Node.{content_named, file_effects, node_touch, verdict_touch}
 use Rattle.app_world.specs.Revoke.{revoked_from}
 use Rattle.app_world.specs.Touched.{is_done}
 use Rattle.app_world.specs.View.{held_document, view}
@@ -52,8 +53,8 @@ module _ (app : List ℕ) (s : State) where
   verdict-told (Some (Errs errno)) = refl
   verdict-told (Some (Yields d)) = by_tree s.told
     where
-      by_tree : (b : Bool) → flat_map items_of_effect (cond b (bytes_effects (view s app) (bytes_named s.files) d.file) []) ≡ []
-      by_tree true = bytes-told (view s app) (bytes_named s.files) d.file
+      by_tree : (b : Bool) → flat_map items_of_effect (cond b (file_effects (view s app) (content_named (all_held (held_in s))) d.file) []) ≡ []
+      by_tree true = bytes-told (view s app) (content_named (all_held (held_in s))) d.file
       by_tree false = refl
 
   mount-told : (r : NodeRequest) (given : Given) (o : Option Connection) → flat_map items_of_effect (node_touch app s r given o) ≡ []
@@ -145,6 +146,7 @@ bare-alike app s t a = λ i. record {
   connections = a.connections i;
   contents = [];
   below = [];
+  files = [];
 }
 
 none-again : (s : State) (a : AddRequest) (o : Option Connection) → reuses a ≡ false → reused_on s a o ≡ []

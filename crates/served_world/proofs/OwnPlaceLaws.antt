@@ -2,6 +2,7 @@
 use Rattle.std.proofs.Common.{◌≡◌, ◌≤◌, ℕ, ◌==◌, List, [], ◌∷◌, ◌++◌, length, map, take, Bool, true, false, Option, Some, None, cond, refl, sym, subst, arith}
 use Rattle.std.specs.List.{All, AllByRecursion}
 use Rattle.std.proofs.lemmas.List.Elements.{All-from_recursion}
+use Rattle.file_generations.specs.Generations.{Held}
 use Rattle.portal_base.specs.declared.files.Look.{Look}
 use Rattle.portal_model.specs.declared.entry.Entry.{Entry}
 use Rattle.portal_model.specs.declared.entry.Given.{Given}
@@ -15,16 +16,18 @@ use Rattle.portal_model.specs.History.{EachLawful, made_by, makes, run}
 use Rattle.portal_model.specs.Lawful.{LawfulGiven, LawfulOnBus, LawfulOnNode, nothing_given}
 use Rattle.portal_model.specs.Node.{facts_of, walk_on_node}
 use Rattle.portal_model.specs.Outside.{files_told, walk_of}
-use Rattle.portal_model.specs.State.{State, connection_of, is_app}
+use Rattle.portal_model.specs.State.{State, connection_of, held_in, is_app}
 use Rattle.portal_model.specs.Step.{after, all_told, bus_of, is_mount, mount_of}
 use Rattle.portal_model.specs.Valid.{Valid, is_sound_connection}
 use Rattle.portal_model.specs.Walk.{Gives, Target, Walk, shown_at}
+use Rattle.portal_model.proofs.NodeValid.{asking_in}
 use Rattle.portal_model.proofs.ListLookups.{found_in_all, found_passes, nat_is}
 use Rattle.portal_model.proofs.Queues.{queue_sound}
 use Rattle.portal_model.proofs.ValidLaws.{after-Valid, told-sight}
 use Rattle.app_world.specs.View.{OwnConnection, own_connection, view}
 use Rattle.app_world.proofs.ViewLaws.{is_app-named, own-some}
-use Rattle.served_world.specs.OwnPlaces.{MayAsk, OwnLooksAreOfItsFiles, PresentsItsOwn, add_places, node_places, places_asked, places_of, waits_at_home}
+use Rattle.app_world.proofs.ViewedNames.{placed-temps}
+use Rattle.served_world.specs.OwnPlaces.{MayAsk, OwnLooksAreOfItsFiles, PresentsItsOwn, add_places, add_shown, node_places, node_shown, places_asked, places_of, shown_of, waits_at_home}
 use Rattle.served_world.proofs.AddPlaces.{add-places}
 use Rattle.served_world.proofs.NodePlaces.{node-places}
 use Rattle.served_world.proofs.PlacesAlong.{looks-placed}
@@ -72,8 +75,11 @@ module _ (s : State) (given : Given) where
 -- ---- what the files have there
 
 module _ (s : State) (given : Given) (t : s.told ≡ true) where
-  abbrev Shown : List Target → Type 0
-  Shown places = given.looks ≡ take (length given.looks) (map (shown_at s.files) places)
+  abbrev Shown : List Look → Type 0
+  Shown looks = given.looks ≡ take (length given.looks) looks
+
+  abbrev tree : Held
+  tree = held_in s
 
   nothing-is : given ≡ nothing_given → Shown []
   nothing-is e = subst (λ (g : Given). g.looks ≡ take (length g.looks) []) (sym e) refl
@@ -81,27 +87,27 @@ module _ (s : State) (given : Given) (t : s.told ≡ true) where
   none-is : given.looks ≡ [] → Shown []
   none-is e = subst (λ (l : List Look). l ≡ take (length l) []) (sym e) refl
 
-  by_files : {X : Type 0} (w : Walk X) → Gives (cond s.told (Some s.files) None) w given.looks (is_tree given.fault) → Gives (Some s.files) w given.looks (is_tree given.fault)
-  by_files w g = subst (λ (b : Bool). Gives (cond b (Some s.files) None) w given.looks (is_tree given.fault)) t g
+  by_files : {X : Type 0} (w : Walk X) → Gives (cond s.told (Some tree) None) w given.looks (is_tree given.fault) → Gives (Some tree) w given.looks (is_tree given.fault)
+  by_files w g = subst (λ (b : Bool). Gives (cond b (Some tree) None) w given.looks (is_tree given.fault)) t g
 
-  node-shown : (r : NodeRequest) (o : Option Connection) → LawfulOnNode s r given o → Shown (node_places s r given o)
+  node-shown : (r : NodeRequest) (o : Option Connection) → LawfulOnNode s r given o → Shown (node_shown s r given o)
   node-shown r None l = nothing-is l
   node-shown r (Some c) l =
       let told : State = all_told c.seat s in
-      shown-along s.files (walk_on_node told c r) (node-made s.files (facts_of told c r.node) r r.op) given.looks (is_tree given.fault) (by_files (walk_on_node told c r) l.looks)
+      shown-along tree (walk_on_node told c r) (node-made tree (facts_of told c r.node) r r.op) given.looks (is_tree given.fault) (by_files (walk_on_node told c r) l.looks)
 
-  add-shown : (a : AddRequest) (o : Option Connection) → LawfulOnBus s (Request.Add a) given o → Shown (add_places s a given o)
+  add-shown : (a : AddRequest) (o : Option Connection) → LawfulOnBus s (Request.Add a) given o → Shown (add_shown s a given o)
   add-shown a None l = nothing-is l
   add-shown a (Some c) l =
       let told : State = all_told c.seat s in
-      shown-along s.files (add told c a given.numbers) (add-made s.files told c a given.numbers) given.looks (is_tree given.fault) (by_files (add told c a given.numbers) l.looks)
+      shown-along tree (add told c a given.numbers) (add-made tree told c a given.numbers) given.looks (is_tree given.fault) (by_files (add told c a given.numbers) l.looks)
 
   bus-shown : (request : Request) →
       ((u : State) (c : Connection) → Gives (files_told u) (walk_of u c request given) given.looks (is_tree given.fault) → given.looks ≡ []) → (o : Option Connection) → LawfulOnBus s request given o → Shown []
   bus-shown request f None l = nothing-is l
   bus-shown request f (Some c) l = none-is (f (all_told c.seat s) c l.looks)
 
-  shown : (seat : ℕ) (request : Request) → LawfulGiven s seat request given → Shown (places_of s seat given request)
+  shown : (seat : ℕ) (request : Request) → LawfulGiven s seat request given → Shown (shown_of s seat given request)
   shown seat (Request.Node r) l = node-shown r (mount_of (connection_of s.connections seat)) l
   shown seat (Request.Add a) l = add-shown a (bus_of (connection_of s.connections seat)) l
   shown seat (Request.Enter who kind) l = nothing-is l.1
@@ -127,7 +133,7 @@ module _ (app : List ℕ) (s : State) (v : Valid s) (p : PresentsItsOwn app s) (
     seat-is = nat_is c.seat seat (found_passes (λ (x : Connection). x.seat == seat) s.connections c e)
 
     node-here : (r : NodeRequest) (b : Bool) → MayAll (Request.Node r) (node_places s r given (cond b (Some c) None))
-    node-here r true = subst (λ (n : ℕ). AllByRecursion (MayAsk app s n (Request.Node r)) (node_places s r given (Some c))) seat-is (node-places app s c r (is_app-named app c.who h) (record { who = c.who; made = s.made; documents = s.documents }) (told-sight s seat c e v) given.looks)
+    node-here r true = subst (λ (n : ℕ). AllByRecursion (MayAsk app s n (Request.Node r)) (node_places s r given (Some c))) seat-is (node-places app s c r (is_app-named app c.who h) (asking_in s c.who) (told-sight s seat c e v) (placed-temps app s v seat c e) given.looks)
     node-here r false = tt
 
     add-here : (a : AddRequest) (b : Bool) → MayAll (Request.Add a) (add_places s a given (cond b None (Some c)))

@@ -24,9 +24,9 @@ use Rattle.portal_model.specs.Bus.{is_tree, moment_given}
 use Rattle.portal_model.specs.Grant.{are_rights_arguments, may_grant}
 use Rattle.portal_model.specs.History.{makes}
 use Rattle.portal_model.specs.Lawful.{Lawful}
-use Rattle.portal_model.specs.NodeVerdict.{HandleChange, HandlesStay, Opens, Closes, NameChange, NamesStay, Names, NodeDoing, NodeVerdict, Errs, Yields}
+use Rattle.portal_model.specs.NodeVerdict.{HandleChange, HandlesStay, Opens, Closes, NameChange, NamesStay, Names, Temps, NodeDoing, NodeVerdict, Errs, Yields}
 use Rattle.portal_model.specs.Revoke.{may_revoke}
-use Rattle.portal_model.specs.SeatNames.{with_naming}
+use Rattle.portal_model.specs.SeatNames.{added_after, temps_after, with_naming}
 use Rattle.portal_model.specs.State.{State, is_app}
 use Rattle.portal_model.specs.Step.{after, is_mount}
 use Rattle.portal_model.specs.Valid.{Valid}
@@ -40,12 +40,11 @@ use Rattle.app_world.specs.Effect.{Effect, Bytes, Gained, Gone, Lost, apply, app
 use Rattle.app_world.specs.Enter.{own_entered}
 use Rattle.app_world.specs.Grant.{own_grant_reached}
 use Rattle.app_world.specs.Leave.{own_left}
-use Rattle.app_world.specs.Node.{bytes_effects, next_own_handle, own_closed, own_connections_after, own_connections_named, own_connections_then, own_named, own_node_done, own_opened, own_settled_on_node, with_handles}
+use Rattle.app_world.specs.Node.{own_effects, own_temps_changed, next_own_handle, own_closed, own_connections_after, own_connections_named, own_connections_then, own_named, own_node_done, own_opened, own_settled_on_node, with_handles}
 use Rattle.app_world.specs.Own.{Own}
 use Rattle.app_world.specs.OwnVerdict.{OwnVerdict, OwnDoes, OwnRefuses, own_reached, own_unless}
 use Rattle.app_world.specs.Present.{own_present, own_present_path, own_queue_path, own_requeued, own_with_queue}
 use Rattle.app_world.specs.Revoke.{own_revoke_reached, own_revoked}
-use Rattle.app_world.specs.Shown.{own_bytes}
 use Rattle.app_world.specs.View.{Alone, AppView, Below, HeldDocument, Holding, OwnConnection, found_connection, own_connection, prune, view}
 use Rattle.app_world.specs.World.{own_bus, own_bus_of, own_collect_step, own_mount_of, touch}
 use Rattle.app_world.proofs.WorldLaws.{steps}
@@ -135,10 +134,13 @@ module _ (app : List ℕ) where
   names-home c (Names naming) cs =
       same-queues (own_named c.seat naming)
       (λ x. elim (x.seat == c.seat) as (λ b. waits_at_home app (cond b (record x { namings = with_naming x.namings naming }) x) ≡ waits_at_home app x) [ true ↦ refl | false ↦ refl ]) cs
+  names-home c (Temps change) cs =
+      same-queues (own_temps_changed c.seat change)
+      (λ x. elim (x.seat == c.seat) as (λ b. waits_at_home app (cond b (record x { temps = temps_after change x.added x.temps; added = added_after change x.added }) x) ≡ waits_at_home app x) [ true ↦ refl | false ↦ refl ]) cs
 
   done-home : (v : AppView) (c : OwnConnection) (d : NodeDoing) → Home v → Home (own_node_done v c d)
   done-home v c d h =
-      ap all_home (all-applied (bytes_effects v (own_bytes v) d.file) (prune (record (with_handles d.handle v) { connections = own_connections_then c d v.connections })))
+      ap all_home (all-applied (own_effects v d.file) (prune (record (with_handles d.handle v) { connections = own_connections_then c d v.connections })))
       ∙ (names-home c d.names (own_connections_after c d.handle v.connections) ∙ (handles-home c d.handle v.connections ∙ h))
 
   verdict-home : (v : AppView) (c : OwnConnection) → Home v → (o : Option NodeVerdict) → Home (own_settled_on_node v c o).0

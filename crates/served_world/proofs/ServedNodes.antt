@@ -1,6 +1,6 @@
 -- A request of the application itself on a node, over any tree: its own machine gives the view after, and a reply to
 -- which the portal's is alike. What the tree has is of no account but for the bytes that a READ shows.
-use Rattle.std.proofs.Common.{◌≡◌, ◌≤◌, ℕ, nat_lt, List, [], ◌∷◌, drop, length, Bool, true, false, not, cond, Option, Some, None, refl, sym, ap, subst, ◌∙◌, arith}
+use Rattle.std.proofs.Common.{◌≡◌, ◌≤◌, ℕ, nat_lt, List, [], ◌∷◌, ◌++◌, drop, length, Bool, true, false, not, cond, Option, Some, None, refl, sym, ap, subst, ◌∙◌, arith}
 use Rattle.std.specs.List.{filter, flat_map}
 use Rattle.std.proofs.lemmas.List.{length-map, length-take}
 use Rattle.portal_base.specs.FileChanges.{bytes_from, cut_to, overlaid}
@@ -20,25 +20,27 @@ use Rattle.portal_model.specs.declared.request.Request.{Request}
 use Rattle.portal_model.specs.declared.state.Connection.{Connection}
 use Rattle.portal_model.specs.Alike.{Alike, NodeAlike, ReadsAlike}
 use Rattle.portal_model.specs.Bus.{is_tree, moment_given}
-use Rattle.portal_model.specs.Content.{OfFile}
+use Rattle.portal_model.specs.Content.{Content, OfFile}
 use Rattle.portal_model.specs.Errno.{eacces, ebadf, einval, enoent}
 use Rattle.portal_model.specs.History.{made_by}
-use Rattle.portal_model.specs.Node.{NodeFacts, bytes_named, facts_of, node_answer, node_done, node_walk, settled_on_node, walk_on_node}
-use Rattle.portal_model.specs.NodeVerdict.{FileChange, FilesStay, Writes, Resizes, Creates, HandleChange, HandlesStay, Opens, Closes, NodeDoing, NodeVerdict, Errs, Yields, errs, errs_if, tells, NamesStay}
-use Rattle.portal_model.specs.Place.{place_of, reach_at, naming_on}
+use Rattle.portal_model.specs.Lawful.{LawfulOnNode}
+use Rattle.portal_model.specs.Node.{temps_seen, NodeFacts, bytes_named, facts_of, node_answer, node_done, node_walk, settled_on_node, walk_on_node}
+use Rattle.portal_model.specs.NodeVerdict.{FileChange, FilesStay, Writes, Resizes, Creates, Adds, Stands, HandleChange, HandlesStay, Opens, Closes, NodeDoing, NodeVerdict, Errs, Yields, errs, errs_if, tells, NamesStay}
+use Rattle.portal_model.specs.Place.{place_of, reach_at, naming_on, sight_on, temp_on}
 use Rattle.portal_model.specs.Reach.{Reaching, may_read_now, open_file_of}
 use Rattle.portal_model.specs.Read.{read, read_limit}
 use Rattle.portal_model.specs.State.{State, connection_of, handles_of, held_of, is_app}
 use Rattle.portal_model.specs.Step.{all_told, is_mount, mount_of, node_step, with_signals}
 use Rattle.portal_model.specs.Valid.{Valid}
-use Rattle.portal_model.specs.Walk.{Walk, Ends, Uses, walked_with}
-use Rattle.app_world.specs.Effect.{Bytes}
+use Rattle.portal_model.specs.Walk.{Walk, Ends, Uses, generation_reached, walked_with}
+use Rattle.app_world.specs.Effect.{Bytes, Turned}
 use Rattle.app_world.specs.Laws.{asks}
-use Rattle.app_world.specs.Node.{bytes_at, bytes_effects, own_facts, own_node_done, own_settled_on_node, own_walk, own_connections_then, with_handles}
-use Rattle.app_world.specs.Shown.{own_bytes}
+use Rattle.app_world.specs.Node.{bytes_at, file_effects, first_of, has_bytes, has_file, own_effects, own_facts, own_place, own_node_done, own_settled_on_node, own_walk, own_connections_then, with_handles}
+use Rattle.app_world.specs.Shown.{bytes_in, own_bytes, own_file}
 use Rattle.app_world.specs.View.{AppView, HeldDocument, OwnConnection, found_connection, held_documents, is_held, knows, own_connection, own_connections, own_handle, prune, view}
 use Rattle.app_world.specs.World.{own_mount_of}
 use Rattle.app_world.proofs.HandleChangeLaws.{connections-then, handle-found}
+use Rattle.app_world.proofs.NodeLaws.{temps-alike, told_temps}
 use Rattle.app_world.proofs.PlaceLaws.{own_place-is, own_reach-is}
 use Rattle.app_world.proofs.ViewLaws.{is_app-named, own-some, own_unsent, still_held, view-told}
 use Rattle.served_world.specs.ServedItem.{bare, items_of_effect}
@@ -50,14 +52,24 @@ use Rattle.served_world.proofs.BareViews.{all-bare, held-twice}
 -- ---- a change of a file is told by nothing
 
 at-told : (v : AppView) (name : FileName) (bytes : List ℕ) (now : ℕ) → flat_map items_of_effect (bytes_at v name bytes now) ≡ []
-at-told v name bytes now = elim (knows v name.path) as (λ b. flat_map items_of_effect (cond b (Bytes name.path name.generation (OfFile name.generation bytes now) ∷ []) []) ≡ []) [ true ↦ refl | false ↦ refl ]
+at-told v name bytes now = elim (has_file v name) as (λ b. flat_map items_of_effect (cond b (has_bytes name bytes now ∷ []) []) ≡ []) [ true ↦ refl | false ↦ refl ]
 
-pub bytes-told : (v : AppView) (bytes : FileName → List ℕ) (change : FileChange) → flat_map items_of_effect (bytes_effects v bytes change) ≡ []
-bytes-told v bytes FilesStay = refl
-bytes-told v bytes (Writes name offset [] now) = refl
-bytes-told v bytes (Writes name offset (b ∷ bs) now) = at-told v name (overlaid (bytes name) offset (b ∷ bs)) now
-bytes-told v bytes (Resizes name size now) = at-told v name (cut_to size (bytes name)) now
-bytes-told v bytes (Creates path now) = at-told v (record { path = path; generation = 0 }) [] now
+pub bytes-told : (v : AppView) (file : FileName → Content) (change : FileChange) → flat_map items_of_effect (file_effects v file change) ≡ []
+bytes-told v file FilesStay = refl
+bytes-told v file (Writes name offset [] now) = refl
+bytes-told v file (Writes name offset (b ∷ bs) now) = at-told v name (overlaid (bytes_in (file name)) offset (b ∷ bs)) now
+bytes-told v file (Resizes name size now) = at-told v name (cut_to size (bytes_in (file name))) now
+bytes-told v file (Creates path now) = elim (knows v path) as (λ b. flat_map items_of_effect (cond b (has_bytes (first_of path) [] now ∷ []) []) ≡ []) [ true ↦ refl | false ↦ refl ]
+bytes-told v file (Adds name now) = refl
+bytes-told v file (Stands name) = elim (knows v name.path) as (λ b. flat_map items_of_effect (cond b (Turned name.path name.generation (file name) ∷ []) []) ≡ []) [ true ↦ refl | false ↦ refl ]
+
+pub own-told : (v : AppView) (change : FileChange) → flat_map items_of_effect (own_effects v change) ≡ []
+own-told v (Adds name now) = refl
+own-told v FilesStay = refl
+own-told v (Writes name offset content now) = bytes-told v (own_file v) (Writes name offset content now)
+own-told v (Resizes name size now) = bytes-told v (own_file v) (Resizes name size now)
+own-told v (Creates path now) = bytes-told v (own_file v) (Creates path now)
+own-told v (Stands name) = bytes-told v (own_file v) (Stands name)
 
 shown-within : (bytes : List ℕ) (offset size : ℕ) → length (bytes_from bytes offset size) ≤ size
 shown-within bytes offset size = let h = length-take size (drop offset bytes) in omega arith
@@ -92,7 +104,7 @@ module _ (app : List ℕ) (t : State) (c : Connection) where
 
   done-bare : (d : NodeDoing) → bare (own_node_done (bare v) mine d) ≡ bare (view (node_done t c d) app)
   done-bare d =
-      all-bare (bytes_effects (bare v) (own_bytes (bare v)) d.file) (prune (record (with_handles d.handle (bare v)) { connections = own_connections_then mine d v.connections })) (held-twice (with_handles d.handle (bare v)).documents) (bytes-told (bare v) (own_bytes (bare v)) d.file)
+      all-bare (own_effects (bare v) d.file) (prune (record (with_handles d.handle (bare v)) { connections = own_connections_then mine d v.connections })) (held-twice (with_handles d.handle (bare v)).documents) (own-told (bare v) d.file)
       ∙ (λ i. record (handles-bare d.handle i) {
         documents = (ap (filter is_held) (same-documents d.handle) ∙ still_held (held_of t.rights app) t.documents) i;
         connections = sym (connections-then app c t.handles d t.connections) i;
@@ -141,27 +153,41 @@ module _ (app : List ℕ) (t : State) (c : Connection) where
   -- ---- what it depends on
 
   module _ (r : NodeRequest) (named : c.who ≡ Who.App app) where
-    pub facts-bare : own_facts (bare v) mine r.node ≡ record (facts_of t c r.node) { bytes = own_bytes (bare v) }
-    facts-bare = λ i. record {
-      sight = (own_place-is app t (naming_on c r.node) r.node ∙ ap (λ (who : Who). place_of t who (naming_on c r.node) r.node) (sym named)) i;
+    place-bare : (node : ℕ) → own_place (bare v) mine node ≡ sight_on t c node
+    place-bare node = own_place-is app t (naming_on c node) (temp_on c node) node ∙ ap (λ (who : Who). place_of t who (naming_on c node) (temp_on c node) node) (sym named)
+
+    -- but for the bytes, and the generation of a new file
+    abbrev nearly : Option ℕ → NodeFacts
+    nearly g = record (facts_of t c r.node) { temps = told_temps (temps_seen t c) g }
+
+    pub facts-bare : (g : Option ℕ) → own_facts (bare v) mine g r.node ≡ record (nearly g) { bytes = own_bytes (bare v) }
+    facts-bare g = λ i. record {
+      sight = place-bare r.node i;
+      sight_of = λ node. place-bare node i;
       handle = λ fh. handle-found t.handles c.seat fh i;
       reach = λ node number. (own_reach-is app t node number ∙ ap (λ (who : Who). reach_at t who node number) (sym named)) i;
       bytes = own_bytes (bare v);
       room = record { opens = c.opens; full = not (nat_lt (length-map (handles_of t.handles c.seat) own_handle i) t.limits.handles) };
       namings = c.namings;
+      temps = told_temps (temps_seen t c) g;
       file_limit = t.limits.file_bytes;
     }
 
-    -- it comes to the same but for the bytes that a READ shows
-    pub node-seen : (now : ℕ) (listed : Option (List ChildName)) (looks : List Look) (failed : Bool) →
-        SeenBy (NodeAlike r.op) (own_settled_on_node (bare v) mine (walked_with (own_walk (bare v) mine r) now listed looks failed)) (settled_on_node t c (walked_with (walk_on_node t c r) now listed looks failed))
-    node-seen now listed looks failed =
-        subst (λ (f : NodeFacts). SeenBy (NodeAlike r.op) (own_settled_on_node (bare v) mine (walked_with (node_walk f r r.op) now listed looks failed)) (settled_on_node t c (walked_with (walk_on_node t c r) now listed looks failed))) (sym facts-bare)
-        (walk-seen (facts_of t c r.node) (own_bytes (bare v)) r r.op now listed looks failed)
+    module _ (g : Option ℕ) (looks : List Look) (reached : g ≡ generation_reached (walk_on_node t c r) looks) where
+      -- it comes to the same but for the bytes that a READ shows
+      pub node-seen : (now : ℕ) (listed : Option (List ChildName)) (failed : Bool) →
+          SeenBy (NodeAlike r.op) (own_settled_on_node (bare v) mine (walked_with (own_walk (bare v) mine g r) now listed looks failed)) (settled_on_node t c (walked_with (walk_on_node t c r) now listed looks failed))
+      node-seen now listed failed =
+          subst (λ (w : Walk NodeVerdict). SeenBy (NodeAlike r.op) (own_settled_on_node (bare v) mine (walked_with (own_walk (bare v) mine g r) now listed looks failed)) (settled_on_node t c (walked_with w now listed looks failed)))
+          (temps-alike (facts_of t c r.node) g looks r r.op reached)
+          (subst (λ (f : NodeFacts). SeenBy (NodeAlike r.op) (own_settled_on_node (bare v) mine (walked_with (node_walk f r r.op) now listed looks failed)) (settled_on_node t c (walked_with (node_walk (nearly g) r r.op) now listed looks failed)))
+          (sym (facts-bare g)) (walk-seen (nearly g) (own_bytes (bare v)) r r.op now listed looks failed))
 
-    -- and to the very same where no file is told
-    pub walk-untold : t.files ≡ [] → own_walk (bare v) mine r ≡ walk_on_node t c r
-    walk-untold e = ap (λ (f : NodeFacts). node_walk f r r.op) (facts-bare ∙ (λ i. record (facts_of t c r.node) { bytes = bytes_named (sym e i) }))
+      -- and to the very same where no file is told
+      pub walk-untold : t.files ≡ [] → t.hidden ≡ [] → own_walk (bare v) mine g r ≡ walk_on_node t c r
+      walk-untold e h =
+          ap (λ (f : NodeFacts). node_walk f r r.op) (facts-bare g ∙ (λ i. record (nearly g) { bytes = bytes_named (sym h i ++ sym e i) }))
+          ∙ temps-alike (facts_of t c r.node) g looks r r.op reached
 
 -- ---- the step
 
@@ -184,32 +210,32 @@ module _ (app : List ℕ) (s : State) (seat : ℕ) (r : NodeRequest) (given : Gi
     abbrev o : OwnConnection
     o = own_connection app s.handles c
 
-    mount_seen : (m : Bool) → IsSeen app (Request.Node r) (served_node_step (bare (view s app)) r own (cond m (Some o) None)) (node_step s r given (cond m (Some c) None))
-    mount_seen false = (refl, (refl, nothing-here r.op))
-    mount_seen true =
+    mount_seen : (m : Bool) → LawfulOnNode s r given (cond m (Some c) None) → IsSeen app (Request.Node r) (served_node_step (bare (view s app)) r own (cond m (Some o) None)) (node_step s r given (cond m (Some c) None))
+    mount_seen false l = (refl, (refl, nothing-here r.op))
+    mount_seen true l =
         let p = subst (λ (x : AppView). (bare (served_node_answer (bare x) o r own).0 ≡ bare (view (node_answer told c r given).0 app)) × NodeAlike r.op (served_node_answer (bare x) o r own).1 (node_answer told c r given).1) (view-told app s c.seat)
-        (node-seen app told c r (is_app-named app c.who h) (moment_given given.now) given.listed given.looks (is_tree given.fault)) in
+        (node-seen app told c r (is_app-named app c.who h) given.generation given.looks l.generation (moment_given given.now) given.listed (is_tree given.fault)) in
         (p.0, (own_unsent app s seat c valid e h, p.1))
 
-    mount_untold : s.files ≡ [] → (m : Bool) → (served_node_step (bare (view s app)) r own (cond m (Some o) None)).1 ≡ (node_step s r given (cond m (Some c) None)).1
-    mount_untold f false = refl
-    mount_untold f true =
+    mount_untold : s.files ≡ [] → s.hidden ≡ [] → (m : Bool) → LawfulOnNode s r given (cond m (Some c) None) → (served_node_step (bare (view s app)) r own (cond m (Some o) None)).1 ≡ (node_step s r given (cond m (Some c) None)).1
+    mount_untold f g false l = refl
+    mount_untold f g true l =
         let w : Walk NodeVerdict = walk_on_node told c r in
         (λ i. (with_signals [] (served_node_answer (bare (sym (view-told app s c.seat) i)) o r own)).1)
-        ∙ (ap (λ (x : Walk NodeVerdict). (with_signals [] (own_settled_on_node (bare (view told app)) o (walked_with x (moment_given given.now) given.listed given.looks (is_tree given.fault)))).1) (walk-untold app told c r (is_app-named app c.who h) f)
+        ∙ (ap (λ (x : Walk NodeVerdict). (with_signals [] (own_settled_on_node (bare (view told app)) o (walked_with x (moment_given given.now) given.listed given.looks (is_tree given.fault)))).1) (walk-untold app told c r (is_app-named app c.who h) given.generation given.looks l.generation f g)
         ∙ (ap (λ (x : AppView × Answer). (with_signals [] x).1) (settled-bare app told c (walked_with w (moment_given given.now) given.listed given.looks (is_tree given.fault)))
         ∙ (λ i. (with_signals (sym (own_unsent app s seat c valid e h) i) (node_answer told c r given)).1)))
 
-  pub node-own-seen : (found : Option Connection) → connection_of s.connections seat ≡ found → made_by app found (Request.Node r) ≡ true →
+  pub node-own-seen : (found : Option Connection) → connection_of s.connections seat ≡ found → made_by app found (Request.Node r) ≡ true → LawfulOnNode s r given (mount_of found) →
       IsSeen app (Request.Node r) (served_node_step (bare (view s app)) r own (own_mount_of (found_connection (own_connections app s.handles s.connections) seat))) (node_step s r given (mount_of found))
-  node-own-seen None e h = let x : false ≡ true = h in cc
-  node-own-seen (Some c) e h =
+  node-own-seen None e h l = let x : false ≡ true = h in cc
+  node-own-seen (Some c) e h l =
       subst (λ (x : Option OwnConnection). IsSeen app (Request.Node r) (served_node_step (bare (view s app)) r own (own_mount_of x)) (node_step s r given (mount_of (Some c)))) (sym (own-some app s.handles seat s.connections c e h))
-      (mount_seen c e h (is_mount c.kind))
+      (mount_seen c e h (is_mount c.kind) l)
 
-  pub node-own-untold : (found : Option Connection) → connection_of s.connections seat ≡ found → made_by app found (Request.Node r) ≡ true → s.files ≡ [] →
+  pub node-own-untold : (found : Option Connection) → connection_of s.connections seat ≡ found → made_by app found (Request.Node r) ≡ true → s.files ≡ [] → s.hidden ≡ [] → LawfulOnNode s r given (mount_of found) →
       (served_node_step (bare (view s app)) r own (own_mount_of (found_connection (own_connections app s.handles s.connections) seat))).1 ≡ (node_step s r given (mount_of found)).1
-  node-own-untold None e h f = let x : false ≡ true = h in cc
-  node-own-untold (Some c) e h f =
+  node-own-untold None e h f g l = let x : false ≡ true = h in cc
+  node-own-untold (Some c) e h f g l =
       ap (λ (x : Option OwnConnection). (served_node_step (bare (view s app)) r own (own_mount_of x)).1) (own-some app s.handles seat s.connections c e h)
-      ∙ mount_untold c e h f (is_mount c.kind)
+      ∙ mount_untold c e h f g (is_mount c.kind) l

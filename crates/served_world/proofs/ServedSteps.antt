@@ -73,12 +73,12 @@ module _ (app : List ℕ) (s : State) (seat : ℕ) (given : Given) (v : Valid s)
   exact-seen request h e = (ap (λ (x : AppView × Reply). x.0) e, same-alike request h _ _ (ap (λ (x : AppView × Reply). x.1) e))
 
   own-seen : (request : Request) → Lawful s (Asked request) → makes app s (Asked request) ≡ true → IsSeen app request (served_step (bare (view s app)) (served_own s (Asked request))) (step s (Asked request))
-  own-seen (Request.Node r) l m = node-own-seen app s seat r given v (connection_of s.connections seat) refl m
+  own-seen (Request.Node r) l m = node-own-seen app s seat r given v (connection_of s.connections seat) refl m l.given
   own-seen request l m = exact-seen request tt (exact request tt l m)
 
-  own-untold : (request : Request) → s.files ≡ [] → Lawful s (Asked request) → makes app s (Asked request) ≡ true → (served_step (bare (view s app)) (served_own s (Asked request))).1 ≡ reply_at s (Asked request)
-  own-untold (Request.Node r) f l m = node-own-untold app s seat r given v (connection_of s.connections seat) refl m f
-  own-untold request f l m = ap (λ (x : AppView × Reply). x.1) (exact request tt l m)
+  own-untold : (request : Request) → s.files ≡ [] → s.hidden ≡ [] → Lawful s (Asked request) → makes app s (Asked request) ≡ true → (served_step (bare (view s app)) (served_own s (Asked request))).1 ≡ reply_at s (Asked request)
+  own-untold (Request.Node r) f g l m = node-own-untold app s seat r given v (connection_of s.connections seat) refl m f g l.given
+  own-untold request f g l m = ap (λ (x : AppView × Reply). x.1) (exact request tt l m)
 
 -- ---- an entry of another
 
@@ -91,6 +91,6 @@ pub served_steps : ServedStepsSeen
 served_steps = record {
   own_view = λ app s e v l m. (own-seen app s e.seat e.given v e.request l m).0;
   own_reply = λ app s e v l m. (own-seen app s e.seat e.given v e.request l m).1;
-  untold = λ app s e t v l m. own-untold app s e.seat e.given v e.request (v.files_told t) l m;
+  untold = λ app s e t v l m. own-untold app s e.seat e.given v e.request (v.files_told t) (v.generations_sound.none_untold t) l m;
   other = other-seen;
 }

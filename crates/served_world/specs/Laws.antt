@@ -2,8 +2,8 @@
 -- src/laws.rt state.
 use Rattle.std.specs.Prelude.{◌≡◌, ℕ, List, [], ◌∷◌, ◌++◌, length, map, slice_get, Bool, true, false, cond, Some, None}
 use Rattle.std.specs.List.{AllZip, flat_map}
+use Rattle.file_generations.specs.Generations.{Held}
 use Rattle.portal_base.specs.Names.{is_same}
-use Rattle.portal_base.specs.declared.files.File.{File}
 use Rattle.portal_model.specs.declared.entry.Entry.{Entry}
 use Rattle.portal_model.specs.declared.entry.Given.{Given}
 use Rattle.portal_model.specs.declared.reply.Answer.{Answer}
@@ -50,8 +50,9 @@ pub record ServedStepsSeen : Type 0 where
 -- ---- what a trace holds
 
 -- the tree has these files, or tells nothing
-abbrev pub with_tree : Bool → List File → State → State
-with_tree told files s = record s { told = told; files = files }
+abbrev pub with_tree : Bool → Held → State → State
+with_tree told tree s =
+    record s { told = told; files = tree.present; hidden = tree.hidden }
 
 -- the request adds no file whose document may be used again
 abbrev pub UsesNoneAgain : Request → Type 0
@@ -141,8 +142,8 @@ pub record TracesHoldOwnLooks : Type 0 where
   -- again, and of such an Add whatever files there are
   pub own : (s t : State) (e : Entry) → UsesNoneAgain e.request → served_own s e ≡ served_own t e
   pub reusing :
-      (s : State) (e : Entry) (told : Bool) (files : List File) →
-      served_own (with_tree told files s) e ≡ served_own s e
+      (s : State) (e : Entry) (told : Bool) (tree : Held) →
+      served_own (with_tree told tree s) e ≡ served_own s e
   -- an entry of another that touches nothing might as well not be there; so each on a node
   pub quiet :
       (app : List ℕ) (s : State) (e : Entry) (more : List Entry) → Valid s → Lawful s e →

@@ -1,9 +1,9 @@
 -- Where the tree is asked for a request of an application, and where it may be: so what the looks
 -- can tell that stand in the item of such a request.
-use Rattle.std.specs.Prelude.{◌≡◌, ◌≤◌, ◌⊎◌, ℕ, List, [], ◌∷◌, ◌++◌, length, map, take, Bool, true, false, Option, Some, None}
+use Rattle.std.specs.Prelude.{◌≡◌, ◌≤◌, ◌⊎◌, ℕ, List, [], ◌∷◌, ◌++◌, length, take, Bool, true, false, Option, Some, None, cond}
 use Rattle.std.specs.List.{All, list_all}
+use Rattle.file_generations.specs.Generations.{Held, may_freshen, may_turn}
 use Rattle.portal_base.specs.Names.{is_host_path, is_in_own_folder}
-use Rattle.portal_base.specs.declared.files.File.{File}
 use Rattle.portal_base.specs.declared.files.FileName.{FileName}
 use Rattle.portal_base.specs.declared.files.Look.{Look}
 use Rattle.portal_base.specs.declared.who.Who.{Who}
@@ -25,9 +25,9 @@ use Rattle.portal_model.specs.Lawful.{Lawful}
 use Rattle.portal_model.specs.Node.{walk_on_node}
 use Rattle.portal_model.specs.Opening.{opened_over}
 use Rattle.portal_model.specs.Reach.{OpenFile}
-use Rattle.portal_model.specs.State.{State, connection_of, document_of, handle_of, has}
+use Rattle.portal_model.specs.State.{State, connection_of, document_of, handle_of, has, held_in}
 use Rattle.portal_model.specs.Step.{all_told, bus_of, mount_of}
-use Rattle.portal_model.specs.Walk.{Walk, Answers, Looks, Ends, Lists, Target, AtPath, Named, LastCall, Uses, Changes, Makes, shown_at}
+use Rattle.portal_model.specs.Walk.{Walk, Answers, Looks, Ends, Lists, Target, AtPath, Named, LastCall, Uses, Changes, Makes, Freshens, Turns, shown_at}
 use Rattle.app_world.specs.View.{OwnConnection, is_among, is_of_document, view}
 use Rattle.served_world.specs.ServedOwn.{served_own}
 
@@ -38,6 +38,8 @@ abbrev pub place_of_call : LastCall → Target
 place_of_call (Uses name) = Named name
 place_of_call (Changes name) = Named name
 place_of_call (Makes path) = AtPath path
+place_of_call (Freshens name) = Named name
+place_of_call (Turns name) = Named name
 
 -- The places of the calls that a walk makes, where it is shown these looks, one behind another:
 -- each look is of the place that stands where the look does. A call that failed has a place too,
@@ -49,15 +51,44 @@ places_along (Looks place next) (look ∷ looks) = place ∷ places_along (next 
 places_along (Ends call done missing) looks = place_of_call call ∷ []
 places_along (Lists path done missing) looks = AtPath path ∷ []
 
+-- What these files show there. Where a last call can't make a file, or can't let one become the
+-- present one of its path, nothing is there.
+abbrev pub shown_by_call : Held → LastCall → Look
+shown_by_call held (Uses name) = shown_at held (Named name)
+shown_by_call held (Changes name) = shown_at held (Named name)
+shown_by_call held (Makes path) = shown_at held (AtPath path)
+shown_by_call held (Freshens name) =
+    cond (may_freshen held name) (shown_at held (Named name)) Look.Missing
+shown_by_call held (Turns name) =
+    cond (may_turn held name) (shown_at held (Named name)) Look.Missing
+
+abbrev pub shown_along : {X : Type 0} → Held → Walk X → List Look → List Look
+shown_along held (Answers x) looks = []
+shown_along held (Looks place next) [] = shown_at held place ∷ []
+shown_along held (Looks place next) (look ∷ looks) =
+    shown_at held place ∷ shown_along held (next look) looks
+shown_along held (Ends call done missing) looks = shown_by_call held call ∷ []
+shown_along held (Lists path done missing) looks = shown_at held (AtPath path) ∷ []
+
 abbrev pub node_places : State → NodeRequest → Given → Option Connection → List Target
 node_places s r given None = []
 node_places s r given (Some c) =
     places_along (walk_on_node (all_told c.seat s) c r) given.looks
 
+abbrev pub node_shown : State → NodeRequest → Given → Option Connection → List Look
+node_shown s r given None = []
+node_shown s r given (Some c) =
+    shown_along (held_in s) (walk_on_node (all_told c.seat s) c r) given.looks
+
 abbrev pub add_places : State → AddRequest → Given → Option Connection → List Target
 add_places s a given None = []
 add_places s a given (Some c) =
     places_along (add (all_told c.seat s) c a given.numbers) given.looks
+
+abbrev pub add_shown : State → AddRequest → Given → Option Connection → List Look
+add_shown s a given None = []
+add_shown s a given (Some c) =
+    shown_along (held_in s) (add (all_told c.seat s) c a given.numbers) given.looks
 
 -- a request on a node asks the tree, and an Add; no other does
 abbrev pub places_of : State → ℕ → Given → Request → List Target
@@ -67,9 +98,19 @@ places_of s seat given (Request.Add a) =
     add_places s a given (bus_of (connection_of s.connections seat))
 places_of s seat given request = []
 
--- where the tree is asked for an entry
+abbrev pub shown_of : State → ℕ → Given → Request → List Look
+shown_of s seat given (Request.Node r) =
+    node_shown s r given (mount_of (connection_of s.connections seat))
+shown_of s seat given (Request.Add a) =
+    add_shown s a given (bus_of (connection_of s.connections seat))
+shown_of s seat given request = []
+
+-- where the tree is asked for an entry, and what the files of the state show there
 abbrev pub places_asked : State → Entry → List Target
 places_asked s e = places_of s e.seat e.given e.request
+
+abbrev pub shown_there : State → Entry → List Look
+shown_there s e = shown_of s e.seat e.given e.request
 
 -- ---- where it may be, for a request on a node
 
@@ -107,7 +148,8 @@ pub record IsOpen (app : List ℕ) (s : State) (seat : ℕ) (op : NodeOp) (name 
       has s (Who.App app) file.document.number Read ≡ true
 
 -- A READ, a WRITE and an FSYNC go by a handle alone. Any other request may ask for the file of a
--- document, or for one below a document that is a folder, by its path, or by the handle.
+-- document, or for one below a document that is a folder, by its path, or by the handle. A
+-- temporary is a file of its document's path.
 abbrev pub MayAskFor : List ℕ → State → ℕ → NodeOp → FileName → Type 0
 MayAskFor app s seat (NodeOp.Read fh offset size) name =
     IsOpen app s seat (NodeOp.Read fh offset size) name
@@ -158,7 +200,7 @@ pub record OwnLooksAreOfItsFiles : Type 0 where
   pub shows :
       (s : State) (e : Entry) → s.told ≡ true → Lawful s e →
       (served_own s e).looks
-      ≡ take (length (served_own s e).looks) (map (shown_at s.files) (places_asked s e))
+      ≡ take (length (served_own s e).looks) (shown_there s e)
   -- In each legal history each of the places is one where the application may look, be the tree
   -- told or not, if at the start there waits nothing of it that it may not present.
   pub places :
@@ -167,5 +209,5 @@ pub record OwnLooksAreOfItsFiles : Type 0 where
       All (MayAsk app (run s front) e.seat e.request) (places_asked (run s front) e)
   -- which is so in each state that a portal is opened in, since no connection is open there
   pub opened :
-      (app : List ℕ) (files : Option (List File)) (o : OpeningState) →
+      (app : List ℕ) (files : Option Held) (o : OpeningState) →
       PresentsItsOwn app (opened_over files o)

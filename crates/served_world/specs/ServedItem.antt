@@ -19,13 +19,15 @@ pub data ServedItem : Type 0 where
   -- a document is deleted
   Gone : DocId → ServedItem
 
--- what tells an effect: that a file has another content is told by nothing
+-- what tells an effect: that a file has another content, or becomes the present one, is told by
+-- nothing
 abbrev pub items_of_effect : Effect → List ServedItem
 items_of_effect (effect.Gained d rights holding) = Gained d rights ∷ []
 items_of_effect (effect.Lost id rights) = Lost id rights ∷ []
 items_of_effect (effect.Gone id) = Gone id ∷ []
 items_of_effect (effect.Bytes path generation content) = []
+items_of_effect (effect.Turned path generation content) = []
 
 -- a view without what the tree has
 abbrev pub bare : AppView → AppView
-bare v = record v { contents = []; below = [] }
+bare v = record v { contents = []; below = []; files = [] }

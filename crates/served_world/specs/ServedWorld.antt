@@ -35,7 +35,8 @@ served_node_given walk own =
 -- the view after, and the answer
 abbrev pub served_node_answer :
     AppView → OwnConnection → NodeRequest → ServedOwn → AppView × Answer
-served_node_answer v c r own = own_settled_on_node v c (served_node_given (own_walk v c r) own)
+served_node_answer v c r own =
+    own_settled_on_node v c (served_node_given (own_walk v c own.generation r) own)
 
 abbrev pub served_node_step :
     AppView → NodeRequest → ServedOwn → Option OwnConnection → AppView × Reply

@@ -20,6 +20,6 @@ abbrev pub AreWaiting : List Connection → Boxes → Type 0
 AreWaiting connections boxes = (seat : ℕ) →
     unsent_on boxes seat ≡ box_on (connection_of connections seat)
 
--- a connection but for what it waits for and what it has named
+-- a connection but for what it waits for, what it has named and its temporaries
 abbrev pub silent : Connection → Connection
-silent c = record c { unsent = []; namings = [] }
+silent c = record c { unsent = []; namings = []; temps = []; added = 0 }

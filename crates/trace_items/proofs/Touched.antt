@@ -13,7 +13,7 @@ use Rattle.portal_model.specs.Node.{bytes_named, facts_of, files_after, node_giv
 use Rattle.portal_model.specs.NodeOutside.{LawfulNode}
 use Rattle.portal_model.specs.NodeVerdict.{FileChange, FilesStay, NodeVerdict, Errs, Yields}
 use Rattle.portal_model.specs.Place.{Exported, Sight, SightBelow, SightOfFile, SightOfFolder, Folder, FolderOf, RootOf, Views, sight_on}
-use Rattle.portal_model.specs.State.{State, connection_of, handle_of, is_mount}
+use Rattle.portal_model.specs.State.{State, connection_of, handle_of, held_in, is_mount}
 use Rattle.portal_model.specs.Step.{after, all_told, bus_of, bus_step, collect_step, mount_of, node_step, reply_at, request_step}
 use Rattle.portal_model.specs.Walk.{Gives}
 use Rattle.portal_model.proofs.BusLaws.{bus_step-holds}
@@ -21,7 +21,7 @@ use Rattle.app_world.specs.Node.{bytes_effects, node_touch, verdict_touch}
 use Rattle.app_world.specs.Touched.{is_done}
 use Rattle.app_world.specs.View.{view}
 use Rattle.app_world.proofs.NamedPaths.{FolderOn, HandleOn, SightOn}
-use Rattle.app_world.proofs.WalksAlong.{CanBe, given-can, walk-along}
+use Rattle.app_world.proofs.WalksAlong.{AnyCall, AnyName, AnyPath, AnyTarget, CanBe, all-along, given-can}
 use Rattle.trace_items.specs.Awaited.{Comes, is_node}
 use Rattle.trace_items.specs.FilesChanged.{changed_name, file_change, told_of_file}
 use Rattle.trace_items.proofs.BytesAfter.{bytes-after}
@@ -42,33 +42,12 @@ same-files false x y e = e
 
 -- ---- requests on nodes
 
-abbrev Any : List ℕ → Type 0
-Any path = Unit {0}
-
-any-folder : (f : Folder) → FolderOn Any Any f
-any-folder (RootOf view numbers has_views) = tt
-any-folder (Views applications) = tt
-any-folder (FolderOf view d may_write) = tt
-any-folder (Exported view d path may_write) = tt
-
-any-sight : (o : Option Sight) → SightOn Any Any o
-any-sight None = tt
-any-sight (Some (SightOfFile d may_write)) = tt
-any-sight (Some (SightBelow view d path may_write)) = tt
-any-sight (Some (SightOfFolder f)) = any-folder f
-
-any-handle : (o : Option Handle) → HandleOn Any o
-any-handle None = tt
-any-handle (Some (Handle.File name node document strict read write)) = tt
-any-handle (Some (Handle.Folder node names)) = tt
-
 -- what is done can be done with these files
-can-be : (s : State) (c : Connection) (r : NodeRequest) (given : Given) → s.told ≡ true → LawfulNode (all_told c.seat s) c r given → CanBe s.files Any (node_given (walk_on_node s c r) given)
+can-be : (s : State) (c : Connection) (r : NodeRequest) (given : Given) → s.told ≡ true → LawfulNode (all_told c.seat s) c r given → CanBe (held_in s) AnyName AnyName (node_given (walk_on_node s c r) given)
 can-be s c r given told l =
-    given-can s.files Any (λ target. Unit {0}) (λ call. Unit {0}) Any (walk_on_node s c r) (moment_given given.now) given.listed given.looks (is_tree given.fault)
-    (subst (λ (b : Bool). Gives (cond b (Some s.files) None) (walk_on_node s c r) given.looks (is_tree given.fault)) told l.looks)
-    (walk-along s.files Any (λ target. Unit {0}) (λ call. Unit {0}) Any Any (λ path h. tt) (λ path name p h e. tt) (λ path h. tt) (λ path h. tt) (λ name h. tt) (λ name h. tt) (λ name h. tt) (λ path h e. tt) (facts_of s c r.node) r r.op
-    (any-sight (sight_on s c r.node)) (λ fh. any-handle (handle_of s.handles c.seat fh)))
+    given-can (held_in s) AnyName AnyName AnyTarget AnyCall AnyPath (walk_on_node s c r) (moment_given given.now) given.listed given.looks (is_tree given.fault)
+    (subst (λ (b : Bool). Gives (cond b (Some (held_in s)) None) (walk_on_node s c r) given.looks (is_tree given.fault)) told l.looks)
+    (all-along (held_in s) AnyName (facts_of s c r.node) r r.op (λ path. tt))
 
 module _ (s : State) (told : s.told ≡ true) (change : FileChange) where
   settled-files : (c : Connection) (v : Option NodeVerdict) → Changes change v → (settled_on_node (all_told c.seat s) c v).0.files ≡ cond (is_done (settled_on_node (all_told c.seat s) c v).1) (files_after true change s.files) s.files
@@ -76,7 +55,7 @@ module _ (s : State) (told : s.told ≡ true) (change : FileChange) where
   settled-files c (Some (Errs errno)) h = refl
   settled-files c (Some (Yields d)) h = λ i. files_after (told i) (h i) s.files
 
-  settled-told : (app : List ℕ) (c : Connection) (o : Option NodeVerdict) → Changes change o → CanBe s.files Any o → is_done (settled_on_node (all_told c.seat s) c o).1 ≡ true →
+  settled-told : (app : List ℕ) (c : Connection) (o : Option NodeVerdict) → Changes change o → CanBe (held_in s) AnyName AnyName o → is_done (settled_on_node (all_told c.seat s) c o).1 ≡ true →
       verdict_touch app s o ≡ told_of_file (view s app) (changed_name change) (settled_on_node (all_told c.seat s) c o).0.files
   settled-told app c None h can e = cc
   settled-told app c (Some (Errs errno)) h can e = cc

@@ -1,20 +1,25 @@
 -- How a request on a node changes the files, where it is done; and what a view is told of the file
 -- that it changes.
-use Rattle.std.specs.Prelude.{◌≡◌, ℕ, List, [], ◌∷◌, Bool, false, Option, Some, None, cond}
-use Rattle.portal_base.specs.Content.{file_at, file_named}
-use Rattle.portal_base.specs.Names.{named_child}
+use Rattle.std.specs.Prelude.{◌≡◌, ℕ, ◌==◌, List, [], ◌∷◌, Bool, true, false, Option, Some, None, cond}
+use Rattle.portal_base.specs.Content.{file_at}
+use Rattle.file_generations.specs.Generations.{Held, all_held, is_held}
+use Rattle.portal_base.specs.Names.{is_same, name_of, named_child}
 use Rattle.portal_base.specs.declared.files.File.{File}
 use Rattle.portal_base.specs.declared.files.FileName.{FileName}
 use Rattle.portal_base.specs.declared.files.Look.{Look}
 use Rattle.portal_model.specs.declared.handle.Handle.{Handle}
 use Rattle.portal_model.specs.declared.request.NodeOp.{NodeOp}
-use Rattle.portal_model.specs.Content.{Content, OfFile, NotThere}
-use Rattle.portal_model.specs.NodeVerdict.{FileChange, FilesStay, Writes, Resizes, Creates}
+use Rattle.portal_model.specs.declared.state.Document.{Document}
+use Rattle.portal_model.specs.declared.temporary.OwnTemp.{OwnTemp}
+use Rattle.portal_model.specs.NodeVerdict.{FileChange, FilesStay, Writes, Resizes, Creates, Adds, Stands}
 use Rattle.portal_model.specs.Open.{truncates}
-use Rattle.portal_model.specs.Place.{Exported, FolderOf, RootOf, Views, Folder, Sight, SightBelow, SightOfFile, SightOfFolder}
+use Rattle.portal_model.specs.Place.{Exported, FolderOf, RootOf, Views, Folder, Sight, SightBelow, SightOfFile, SightOfFolder, SightOfTemp}
+use Rattle.portal_model.specs.SeatNames.{found_temp}
 use Rattle.portal_model.specs.SetAttr.{sets_by_handle, sets_size}
-use Rattle.app_world.specs.Effect.{Effect, Bytes}
+use Rattle.app_world.specs.Effect.{Effect, Bytes, Turned}
+use Rattle.app_world.specs.Node.{content_named, first_of, has_file}
 use Rattle.app_world.specs.View.{AppView, knows}
+use Rattle.tree_files.specs.Kept.{NamesDiffer}
 
 -- ---- what a request names
 
@@ -27,6 +32,7 @@ file_open (Some (Handle.Folder node names)) = None
 abbrev pub path_of_file : Option Sight → Option (List ℕ)
 path_of_file None = None
 path_of_file (Some (SightOfFile d may_write)) = Some d.path
+path_of_file (Some (SightOfTemp d name may_write)) = Some name.path
 path_of_file (Some (SightBelow view d path may_write)) = Some path
 path_of_file (Some (SightOfFolder f)) = None
 
@@ -34,35 +40,28 @@ path_of_file (Some (SightOfFolder f)) = None
 abbrev pub path_of_below : Option Sight → Option (List ℕ)
 path_of_below None = None
 path_of_below (Some (SightOfFile d may_write)) = None
+path_of_below (Some (SightOfTemp d name may_write)) = None
 path_of_below (Some (SightBelow view d path may_write)) = Some path
 path_of_below (Some (SightOfFolder (RootOf view numbers has_views))) = None
 path_of_below (Some (SightOfFolder (Views applications))) = None
 path_of_below (Some (SightOfFolder (FolderOf view d may_write))) = None
 path_of_below (Some (SightOfFolder (Exported view d path may_write))) = Some path
 
-abbrev pub path_in_folder : List ℕ → Folder → Option (List ℕ)
-path_in_folder name (RootOf view numbers has_views) = None
-path_in_folder name (Views applications) = None
-path_in_folder name (FolderOf view d may_write) = Some d.path
-path_in_folder name (Exported view d path may_write) = named_child path name
+-- the document whose folder is seen
+abbrev pub document_of_folder : Option Sight → Option Document
+document_of_folder None = None
+document_of_folder (Some (SightOfFile d may_write)) = None
+document_of_folder (Some (SightOfTemp d name may_write)) = None
+document_of_folder (Some (SightBelow view d path may_write)) = None
+document_of_folder (Some (SightOfFolder (RootOf view numbers has_views))) = None
+document_of_folder (Some (SightOfFolder (Views applications))) = None
+document_of_folder (Some (SightOfFolder (FolderOf view d may_write))) = Some d
+document_of_folder (Some (SightOfFolder (Exported view d path may_write))) = None
 
--- the path of the document whose folder is seen
-abbrev pub path_of_own_folder : Option Sight → Option (List ℕ)
-path_of_own_folder None = None
-path_of_own_folder (Some (SightOfFile d may_write)) = None
-path_of_own_folder (Some (SightBelow view d path may_write)) = None
-path_of_own_folder (Some (SightOfFolder (RootOf view numbers has_views))) = None
-path_of_own_folder (Some (SightOfFolder (Views applications))) = None
-path_of_own_folder (Some (SightOfFolder (FolderOf view d may_write))) = Some d.path
-path_of_own_folder (Some (SightOfFolder (Exported view d path may_write))) = None
-
--- the path of the file that may be made by this name: in a document's folder that of the document,
--- at an exported folder and below it that of the name
-abbrev pub path_of_folder : List ℕ → Option Sight → Option (List ℕ)
-path_of_folder name None = None
-path_of_folder name (Some (SightOfFile d may_write)) = None
-path_of_folder name (Some (SightBelow view d path may_write)) = named_child path name
-path_of_folder name (Some (SightOfFolder f)) = path_in_folder name f
+-- and the view in which that is
+abbrev pub view_of_folder : Option Sight → ℕ
+view_of_folder (Some (SightOfFolder (FolderOf view d may_write))) = view
+view_of_folder sight = 0
 
 -- the file at a path, as the first look showed it
 abbrev pub file_shown : List ℕ → List Look → Option FileName
@@ -90,6 +89,33 @@ abbrev pub creates : Option (List ℕ) → ℕ → FileChange
 creates None now = FilesStay
 creates (Some path) now = Creates path now
 
+-- a temporary, by the generation that was given
+abbrev pub adds : List ℕ → Option ℕ → ℕ → FileChange
+adds path None now = FilesStay
+adds path (Some generation) now = Adds (record { path = path; generation = generation }) now
+
+abbrev pub child_of_below : List ℕ → Option (List ℕ) → Option (List ℕ)
+child_of_below name None = None
+child_of_below name (Some path) = named_child path name
+
+-- in a document's folder the document's own name is that of its file, and another a temporary's; at
+-- an exported folder and below it each name is that of a file
+abbrev pub made_in : List ℕ → Option ℕ → Option Document → Option (List ℕ) → ℕ → FileChange
+made_in name generation (Some d) below now =
+    cond (is_same name (name_of d.path)) (Creates d.path now) (adds d.path generation now)
+made_in name generation None below now = creates (child_of_below name below) now
+
+-- a temporary that is renamed onto the document's own name
+abbrev pub stands : Option OwnTemp → FileChange
+stands None = FilesStay
+stands (Some t) = Stands t.temp.file
+
+abbrev pub renamed : List ℕ → List ℕ → List OwnTemp → ℕ → Option Document → FileChange
+renamed old_name new_name temps view None = FilesStay
+renamed old_name new_name temps view (Some d) =
+    cond (is_same new_name (name_of d.path)) (stands (found_temp temps view d.id old_name))
+    FilesStay
+
 -- a write of no bytes changes nothing
 abbrev pub written : ℕ → List ℕ → Option Handle → ℕ → FileChange
 written offset [] handle now = FilesStay
@@ -107,58 +133,95 @@ abbrev pub opened : ℕ → Option Sight → List Look → ℕ → FileChange
 opened flags sight looks now =
     cond (truncates flags) (resizes (file_shown_at (path_of_file sight) looks) 0 now) FilesStay
 
--- by what is seen at the node, the open handle of each number, the looks, and the moment
-abbrev pub file_change : Option Sight → (ℕ → Option Handle) → List Look → ℕ → NodeOp → FileChange
-file_change sight handle looks now (NodeOp.Write fh offset content) =
-    written offset content (handle fh) now
-file_change sight handle looks now (NodeOp.SetAttr valid fh size) =
-    attributes_set valid size sight (handle fh) looks now
-file_change sight handle looks now (NodeOp.Open flags) = opened flags sight looks now
-file_change sight handle looks now (NodeOp.Create name flags) = creates (path_of_folder name sight) now
-file_change sight handle looks now (NodeOp.Lookup name) = FilesStay
-file_change sight handle looks now (NodeOp.Forget count) = FilesStay
-file_change sight handle looks now (NodeOp.BatchForget nodes) = FilesStay
-file_change sight handle looks now (NodeOp.GetAttr flags fh) = FilesStay
-file_change sight handle looks now (NodeOp.Read fh offset size) = FilesStay
-file_change sight handle looks now (NodeOp.Flush fh) = FilesStay
-file_change sight handle looks now (NodeOp.Fsync fh) = FilesStay
-file_change sight handle looks now (NodeOp.Release fh) = FilesStay
-file_change sight handle looks now NodeOp.OpenDir = FilesStay
-file_change sight handle looks now (NodeOp.ReadDir fh offset size) = FilesStay
-file_change sight handle looks now (NodeOp.ReleaseDir fh) = FilesStay
-file_change sight handle looks now (NodeOp.Access mask) = FilesStay
+-- what a request on a node was given, and what its connection has: the open handle of each number,
+-- and its temporaries
+pub record Circumstance : Type 0 where
+  pub sight : Option Sight
+  pub handle : ℕ → Option Handle
+  pub temps : List OwnTemp
+  pub looks : List Look
+  pub now : ℕ
+  pub generation : Option ℕ
+
+abbrev pub file_change : Circumstance → NodeOp → FileChange
+file_change c (NodeOp.Write fh offset content) = written offset content (c.handle fh) c.now
+file_change c (NodeOp.SetAttr valid fh size) =
+    attributes_set valid size c.sight (c.handle fh) c.looks c.now
+file_change c (NodeOp.Open flags) = opened flags c.sight c.looks c.now
+file_change c (NodeOp.Create name flags) =
+    made_in name c.generation (document_of_folder c.sight) (path_of_below c.sight) c.now
+file_change c (NodeOp.Rename new_parent flags old_name new_name) =
+    renamed old_name new_name c.temps (view_of_folder c.sight) (document_of_folder c.sight)
+file_change c (NodeOp.Unlink name) = FilesStay
+file_change c (NodeOp.Lookup name) = FilesStay
+file_change c (NodeOp.Forget count) = FilesStay
+file_change c (NodeOp.BatchForget nodes) = FilesStay
+file_change c (NodeOp.GetAttr flags fh) = FilesStay
+file_change c (NodeOp.Read fh offset size) = FilesStay
+file_change c (NodeOp.Flush fh) = FilesStay
+file_change c (NodeOp.Fsync fh) = FilesStay
+file_change c (NodeOp.Release fh) = FilesStay
+file_change c NodeOp.OpenDir = FilesStay
+file_change c (NodeOp.ReadDir fh offset size) = FilesStay
+file_change c (NodeOp.ReleaseDir fh) = FilesStay
+file_change c (NodeOp.Access mask) = FilesStay
 
 -- a file is made only where its path has none
-abbrev pub IsFresh : FileChange → List File → Type 0
-IsFresh FilesStay files = Unit {0}
-IsFresh (Writes name offset content now) files = Unit {0}
-IsFresh (Resizes name size now) files = Unit {0}
-IsFresh (Creates path now) files = file_at files path ≡ None
+abbrev pub IsFree : FileChange → Held → Type 0
+IsFree (Creates path now) held = file_at held.present path ≡ None
+IsFree change held = Unit {0}
+
+-- and files are found by their names
+pub record CanCome (change : FileChange) (held : Held) : Type 0 where
+  pub free : IsFree change held
+  pub names : NamesDiffer held
+
+-- the file is there that changes
+abbrev pub IsThere : FileChange → Held → Type 0
+IsThere (Writes name offset content now) held = is_held held name ≡ true
+IsThere (Resizes name size now) held = is_held held name ≡ true
+IsThere (Stands name) held = is_held held name ≡ true
+IsThere change held = Unit {0}
+
+-- the file of a name is the present one of its path
+abbrev pub is_of_generation : ℕ → Option File → Bool
+is_of_generation generation None = false
+is_of_generation generation (Some f) = f.generation == generation
+
+abbrev pub is_present : Held → FileName → Bool
+is_present held name = is_of_generation name.generation (file_at held.present name.path)
 
 -- ---- what a view is told of it
 
--- the file that changes; one that is made is the first of its path
-abbrev pub changed_name : FileChange → Option FileName
-changed_name FilesStay = None
-changed_name (Writes name offset [] now) = None
-changed_name (Writes name offset (b ∷ bs) now) = Some name
-changed_name (Resizes name size now) = Some name
-changed_name (Creates path now) = Some (record { path = path; generation = 0 })
-
-abbrev pub content_named : Option File → Content
-content_named None = NotThere false
-content_named (Some f) = OfFile f.generation f.bytes f.moment
-
-abbrev pub told_alone : FileName → List File → List Effect
+-- the file of a name, as it is afterwards
+abbrev pub told_alone : FileName → Held → List Effect
 told_alone name after =
-    Bytes name.path name.generation (content_named (file_named after name)) ∷ []
+    Bytes name.path name.generation (content_named (all_held after) name) ∷ []
 
--- the file that was changed, as it is afterwards, where the view tells what is at its path
-abbrev pub told_of_file : AppView → Option FileName → List File → List Effect
-told_of_file v None after = []
-told_of_file v (Some name) after = cond (knows v name.path) (told_alone name after) []
+abbrev pub turned_alone : FileName → Held → List Effect
+turned_alone name after =
+    Turned name.path name.generation (content_named (all_held after) name) ∷ []
 
--- the view tells what is at the path of the file, if any
-abbrev pub named_by : AppView → Option FileName → Bool
-named_by v None = false
-named_by v (Some name) = knows v name.path
+-- what is told of a change, if anything; one that is made is the first of its path
+abbrev pub news_of : FileChange → Held → List Effect
+news_of FilesStay after = []
+news_of (Writes name offset [] now) after = []
+news_of (Writes name offset (b ∷ bs) now) after = told_alone name after
+news_of (Resizes name size now) after = told_alone name after
+news_of (Creates path now) after = told_alone (first_of path) after
+news_of (Adds name now) after = []
+news_of (Stands name) after = turned_alone name after
+
+-- whether a view is told of it: it has the file that changes, or tells what is at the path
+abbrev pub is_news_to : AppView → FileChange → Bool
+is_news_to v FilesStay = false
+is_news_to v (Writes name offset [] now) = false
+is_news_to v (Writes name offset (b ∷ bs) now) = has_file v name
+is_news_to v (Resizes name size now) = has_file v name
+is_news_to v (Creates path now) = knows v path
+is_news_to v (Adds name now) = false
+is_news_to v (Stands name) = knows v name.path
+
+-- the file that was changed, as it is afterwards
+abbrev pub told_of_change : AppView → FileChange → Held → List Effect
+told_of_change v change after = cond (is_news_to v change) (news_of change after) []

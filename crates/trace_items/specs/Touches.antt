@@ -13,7 +13,8 @@ abbrev pub told_if : Option TraceItem → List item.TraceItem
 told_if None = []
 told_if (Some x) = item_told x ∷ []
 
--- a state with these documents, rights and files, and nothing else: what a call on rights touches
+-- a state with these documents, rights and present files, and nothing else: what a call on rights
+-- touches
 -- is told by these alone
 abbrev pub shown_in : List Document → List Triple → List File → State
 shown_in documents rights files = record {
@@ -26,6 +27,7 @@ shown_in documents rights files = record {
   handles = [];
   told = true;
   files = files;
+  hidden = [];
   taken = [];
   entries = [];
 }

@@ -251,7 +251,7 @@ pub fn add_touches(
     requires app { plan.now.app ≡ named_app add.now }
     requires listed { plan.now.listed ≡ rights_named add.now.names }
     ensures { IfOk result (λ items. map item_told items ≡ map item_of (shared_files app.now
-        (shown_in lent.now.book.documents.now.live lent.now.book.grants.now lent.now.files.now)
+        (shown_in lent.now.book.documents.now.live lent.now.book.grants.now lent.now.files.now.present)
         add.now numbers.now (map (λ item. item.path) plan.now.items)).effects) }
 {
     let mut sharing = Sharing {
@@ -281,7 +281,7 @@ fn share_files(
     requires app { plan.now.app ≡ named_app add.now }
     requires listed { plan.now.listed ≡ rights_named add.now.names }
     ensures { OnOk result (Tells sharing.old none_shared → Tells sharing.new (shared_files app.now
-        (shown_in lent.now.book.documents.now.live lent.now.book.grants.now lent.now.files.now)
+        (shown_in lent.now.book.documents.now.live lent.now.book.grants.now lent.now.files.now.present)
         add.now numbers.now (map (λ item. item.path) plan.now.items))) }
 {
     for item in plan.items.as_slice() {
@@ -305,7 +305,7 @@ fn share_file(
     requires listed { plan.now.listed ≡ rights_named add.now.names }
     ensures { OnOk result ((u : Shared) → Tells sharing.old u → Tells sharing.new
         (file_shared app.now
-        (shown_in lent.now.book.documents.now.live lent.now.book.grants.now lent.now.files.now)
+        (shown_in lent.now.book.documents.now.live lent.now.book.grants.now lent.now.files.now.present)
         add.now numbers.now u path.now)) }
 {
     if is_left_out(add, &plan.app, path) {
@@ -424,7 +424,7 @@ fn share(
 ) -> Result<(), WantOfMemory>
     ensures { OnOk result ((u : Shared) (a : Asked) → plan.now.listed ≡ rights_named a.names →
         Tells sharing.old u → Tells sharing.new (shared_with app.now
-        (shown_in lent.now.book.documents.now.live lent.now.book.grants.now lent.now.files.now)
+        (shown_in lent.now.book.documents.now.live lent.now.book.grants.now lent.now.files.now.present)
         a u document.now)) }
 {
     if is_given(sharing.given.as_slice(), document.id) {

@@ -1,12 +1,12 @@
 //! How a request on a node changes the files of the tree, where it is done.
 
-ghost use Rattle.std.specs.Prelude.{◌≡◌, true, IfOk, OnOk};
+ghost use Rattle.std.specs.Prelude.{◌≡◌, true, OnOk};
 ghost use Rattle.portal_model.specs.Node.{files_after};
 ghost use Rattle.trace_items.specs.Awaited.{change_of};
-ghost use Rattle.trace_items.specs.FilesChanged.{IsFresh, changed_name as name_changed};
+ghost use Rattle.trace_items.specs.FilesChanged.{CanCome};
 
 use portal_base::files::FileName;
-use portal_base::memory::{Replica, WantOfMemory};
+use portal_base::memory::WantOfMemory;
 use portal_base::names::HostPath;
 use std::alloc::Global;
 use tree_files::TreeFiles;
@@ -43,31 +43,23 @@ pub enum FileUpdate<'a> {
         /// The moment.
         now: u64,
     },
-}
-
-/// The name of the file that changes, if any.
-pub fn changed_name(alloc: Global, update: &FileUpdate) -> Result<Option<FileName>, WantOfMemory>
-    ensures { IfOk result (λ name. name ≡ name_changed (change_of update.now)) }
-{
-    match update {
-        FileUpdate::Stay => Ok(None),
-        FileUpdate::Write { name, content, .. } => {
-            if content.is_empty() {
-                return Ok(None);
-            }
-            Ok(Some(name.replica(alloc)?))
-        }
-        FileUpdate::Resize { name, .. } => Ok(Some(name.replica(alloc)?)),
-        FileUpdate::Create { path, .. } => Ok(Some(FileName {
-            path: path.replica(alloc)?,
-            generation: 0,
-        })),
-    }
+    /// An empty file is made that isn't present.
+    Freshen {
+        /// The file.
+        name: FileName,
+        /// The moment.
+        now: u64,
+    },
+    /// A file becomes the present one of its path.
+    Turn {
+        /// The file.
+        name: FileName,
+    },
 }
 
 /// Changes the files so. A file is made only where its path has none.
 pub fn change(alloc: Global, files: &mut TreeFiles, update: &FileUpdate) -> Result<(), WantOfMemory>
-    requires { IsFresh (change_of update.now) files.old }
+    requires { CanCome (change_of update.now) files.old }
     ensures { OnOk result (files.new ≡ files_after true (change_of update.now) files.old) }
 {
     match update {
@@ -80,5 +72,7 @@ pub fn change(alloc: Global, files: &mut TreeFiles, update: &FileUpdate) -> Resu
         } => files.write(name, *offset, content, *now),
         FileUpdate::Resize { name, size, now } => files.set_len(name, *size, *now),
         FileUpdate::Create { path, now } => files.create(alloc, path, *now),
+        FileUpdate::Freshen { name, now } => files.freshen(alloc, name, *now),
+        FileUpdate::Turn { name } => files.turn(alloc, name),
     }
 }

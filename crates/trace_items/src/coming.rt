@@ -2,34 +2,35 @@
 //! lists that a portal lends, and what then is when it is known whether it is
 //! done.
 
-ghost use Rattle.std.specs.Prelude.{◌≡◌, ◌++◌, [], Bool, List as Items, IfOk, OnOk, cond, false, map, option_copied, option_map, true};
+ghost use Rattle.std.specs.Prelude.{◌≡◌, ◌++◌, [], Bool, IfOk, OnOk, cond, false, map, option_copied, option_map, true};
 ghost use Rattle.app_world.specs.Add.{add_touch as touch_of_add, names_app as is_for_app};
+ghost use Rattle.app_world.specs.Node.{has_file as view_has_file};
 ghost use Rattle.app_world.specs.Touched.{is_done as is_done_answer};
 ghost use Rattle.app_world.specs.TraceItem.{item_of};
-ghost use Rattle.app_world.specs.View.{view};
+ghost use Rattle.app_world.specs.View.{holds_name, knows as does_know, view};
 ghost use Rattle.app_world.specs.World.{request_touch};
-ghost use Rattle.portal_base.specs.declared.files.File.{File as TreeFile};
+ghost use Rattle.file_generations.specs.Generations.{Held, is_held};
 ghost use Rattle.portal_model.specs.declared.state.Connection.{Connection as Open};
 ghost use Rattle.portal_model.specs.History.{made_by as is_made_by};
 ghost use Rattle.portal_model.specs.Lawful.{Lawful};
 ghost use Rattle.portal_model.specs.Node.{files_after};
-ghost use Rattle.portal_model.specs.State.{State, connection_of as open_connection, is_app};
+ghost use Rattle.portal_model.specs.State.{State, connection_of as open_connection, held_in, is_app};
 ghost use Rattle.portal_model.specs.Step.{reply_at};
 ghost use Rattle.portal_model.specs.Valid.{Valid};
-ghost use Rattle.trace_items.specs.Awaited.{Awaits, Comes, IsTold, Shows, change_of, file_told, files_awaited, is_node, items_awaited, silent, told_items};
-ghost use Rattle.trace_items.specs.FilesChanged.{IsFresh, changed_name as name_changed, named_by, told_of_file};
+ghost use Rattle.trace_items.specs.Awaited.{Awaits, Comes, IsTold, Shows, change_of, files_awaited, is_node, items_awaited, silent, told_items};
+ghost use Rattle.trace_items.specs.FilesChanged.{CanCome, IsThere, is_news_to, is_present, news_of, told_of_change};
 ghost use Rattle.trace_items.specs.OwnAdds.{is_in_order};
 ghost use Rattle.app_trace.specs.Told.{item_told};
 ghost use Rattle.trace_items.specs.Touches.{told_if};
 
 use crate::adds::{add_touches, planned};
-use crate::changes::{FileUpdate, change, changed_name};
+use crate::changes::{FileUpdate, change};
 use crate::lent::{Lent, bus_of, connection_of, mount_of};
 use crate::nodes::{file_item, update_of};
 use crate::own::{made_by, own_item};
 use crate::touches::{delete_touch, grant_touch, revoke_touch};
 use app_trace::trace::TraceItem;
-use named_paths::knows;
+use named_paths::{knows, names};
 use portal_base::files::FileName;
 use portal_base::list::List;
 use portal_base::memory::WantOfMemory;
@@ -123,50 +124,90 @@ fn what_is_told(
         return Ok(News::Own(own_item(alloc, lent, connection, entry)?));
     }
     match &entry.request {
-        Request::Node(_) => changed(alloc, lent, app, change),
+        Request::Node(_) => Ok(changed(lent, app, alloc, change)),
         _ => Ok(News::Touches(touches(alloc, lent, app, connection, entry)?)),
     }
 }
 
 /// What another's change of a file tells the application.
-fn changed(
-    alloc: Global,
-    lent: &Lent,
-    app: &AppId,
-    change: &FileUpdate,
-) -> Result<News, WantOfMemory>
-    ensures { IfOk result (λ told. (s : State) → Shows lent.now s → Valid s →
-        (done : Bool) (after : Items TreeFile) → told_items (change_of change.now) told done after
-        ≡ cond done (map item_of (told_of_file (view s app.now)
-        (name_changed (change_of change.now)) after)) []) }
+fn changed(lent: &Lent, app: &AppId, alloc: Global, update: &FileUpdate) -> News
+    ensures { (s : State) → Shows lent.now s → Valid s → (done : Bool) (after : Held) →
+        (done ≡ true → IsThere (change_of update.now) (held_in s)) →
+        told_items (change_of update.now) result done after
+        ≡ cond done (map item_of (told_of_change (view s app.now) (change_of update.now) after))
+        [] }
 {
-    let name = changed_name(alloc, change)?;
-    let named = is_named(lent, app, &name);
-    drop(name);
-    if named {
-        Ok(News::Changed)
+    if is_news(lent, app, update) {
+        News::Changed
     } else {
-        Ok(News::Touches(List::new(alloc)))
+        News::Touches(List::new(alloc))
     }
 }
 
-/// Says whether the view of an application tells what is at the path of a file, if any.
-fn is_named(lent: &Lent, app: &AppId, name: &Option<FileName>) -> bool
+/// Says whether the view of an application is told of a change, where the file is there
+/// that changes.
+fn is_news(lent: &Lent, app: &AppId, update: &FileUpdate) -> bool
     ensures { (s : State) → Shows lent.now s → Valid s →
-        result ≡ named_by (view s app.now) name.now }
+        IsThere (change_of update.now) (held_in s) →
+        result ≡ is_news_to (view s app.now) (change_of update.now) }
 {
-    match name {
-        Some(name) => knows(
-            lent.book.documents,
-            lent.book.grants,
-            lent.handles,
-            lent.numbers,
-            lent.connections,
-            app,
-            &name.path,
-        ),
+    match update {
+        FileUpdate::Write { name, content, .. } => !content.is_empty() && has_file(lent, app, name),
+        FileUpdate::Resize { name, .. } => has_file(lent, app, name),
+        FileUpdate::Create { path, .. } => tells_of(lent, app, path),
+        FileUpdate::Turn { name } => tells_of(lent, app, &name.path),
+        FileUpdate::Stay | FileUpdate::Freshen { .. } => false,
+    }
+}
+
+/// Says whether the view of an application has a file that is there: by its name, or
+/// since it stands at a path of which the view tells.
+fn has_file(lent: &Lent, app: &AppId, name: &FileName) -> bool
+    ensures { (s : State) → Shows lent.now s → Valid s → is_held (held_in s) name.now ≡ true →
+        result ≡ view_has_file (view s app.now) name.now }
+{
+    names_file(lent, app, name) || (stands(lent.files, name) && tells_of(lent, app, &name.path))
+}
+
+/// Says whether an open handle or a temporary of the application names a file.
+fn names_file(lent: &Lent, app: &AppId, name: &FileName) -> bool
+    ensures { (s : State) → Shows lent.now s → Valid s →
+        result ≡ holds_name (view s app.now) name.now }
+{
+    names(
+        lent.handles,
+        lent.numbers,
+        lent.temps,
+        lent.connections,
+        app,
+        name,
+    )
+}
+
+/// Says whether the file of a name is the present one of its path.
+fn stands(files: &TreeFiles, name: &FileName) -> bool
+    ensures { result ≡ is_present files.now name.now }
+{
+    match files.at(&name.path) {
+        Some(file) => file.generation == name.generation,
         None => false,
     }
+}
+
+/// Says whether the view of an application tells what is at a path.
+fn tells_of(lent: &Lent, app: &AppId, path: &HostPath) -> bool
+    ensures { (s : State) → Shows lent.now s → Valid s →
+        result ≡ does_know (view s app.now) path.now }
+{
+    knows(
+        lent.book.documents,
+        lent.book.grants,
+        lent.handles,
+        lent.numbers,
+        lent.connections,
+        app,
+        path,
+    )
 }
 
 /// What a request of another, which is not on a node, tells the application where
@@ -282,7 +323,7 @@ pub fn come(
     awaited: Awaited,
     done: bool,
 ) -> Result<(), WantOfMemory>
-    requires { done ≡ true → IsFresh (change_of awaited.change) files.old }
+    requires { done ≡ true → CanCome (change_of awaited.change) files.old }
     ensures items { OnOk result (map item_told items.new
         ≡ map item_told items.old ++ items_awaited awaited.entry done files.old) }
     ensures files { OnOk result (files.new
@@ -306,7 +347,7 @@ fn come_with(
     update: &FileUpdate,
     done: bool,
 ) -> Result<(), WantOfMemory>
-    requires { done ≡ true → IsFresh (change_of update.now) files.old }
+    requires { done ≡ true → CanCome (change_of update.now) files.old }
     ensures items { OnOk result (map item_told items.new ≡ map item_told items.old
         ++ told_items (change_of update.now) told done
         (cond done (files_after true (change_of update.now) files.old) files.old)) }
@@ -347,14 +388,12 @@ fn push_changed(
     update: &FileUpdate,
 ) -> Result<(), WantOfMemory>
     ensures { OnOk result (map item_told items.new ≡ map item_told items.old
-        ++ map item_of (file_told (name_changed (change_of update.now)) after.now)) }
+        ++ map item_of (news_of (change_of update.now) after.now)) }
 {
-    let Some(name) = changed_name(alloc, update)? else {
-        return Ok(());
-    };
-    let item = file_item(alloc, after, &name);
-    drop(name);
-    items.push(item?)
+    match file_item(alloc, after, update)? {
+        Some(item) => items.push(item),
+        None => Ok(()),
+    }
 }
 
 /// Says whether an answer tells that a request was done.

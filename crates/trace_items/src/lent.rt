@@ -10,6 +10,7 @@ use named_paths::OpenNumbers;
 use open_handles::Handles;
 use portal_base::who::Kind;
 use portal_model::state::Connection;
+use save_files::Temps;
 use tree_files::TreeFiles;
 
 /// The lists that a portal lends, as they are ahead of an entry, and the files
@@ -18,7 +19,8 @@ use tree_files::TreeFiles;
 pub struct Lent<'a> {
     /// The documents, the rights in them, and the applications.
     pub book: ViewBook<'a>,
-    /// The open connections, but for what they wait for and what they have named.
+    /// The open connections, but for what they wait for, what they have named and their
+    /// temporaries.
     pub connections: &'a [Connection],
     /// What they have open.
     pub handles: &'a Handles,
@@ -26,6 +28,8 @@ pub struct Lent<'a> {
     pub numbers: &'a OpenNumbers,
     /// What they have named below folders that are documents.
     pub namings: &'a Namings,
+    /// Their temporaries.
+    pub temps: &'a Temps,
     /// The files.
     pub files: &'a TreeFiles,
 }

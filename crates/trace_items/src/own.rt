@@ -99,7 +99,7 @@ fn own_planned(
 ) -> Result<TraceItem, WantOfMemory>
     requires { IsPlanned queue.now add.now plan.now }
     ensures { IfOk result (λ item. item_told item ≡ own_told entry.now
-        (map (shown_at_path lent.now.files.now (does_export add.now))
+        (map (shown_at_path lent.now.files.now.present (does_export add.now))
         (take (looks_asked entry.now.given) (paths_of_call queue.now add.now)))
         (cond (reuses add.now)
         (reused_of_files lent.now.book.documents.now.live add.now
@@ -131,7 +131,7 @@ fn shown(
 ) -> Result<List<Holding>, WantOfMemory>
     requires { IsPlanned queue.now add.now plan.now }
     ensures { IfOk result (λ shown. map holding_told shown
-        ≡ map (shown_at_path files.now (does_export add.now))
+        ≡ map (shown_at_path files.now.present (does_export add.now))
         (take asked (paths_of_call queue.now add.now))) }
 {
     let paths = paths_shown(alloc, queue, add, plan.items.as_slice())?;
@@ -155,7 +155,7 @@ fn holdings(
     exported: bool,
 ) -> Result<List<Holding>, WantOfMemory>
     ensures { IfOk result (λ shown. map holding_told shown
-        ≡ map (shown_at_path files.now exported) paths.now) }
+        ≡ map (shown_at_path files.now.present exported) paths.now) }
 {
     let mut shown = List::new(alloc);
     for path in paths {
@@ -172,7 +172,7 @@ fn holding(
     exported: bool,
 ) -> Result<Holding, WantOfMemory>
     ensures { IfOk result
-        (λ shown. holding_told shown ≡ shown_at_path files.now exported path.now) }
+        (λ shown. holding_told shown ≡ shown_at_path files.now.present exported path.now) }
 {
     let content = content_at(alloc, files, path)?;
     holding_with(alloc, files, path, exported, content)
@@ -187,7 +187,7 @@ fn holding_with(
     content: Content,
 ) -> Result<Holding, WantOfMemory>
     ensures { IfOk result (λ shown. holding_told shown
-        ≡ shown_by_content files.now path.now exported (content_told content)) }
+        ≡ shown_by_content files.now.present path.now exported (content_told content)) }
 {
     match content {
         Content::Folder if exported => Ok(Holding::Below {

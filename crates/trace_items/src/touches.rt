@@ -32,7 +32,7 @@ pub fn grant_touch(
     call: &RightsCall,
 ) -> Result<Option<TraceItem>, WantOfMemory>
     ensures { IfOk result (λ item. told_if item ≡ map item_of
-        (touch_of_grant app.now (shown_in documents.now.live rights.now files.now) call.now)) }
+        (touch_of_grant app.now (shown_in documents.now.live rights.now files.now.present) call.now)) }
 {
     if call.app.as_slice() != app.as_bytes() {
         return Ok(None);
@@ -53,7 +53,7 @@ pub fn gained(
     listed: Rights,
 ) -> Result<Option<TraceItem>, WantOfMemory>
     ensures { IfOk result (λ item. told_if item ≡ map item_of
-        (gained_in app.now (shown_in [] rights.now files.now) listed document.now)) }
+        (gained_in app.now (shown_in [] rights.now files.now.present) listed document.now)) }
 {
     let more = listed.minus(rights.rights(app, document.id));
     if more.is_empty() {

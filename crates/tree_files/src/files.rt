@@ -1,14 +1,15 @@
-//! The files of a tree, by path.
+//! The files of a tree, by path and by name.
 
-ghost use Rattle.std.specs.Prelude.{◌≡◌, ◌∷◌, ◌++◌, [], None, IfOk, OnErr, OnOk, cond, option_copied, option_map};
-ghost use Rattle.std.specs.List.{filter, list_any};
+ghost use Rattle.std.specs.Prelude.{◌≡◌, ◌∷◌, ◌++◌, [], None, IfNone, IfSome, IfOk, OnErr, OnOk, cond, option_copied, option_map};
+ghost use Rattle.std.specs.List.{filter, list_any, position};
 ghost use Rattle.std.specs.List.Sorted.{IsStrictlySortedBy};
 ghost use Rattle.portal_base.specs.PathOrder.{path_order};
-ghost use Rattle.portal_base.specs.Content.{file_at, file_named, is_above, is_folder, paths_of};
+ghost use Rattle.portal_base.specs.Content.{file_at, file_named, is_above, is_folder, is_named, paths_of};
 ghost use Rattle.portal_base.specs.FileChanges.{change_named, file_with, new_file, put_file, resized, written};
-ghost use Rattle.tree_files.specs.Kept.{file_kept, stands_in};
+ghost use Rattle.file_generations.specs.Generations.{all_held, change_held, freshened, put_present, turned};
+ghost use Rattle.tree_files.specs.Kept.{NamesDiffer, file_kept, hidden_file, stands_in};
 
-use crate::kept::KeptFile;
+use crate::kept::{HiddenFile, KeptFile};
 use portal_base::files::{File, FileName};
 use portal_base::list::{ByteList, List};
 use portal_base::memory::{Replica, WantOfMemory};
@@ -17,67 +18,72 @@ use portal_base::names::host_path::{is_root, lies_above};
 use std::alloc::Global;
 use std::collections::BTreeMap;
 use std::marker::Model;
+use std::mem;
 use std::ops::Bound;
 
-// Paths are ordered part by part, so what lies below a path comes right behind it.
-/// Files by path, which contracts see as a list in the order of the paths.
+// Paths are ordered part by part, so what lies below a path comes right behind it. A file that isn't
+// present is seldom asked for, by its name alone, and stands in a plain list.
+/// The present files by path, which contracts see as a list in the order of the paths,
+/// and those beside them in the order in which they came.
 #[derive(Drop)]
 pub struct TreeFiles {
     map: BTreeMap<HostPath, KeptFile>,
+    hidden: Vec<HiddenFile>,
 }
 
 impl Model for TreeFiles {
-    ghost use Rattle.std.specs.Prelude.{List};
-    ghost use Rattle.portal_base.specs.declared.files.File.{File};
-    ghost use Rattle.tree_files.specs.Kept.{files_of};
+    ghost use Rattle.file_generations.specs.Generations.{Held, held_with};
+    ghost use Rattle.tree_files.specs.Kept.{files_of, hidden_of};
 
-    ghost Value = { List File };
+    ghost Value = { Held };
 
-    ghost view = { λ a. files_of a.map.entries };
+    ghost view = { λ a. held_with (files_of a.map.entries) (hidden_of a.hidden.items) };
 }
 
 impl TreeFiles {
     /// No files.
     pub fn new(alloc: Global) -> TreeFiles
-        ensures { result ≡ [] }
+        ensures present { result.present ≡ [] }
+        ensures hidden { result.hidden ≡ [] }
     {
         TreeFiles {
             map: BTreeMap::new(alloc),
+            hidden: Vec::new(alloc),
         }
     }
 
-    /// The file of a path.
+    /// The present file of a path.
     pub fn at(&self, path: &HostPath) -> Option<&KeptFile>
-        ensures { file_at self.now path.now
+        ensures { file_at self.now.present path.now
             ≡ option_map (file_kept path.now) (option_copied result) }
     {
         self.map.get(path)
     }
 
-    /// The file of a name.
+    /// The file of a name, present or not.
     pub fn named(&self, name: &FileName) -> Option<&KeptFile>
-        ensures { file_named self.now name.now
+        ensures { file_named (all_held self.now) name.now
             ≡ option_map (file_kept name.now.path) (option_copied result) }
     {
-        let map = &self.map;
-        if name.generation != 0 {
-            return None;
+        let hidden = self.hidden.as_slice();
+        match hidden_at(hidden, name) {
+            Some(at) => Some(&hidden[at].kept),
+            None => present_named(&self.map, name),
         }
-        map.get(&name.path)
     }
 
-    /// Says whether a path is a folder: the root, and each path above a file.
+    /// Says whether a path is a folder: the root, and each path above a present file.
     pub fn is_folder(&self, path: &HostPath) -> bool
-        ensures { result ≡ is_folder self.now path.now }
+        ensures { result ≡ is_folder self.now.present path.now }
     {
         is_root(path.as_bytes()) || self.has_file_below(path)
     }
 
-    /// Says whether a file lies below a path, which isn't the root.
+    /// Says whether a present file lies below a path, which isn't the root.
     ///
     /// The files below a path come right behind it in the order of paths.
     fn has_file_below(&self, path: &HostPath) -> bool
-        ensures { result ≡ list_any (λ f. is_above path.now f.path) self.now }
+        ensures { result ≡ list_any (λ f. is_above path.now f.path) self.now.present }
     {
         let mut behind = self.map.range((Bound::Excluded(path), Bound::Unbounded));
         match behind.next() {
@@ -86,33 +92,89 @@ impl TreeFiles {
         }
     }
 
-    /// The files at a path and below it, in the order of paths. Of n files it takes
-    /// about n steps.
+    /// The present files at a path and below it, in the order of paths. Of n files it
+    /// takes about n steps.
     pub fn in_folder(&self, alloc: Global, path: &HostPath) -> Result<List<File>, WantOfMemory>
-        ensures files { IfOk result (λ files. files ≡ filter (stands_in path.now) self.now) }
+        ensures files { IfOk result
+            (λ files. files ≡ filter (stands_in path.now) self.now.present) }
         ensures order { IfOk result (λ files. IsStrictlySortedBy path_order (paths_of files)) }
     {
         files_in(alloc, &self.map, path)
     }
 
-    /// Adds a file, where its path has none.
+    /// Adds the first file of a path, which is present, where its path has none.
     pub fn add(&mut self, path: HostPath, bytes: ByteList, moment: u64) -> Result<(), WantOfMemory>
-        requires { file_at self.old path ≡ None }
-        ensures ok { OnOk result (self.new ≡ put_file (file_with path bytes moment) self.old) }
+        requires { file_at self.old.present path ≡ None }
+        ensures ok { OnOk result (self.new
+            ≡ put_present (file_with path bytes moment) self.old) }
         ensures err { OnErr result (self.new ≡ self.old) }
     {
-        self.map.insert(path, KeptFile { bytes, moment })?;
+        let kept = KeptFile {
+            generation: 0,
+            bytes,
+            moment,
+        };
+        self.map.insert(path, kept)?;
         Ok(())
     }
 
-    /// Makes an empty file, where its path has none.
+    /// Makes an empty file that is present, where its path has none.
     pub fn create(&mut self, alloc: Global, path: &HostPath, now: u64) -> Result<(), WantOfMemory>
-        requires { file_at self.old path.now ≡ None }
-        ensures ok { OnOk result (self.new ≡ put_file (new_file path.now now) self.old) }
+        requires { file_at self.old.present path.now ≡ None }
+        ensures ok { OnOk result (self.new ≡ put_present (new_file path.now now) self.old) }
         ensures err { OnErr result (self.new ≡ self.old) }
     {
         let path = path.replica(alloc)?;
         self.add(path, List::new(alloc), now)
+    }
+
+    /// Makes an empty file of a name that isn't present.
+    pub fn freshen(&mut self, alloc: Global, name: &FileName, now: u64) -> Result<(), WantOfMemory>
+        ensures ok { OnOk result (self.new ≡ freshened name.now now self.old) }
+        ensures err { OnErr result (self.new ≡ self.old) }
+    {
+        let path = name.path.replica(alloc)?;
+        let kept = KeptFile {
+            generation: name.generation,
+            bytes: List::new(alloc),
+            moment: now,
+        };
+        self.hidden.push(HiddenFile { path, kept })?;
+        Ok(())
+    }
+
+    /// Lets the file of a name be the present one of its path.
+    pub fn turn(&mut self, alloc: Global, name: &FileName) -> Result<(), WantOfMemory>
+        requires { NamesDiffer self.old }
+        ensures ok { OnOk result (self.new ≡ turned name.now self.old) }
+        ensures err { OnErr result (self.new ≡ self.old) }
+    {
+        let Some(at) = hidden_at(self.hidden.as_slice(), name) else {
+            return Ok(());
+        };
+        if let Some(present) = self.map.get_mut(&name.path) {
+            mem::swap(present, &mut self.hidden[at].kept);
+            return Ok(());
+        }
+        self.place(alloc, at)
+    }
+
+    /// Takes a file out of those that aren't present to its path, which has none.
+    fn place(&mut self, alloc: Global, at: usize) -> Result<(), WantOfMemory>
+        requires place { at < length self.old.hidden }
+        requires free { (f : TreeFile) → slice_get self.old.hidden at ≡ Some f →
+            file_at self.old.present f.path ≡ None }
+        ensures ok { OnOk result ((f : TreeFile) → slice_get self.old.hidden at ≡ Some f →
+            self.new ≡ held_with (put_file f self.old.present)
+            (take at self.old.hidden ++ drop (at + 1) self.old.hidden)) }
+        ensures err { OnErr result (self.new ≡ self.old) }
+    {
+        // A copy goes there first, so that nothing is lost where there is no room.
+        let path = self.hidden[at].path.replica(alloc)?;
+        let kept = self.hidden[at].kept.replica(alloc)?;
+        self.map.insert(path, kept)?;
+        drop(self.hidden.remove(at));
+        Ok(())
     }
 
     /// Writes over the bytes of the file of a name from an offset on.
@@ -123,24 +185,68 @@ impl TreeFiles {
         content: &[u8],
         now: u64,
     ) -> Result<(), WantOfMemory>
+        requires { NamesDiffer self.old }
         ensures ok { OnOk result (self.new
-            ≡ change_named name.now (written offset content.now now) self.old) }
+            ≡ change_held name.now (written offset content.now now) self.old) }
         ensures err { OnErr result (self.new ≡ self.old) }
     {
-        write_in(&mut self.map, name, offset, content, now)
+        match hidden_at(self.hidden.as_slice(), name) {
+            Some(at) => {
+                let file = &mut self.hidden[at];
+                file.kept.write(offset, content, now)
+            }
+            None => write_in(&mut self.map, name, offset, content, now),
+        }
     }
 
     /// Cuts or fills the file of a name to a length.
     pub fn set_len(&mut self, name: &FileName, size: u64, now: u64) -> Result<(), WantOfMemory>
+        requires { NamesDiffer self.old }
         ensures ok { OnOk result (self.new
-            ≡ change_named name.now (resized size now) self.old) }
+            ≡ change_held name.now (resized size now) self.old) }
         ensures err { OnErr result (self.new ≡ self.old) }
     {
-        set_len_in(&mut self.map, name, size, now)
+        match hidden_at(self.hidden.as_slice(), name) {
+            Some(at) => {
+                let file = &mut self.hidden[at];
+                file.kept.set_len(size, now)
+            }
+            None => set_len_in(&mut self.map, name, size, now),
+        }
     }
 }
 
+ghost use Rattle.std.specs.Prelude.{◌+◌, ◌<◌, Some, drop, length, slice_get, take};
+ghost use Rattle.file_generations.specs.Generations.{held_with};
+ghost use Rattle.portal_base.specs.declared.files.File.{File as TreeFile};
 ghost use Rattle.tree_files.specs.Kept.{files_of};
+
+/// The place of the file of a name among those that aren't present.
+fn hidden_at(hidden: &[HiddenFile], name: &FileName) -> Option<usize>
+    ensures { result ≡ position (λ f. is_named name.now (hidden_file f)) hidden.now }
+{
+    hidden.iter().position(|file| is_named(file, name))
+}
+
+/// Says whether a file that isn't present has a name.
+fn is_named(file: &HiddenFile, name: &FileName) -> bool
+    ensures { result ≡ is_named name.now (hidden_file file.now) }
+{
+    file.path == name.path && file.kept.generation == name.generation
+}
+
+/// The present file of a name.
+fn present_named<'a>(map: &'a BTreeMap<HostPath, KeptFile>, name: &FileName) -> Option<&'a KeptFile>
+    ensures { file_named (files_of map.now.entries) name.now
+        ≡ option_map (file_kept name.now.path) (option_copied result) }
+{
+    // A map's paths stand in their order.
+    let _ = map.len();
+    match map.get(&name.path) {
+        Some(kept) => kept.of_generation(name.generation),
+        None => None,
+    }
+}
 
 /// The files of a map at a path and below it.
 fn files_in(
@@ -183,7 +289,7 @@ fn kept_file(alloc: Global, path: &HostPath, kept: &KeptFile) -> Result<File, Wa
 {
     Ok(File {
         path: path.replica(alloc)?,
-        generation: 0,
+        generation: kept.generation,
         bytes: kept.bytes.replica(alloc)?,
         moment: kept.moment,
     })
@@ -201,11 +307,8 @@ fn write_in(
         ≡ change_named name.now (written offset content.now now) (files_of map.old.entries)) }
     ensures err { OnErr result (files_of map.new.entries ≡ files_of map.old.entries) }
 {
-    if name.generation != 0 {
-        return Ok(());
-    }
     match map.get_mut(&name.path) {
-        Some(kept) => kept.write(offset, content, now),
+        Some(kept) => kept.write_as(name.generation, offset, content, now),
         None => Ok(()),
     }
 }
@@ -221,11 +324,8 @@ fn set_len_in(
         ≡ change_named name.now (resized size now) (files_of map.old.entries)) }
     ensures err { OnErr result (files_of map.new.entries ≡ files_of map.old.entries) }
 {
-    if name.generation != 0 {
-        return Ok(());
-    }
     match map.get_mut(&name.path) {
-        Some(kept) => kept.set_len(size, now),
+        Some(kept) => kept.set_len_as(name.generation, size, now),
         None => Ok(()),
     }
 }

@@ -16,7 +16,8 @@ use std::alloc::Global;
 
 impl<T: HostTree, K: Keeper, C: Clock, W: Words> Portal<T, K, C, W> {
     /// Begins a new history, in the state that the old one came to. Its cost is 0
-    /// again; what was made stays made, and the applications keep their numbers.
+    /// again; what was made stays made, the applications keep their numbers, and no
+    /// generation that was taken is taken again.
     ///
     /// It is refused exactly where a connection is open, and for want of memory;
     /// then nothing changes.
@@ -35,6 +36,7 @@ impl<T: HostTree, K: Keeper, C: Clock, W: Words> Portal<T, K, C, W> {
             &self.rights,
             &self.applications,
             &self.tables,
+            self.temps.taken(),
         )?;
         self.tree.settle()?;
         self.history = History::new(alloc, &opening.limits);

@@ -7,5 +7,5 @@ use Rattle.app_trace.proofs.contents.below_at.Given as goal
 -- what is there so far, and of the paths that are left
 abbrev pub invariant-loop-index : goal.invariant-loop-index
 invariant-loop-index l =
-    map below_told l.below ++ map (path_below l.files) (once_each (drop l.index l.paths))
-    ≡ map (path_below l.files) (once_each l.paths)
+    map below_told l.below ++ map (path_below l.files.present) (once_each (drop l.index l.paths))
+    ≡ map (path_below l.files.present) (once_each l.paths)

@@ -4,8 +4,6 @@ use Rattle.host_tree.specs.declared.tree.LookAnswer.TheVariants as look
 use Rattle.portal_base.specs.Names.{named_child}
 use Rattle.portal_base.specs.declared.files.Look.TheVariants as Look
 use Rattle.file_ops.specs.Children.{NumberingBelow, found_below}
-use Rattle.file_ops.proofs.ChildWalks.{refused-below}
-use Rattle.file_ops.proofs.OneLook.{IsNoFolder}
 use Rattle.file_ops.proofs.children.found_behind.Goals as goal
 
 pub returns-in_ok-found_in-in-Is-Folder-clause-ok : goal.returns-in_ok-found_in-in-Is-Folder-clause-ok

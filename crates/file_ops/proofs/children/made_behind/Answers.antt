@@ -5,8 +5,6 @@ use Rattle.portal_base.specs.Names.{named_child}
 use Rattle.portal_base.specs.declared.files.Look.TheVariants as Look
 use Rattle.node_looks.specs.Done.{room_in}
 use Rattle.file_ops.specs.Children.{NumberingBelow, made_below}
-use Rattle.file_ops.proofs.ChildWalks.{refused-below}
-use Rattle.file_ops.proofs.OneLook.{IsNoFolder}
 use Rattle.file_ops.proofs.children.made_behind.Goals as goal
 
 pub returns-in_ok-made_in-in-Is-Folder-clause-ok : goal.returns-in_ok-made_in-in-Is-Folder-clause-ok

@@ -10,8 +10,8 @@ use Rattle.file_ops.proofs.Tries.{if-right}
 use Rattle.file_ops.proofs.created.find_target.Goals as goal
 
 pub returns-in-Some : goal.returns-in-Some
-returns-in-Some c = λ b who r room namings.
-    let makes = λ (o : Option SeenPlace). by_place (option_map (sight_of b who) o) (no_file enotdir) (create_in r c.args.name.now c.args.flags room namings) in
+returns-in-Some c = λ b who r room namings temps.
+    let makes = λ (o : Option SeenPlace). by_place (option_map (sight_of b who) o) (no_file enotdir) (create_in r c.args.name.now c.args.flags room namings temps) in
     if-right (has_no_mode c.args.flags) c.has_no_mode.result einval (errs_if (is_too_long c.args.name.now) enametoolong (makes c.args.place)) c.has_no_mode.ensures c.if-has_no_mode.false
     ∙ (if-right (is_too_long c.args.name.now) c.is_too_long.result enametoolong (makes c.args.place) c.is_too_long.ensures c.if-is_too_long.false
-    ∙ (ap makes c.in-Some.is ∙ c.target_at.ensures b who r c.args.flags room namings))
+    ∙ (ap makes c.in-Some.is ∙ c.target_at.ensures b who r c.args.name.now c.args.flags room namings temps))

@@ -1,4 +1,4 @@
-use Rattle.file_ops.specs.Creates.{made_of}
+use Rattle.file_ops.specs.Creates.{own_file}
 use Rattle.node_looks.specs.Done.{room_in}
 use Rattle.file_ops.proofs.Creates.{made-behind}
 use Rattle.file_ops.proofs.Tries.{called-behind, on-err}
@@ -9,5 +9,5 @@ returns-in_err-ended-clause-err g c = on-err c.from_residual-in_err-ended.result
 
 pub returns-clause-ok : goal.returns-clause-ok
 returns-clause-ok g c =
-    made-behind c.args.call.now.request.now c.args.flags (room_in c.args.handles.now c.args.call.now.seat) (made_of c.args.made) c.look-look.result c.args.call.now.seat c.args.handles.now c.in_ok-ended.ended _ _ _ _
+    made-behind c.args.call.now.request.now c.args.flags (room_in c.args.handles.now c.args.call.now.seat) (own_file c.args.folder.now) c.look-look.result c.args.call.now.seat c.args.handles.now c.in_ok-ended.ended _ _ _ _
     c.look-look.ensures.asks c.look-look.ensures.looks c.in_ok-ended.ensures.ok

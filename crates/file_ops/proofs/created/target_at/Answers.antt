@@ -1,14 +1,9 @@
-use Rattle.std.proofs.Common.{◌≡◌, ◌∙◌, Some, ap, false, sym, true}
-use Rattle.portal_model.specs.Create.{create_in}
-use Rattle.portal_model.specs.Errno.{enotdir}
-use Rattle.portal_model.specs.NodeVerdict.{by_place, no_file}
-use Rattle.node_looks.specs.Sights.{is_below, sight_of}
-use Rattle.node_looks.specs.declared.sight.SeenPlace.{SeenPlace}
+use Rattle.std.proofs.Common.{◌≡◌, ◌∙◌, ap, false, sym, true}
+use Rattle.file_ops.specs.Creates.{is_nowhere}
 use Rattle.file_ops.proofs.created.target_at.Goals as goal
 
-pub returns-in-Folder : goal.returns-in-Folder
-returns-in-Folder c = λ b who r flags room namings.
-    ap (λ (p : SeenPlace). by_place (Some (sight_of b who p)) (no_file enotdir) (create_in r c.args.name.now flags room namings)) c.in-Folder.is ∙ c.target_in.ensures r flags room namings
-
 pub unreachable-requires : goal.unreachable-requires
-unreachable-requires c = let no : true ≡ false = ap is_below (sym c.in-Below.is) ∙ c.requires.plain in cc
+unreachable-requires c = let no : false ≡ true = ap is_nowhere (sym c.in-Below.is) ∙ c.requires in cc
+
+pub unreachable-requires-2 : goal.unreachable-requires-2
+unreachable-requires-2 c = let no : false ≡ true = ap is_nowhere (sym c.in-Folder.is) ∙ c.requires in cc

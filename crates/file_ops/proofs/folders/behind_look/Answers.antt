@@ -6,5 +6,5 @@ use Rattle.file_ops.proofs.folders.behind_look.Goals as goal
 
 pub returns : goal.returns
 returns c =
-    let as_done : List Look → NodeDone = λ xs. record { answer = c.args.answer; looks = xs; listed = c.args.listed; now = None; fault = c.args.fault } in
+    let as_done : List Look → NodeDone = λ xs. record { answer = c.args.answer; looks = xs; listed = c.args.listed; now = None; generation = None; fault = c.args.fault } in
     ap as_done (c.set.ensures ∙ set-one c.args.room Look.Folder c.requires)

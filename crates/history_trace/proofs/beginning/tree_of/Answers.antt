@@ -15,12 +15,12 @@ add_file-requires-clause-fresh c = ap (λ (t : QuietState). t.made) c.loop-file.
 
 pub add_file-requires-clause-began : goal.add_file-requires-clause-began
 add_file-requires-clause-began c =
-    subst (λ (t : QuietState). ArePlaced (paths_of (put_file (file_of c.file-item.result) t.began))) (sym c.loop-file.invariant)
+    subst (λ (t : QuietState). ArePlaced (paths_of (put_file (file_of c.file-item.result) t.began.present))) (sym c.loop-file.invariant)
     (placed-next c.args.files.now c.requires.placed c.loop-file.file-index c.file-item.result c.loop-file-test.true c.file-item.is)
 
 pub add_file-requires-clause-files : goal.add_file-requires-clause-files
 add_file-requires-clause-files c =
-    subst (λ (t : QuietState). ArePlaced (paths_of (put_file (file_of c.file-item.result) t.files))) (sym c.loop-file.invariant)
+    subst (λ (t : QuietState). ArePlaced (paths_of (put_file (file_of c.file-item.result) t.files.present))) (sym c.loop-file.invariant)
     (placed-next c.args.files.now c.requires.placed c.loop-file.file-index c.file-item.result c.loop-file-test.true c.file-item.is)
 
 pub loop-file-preserved : goal.loop-file-preserved

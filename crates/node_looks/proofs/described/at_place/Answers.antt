@@ -14,5 +14,8 @@ returns-in-Root g c = at-folder c.args.place _ c.args.book.now c.args.who.now _ 
 pub returns-in-Views : goal.returns-in-Views
 returns-in-Views g c = at-folder c.args.place _ c.args.book.now c.args.who.now _ _ _ _ c.in-Views.is _ refl refl (c.of_folder-in-Views.ensures _)
 
+pub returns-in-Temporary : goal.returns-in-Temporary
+returns-in-Temporary g c = at-place c.args.place _ c.args.book.now c.args.who.now _ _ _ _ _ c.in-Temporary.is c.of_file_named.ensures
+
 pub returns-in-Below : goal.returns-in-Below
 returns-in-Below g c = at-place c.args.place _ c.args.book.now c.args.who.now _ _ _ _ _ c.in-Below.is (c.of_below.ensures c.in-Below.view c.in-Below.below.seen.document.now)

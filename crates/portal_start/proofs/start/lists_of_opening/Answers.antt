@@ -48,4 +48,6 @@ returns-clause-lists c = record {
   rights = c.in_ok-rights.ensures ∙ ap rights_kept c.as_slice-items.ensures;
   applications = c.in_ok-applications.ensures ∙ c.as_slice.ensures;
   tables = c.in_ok-tables.ensures ∙ (c.in_ok-entries.ensures ∙ c.as_slice-2.ensures);
+  none_made = c.with_taken.ensures.seats;
+  taken = c.with_taken.ensures.taken ∙ (c.in_ok-taken.ensures ∙ c.as_slice-3.ensures);
 }

@@ -14,8 +14,8 @@ invariant_of-self-2 c =
     let file = file_with path c.args.bytes c.args.moment in
     let placed : ArePlaced (paths_of (put_file file (files_of old))) = subst (λ (fs : List File). ArePlaced (paths_of (put_file file fs))) (sym c.self.view_is) c.requires in
     let none : file_at (files_of old) path ≡ None = put-is-new file (files_of old) placed.in_order in
-    added-is-tree old c.insert.new.self.entries path (record { bytes = c.args.bytes; moment = c.args.moment }) c.self.invariant placed c.as_bytes.ensures.rule
-    (inserted-is old c.insert.new.self.entries path (record { bytes = c.args.bytes; moment = c.args.moment }) (none-in-map path old none) c.in_ok-insert.ensures.entries)
+    added-is-tree old c.insert.new.self.entries path (record { generation = 0; bytes = c.args.bytes; moment = c.args.moment }) c.self.invariant placed c.as_bytes.ensures.rule
+    (inserted-is old c.insert.new.self.entries path (record { generation = 0; bytes = c.args.bytes; moment = c.args.moment }) (none-in-map path old none) c.in_ok-insert.ensures.entries)
 
 pub returns-clause-ok : goal.returns-clause-ok
 returns-clause-ok c =
@@ -24,5 +24,5 @@ returns-clause-ok c =
     let file = file_with path c.args.bytes c.args.moment in
     let placed : ArePlaced (paths_of (put_file file (files_of old))) = subst (λ (fs : List File). ArePlaced (paths_of (put_file file fs))) (sym c.self.view_is) c.requires in
     let none : file_at (files_of old) path ≡ None = put-is-new file (files_of old) placed.in_order in
-    inserted-is old c.insert.new.self.entries path (record { bytes = c.args.bytes; moment = c.args.moment }) (none-in-map path old none) c.in_ok-insert.ensures.entries
+    inserted-is old c.insert.new.self.entries path (record { generation = 0; bytes = c.args.bytes; moment = c.args.moment }) (none-in-map path old none) c.in_ok-insert.ensures.entries
     ∙ ap (put_file file) c.self.view_is

@@ -12,8 +12,8 @@ invariant_of-self-2 c =
     let old = c.self.inside.map.entries in
     let path = c.args.path.now in
     let may : may_create (files_of old) path ≡ true = ap (λ (fs : List File). may_create fs path) c.self.view_is ∙ c.requires in
-    inserted-is-tree old c.insert.new.self.entries path (record { bytes = []; moment = c.args.now }) c.self.invariant may c.as_bytes.ensures.rule (none-stored old path may)
-    (c.in_ok-insert.ensures.entries ∙ (λ i. insert_entry path_order old (c.in_ok-replica.ensures i) (record { bytes = c.new.ensures i; moment = c.args.now })))
+    inserted-is-tree old c.insert.new.self.entries path (record { generation = 0; bytes = []; moment = c.args.now }) c.self.invariant may c.as_bytes.ensures.rule (none-stored old path may)
+    (c.in_ok-insert.ensures.entries ∙ (λ i. insert_entry path_order old (c.in_ok-replica.ensures i) (record { generation = 0; bytes = c.new.ensures i; moment = c.args.now })))
     c.insert.ensures.ordered
 
 pub returns-clause-ok : goal.returns-clause-ok
@@ -21,6 +21,6 @@ returns-clause-ok c =
     let old = c.self.inside.map.entries in
     let path = c.args.path.now in
     let may : may_create (files_of old) path ≡ true = ap (λ (fs : List File). may_create fs path) c.self.view_is ∙ c.requires in
-    inserted-is old c.insert.new.self.entries path (record { bytes = []; moment = c.args.now }) (none-stored old path may)
-    (c.in_ok-insert.ensures.entries ∙ (λ i. insert_entry path_order old (c.in_ok-replica.ensures i) (record { bytes = c.new.ensures i; moment = c.args.now })))
+    inserted-is old c.insert.new.self.entries path (record { generation = 0; bytes = []; moment = c.args.now }) (none-stored old path may)
+    (c.in_ok-insert.ensures.entries ∙ (λ i. insert_entry path_order old (c.in_ok-replica.ensures i) (record { generation = 0; bytes = c.new.ensures i; moment = c.args.now })))
     ∙ ap (put_file (new_file path c.args.now)) c.self.view_is

@@ -10,6 +10,6 @@ look_without_file-requires c = ap (λ (fs : List File). file_at fs c.args.path.n
 
 pub returns-in-Some : goal.returns-in-Some
 returns-in-Some c =
-    ap (λ n. Look.File 0 n c.in-Some.stored.now.moment) c.len.ensures
+    ap (λ n. Look.File c.in-Some.stored.now.generation n c.in-Some.stored.now.moment) c.len.ensures
     ∙ (looked c.self.inside.map.entries c.args.path.now c.in-Some.stored.now c.in-Some.ensures.value
     ∙ ap (λ (fs : List File). look_at fs c.args.path.now) c.self.view_is)

@@ -35,5 +35,4 @@ returns c =
     let fs = c.args.self.now in
     let p = c.args.path.now in
     let there : is_some (file_at fs p) ≡ c.contains_key.result = ap (λ (gs : List File). is_some (file_at gs p)) (sym c.self.view_is) ∙ (has-file-at p c.self.inside.map.entries ∙ sym c.contains_key.ensures) in
-    neither (is_some (file_at fs p)) (is_folder fs p) (has_room fs p) c.is_folder-3.result (there ∙ c.if-contains_key.false) (sym c.is_folder.ensures ∙ c.if-is_folder.false)
-    (c.is_folder-3.ensures ∙ ap (is_folder fs) c.in_ok-parent.ensures)
+    neither (is_some (file_at fs p)) (is_folder fs p) (has_room fs p) c.in_ok-room.room (there ∙ c.if-contains_key.false) (sym c.is_folder.ensures ∙ c.if-is_folder.false) c.in_ok-room.ensures

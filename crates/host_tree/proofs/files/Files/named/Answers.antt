@@ -1,18 +1,27 @@
-use Rattle.std.proofs.Common.{sym, ap, ◌∙◌, List}
+use Rattle.std.proofs.Common.{◌≡◌, sym, ap, subst, ◌∙◌, List}
+use Rattle.std.specs.List.Sorted.{IsStrictlySortedBy}
+use Rattle.std.specs.Map.{keys_of}
 use Rattle.std.specs.Option.{option_map}
 use Rattle.portal_base.specs.Content.{file_named}
+use Rattle.portal_base.specs.PathOrder.{path_order}
 use Rattle.portal_base.specs.declared.files.File.{File}
-use Rattle.host_tree.specs.Stored.{stored_of}
-use Rattle.host_tree.proofs.Entries.{found-named, none-named, not-zero}
+use Rattle.host_tree.specs.Stored.{of_generation, stored_of}
+use Rattle.host_tree.proofs.Entries.{found-named, paths-are}
 use Rattle.host_tree.proofs.files.Files.named.Goals as goal
 
-pub returns-then-name-ne0 : goal.returns-then-name-ne0
-returns-then-name-ne0 c =
-    sym (ap (option_map stored_of) (none-named c.args.name.now (not-zero c.args.name.now.generation c.if-name-ne0.true) c.self.inside.map.entries))
-    ∙ ap (λ (fs : List File). option_map stored_of (file_named fs c.args.name.now)) c.self.view_is
+pub returns-in-Some : goal.returns-in-Some
+returns-in-Some c =
+    let es = c.self.inside.map.entries in
+    let name = c.args.name.now in
+    let sorted : IsStrictlySortedBy path_order (keys_of es) = subst (IsStrictlySortedBy path_order) (paths-are es) c.self.invariant.placed.in_order in
+    c.of_generation.ensures
+    ∙ (ap (of_generation name.generation) c.in-Some.ensures.value
+    ∙ (sym (found-named name es sorted) ∙ ap (λ (fs : List File). option_map stored_of (file_named fs name)) c.self.view_is))
 
-pub returns : goal.returns
-returns c =
-    c.get.ensures.value
-    ∙ (sym (found-named c.args.name.now c.if-name-ne0.false c.self.inside.map.entries)
-    ∙ ap (λ (fs : List File). option_map stored_of (file_named fs c.args.name.now)) c.self.view_is)
+pub returns-in-None : goal.returns-in-None
+returns-in-None c =
+    let es = c.self.inside.map.entries in
+    let name = c.args.name.now in
+    let sorted : IsStrictlySortedBy path_order (keys_of es) = subst (IsStrictlySortedBy path_order) (paths-are es) c.self.invariant.placed.in_order in
+    ap (of_generation name.generation) c.in-None.ensures.value
+    ∙ (sym (found-named name es sorted) ∙ ap (λ (fs : List File). option_map stored_of (file_named fs name)) c.self.view_is)

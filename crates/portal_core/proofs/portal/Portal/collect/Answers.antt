@@ -1,4 +1,5 @@
 use Rattle.std.proofs.Common.{◌≡◌, ◌∙◌, [], ap, arith, refl, rules}
+use Rattle.file_ops.specs.SeatNames.{own_tables}
 use Rattle.portal_model.specs.declared.entry.Fault.TheVariants as Fault
 use Rattle.portal_model.specs.declared.request.Request.TheVariants as Request
 use Rattle.portal_model.specs.State.{connection_of}
@@ -17,11 +18,11 @@ pub invariant_of-self-2 : goal.invariant_of-self-2
 invariant_of-self-2 g c =
     let room = rw (c.as_slice.ensures) at c.in_ok-signals.ensures.room in
     rw (c.push.ensures, c.taken.ensures.entries, c.taken.ensures.limit, c.entry_made-entry.ensures) (
-      stands_collected (g.T.HostTree.is c.self.inside.tree).began c.self.inside.opening c.self.inside.history.entries c.self.inside.history.limit c.self.inside.documents c.self.inside.rights c.self.inside.applications c.self.inside.connections c.self.inside.handles c.self.inside.namings (g.T.HostTree.is c.self.inside.tree).told c.self.invariant.0
+      stands_collected (g.T.HostTree.is c.self.inside.tree).began c.self.inside.opening c.self.inside.history.entries c.self.inside.history.limit c.self.inside.documents c.self.inside.rights c.self.inside.applications c.self.inside.connections c.self.inside.handles (own_tables c.self.inside.namings c.self.inside.temps) (g.T.HostTree.is c.self.inside.tree).told c.self.invariant.0
           c.args.seat (rw (← c.self.view_is) at c.requires),
       omega (arith, room),
-      keeps-collected (g.T.HostTree.is c.self.inside.tree).began c.self.inside.opening c.self.inside.history.entries c.self.inside.history.limit c.self.inside.documents c.self.inside.rights c.self.inside.applications c.self.inside.connections c.self.inside.handles c.self.inside.namings (g.T.HostTree.is c.self.inside.tree).told c.self.invariant.0 c.args.seat (g.K.Keeper.is c.self.inside.keeper).told c.self.invariant.2,
-      stored_collected (g.T.HostTree.is c.self.inside.tree).began c.self.inside.opening c.self.inside.history.entries c.self.inside.history.limit c.self.inside.documents c.self.inside.rights c.self.inside.applications c.self.inside.connections c.self.inside.handles c.self.inside.namings (g.T.HostTree.is c.self.inside.tree).told c.self.invariant.0 c.args.seat c.self.inside.tables c.self.inside.outboxes c.taken.new.outboxes c.in_ok-signals.ensures.rest c.self.invariant.3,
+      keeps-collected (g.T.HostTree.is c.self.inside.tree).began c.self.inside.opening c.self.inside.history.entries c.self.inside.history.limit c.self.inside.documents c.self.inside.rights c.self.inside.applications c.self.inside.connections c.self.inside.handles (own_tables c.self.inside.namings c.self.inside.temps) (g.T.HostTree.is c.self.inside.tree).told c.self.invariant.0 c.args.seat (g.K.Keeper.is c.self.inside.keeper).told c.self.invariant.2,
+      stored_collected (g.T.HostTree.is c.self.inside.tree).began c.self.inside.opening c.self.inside.history.entries c.self.inside.history.limit c.self.inside.documents c.self.inside.rights c.self.inside.applications c.self.inside.connections c.self.inside.handles (own_tables c.self.inside.namings c.self.inside.temps) (g.T.HostTree.is c.self.inside.tree).told c.self.invariant.0 c.args.seat c.self.inside.tables c.self.inside.outboxes c.taken.new.outboxes c.in_ok-signals.ensures.rest c.self.invariant.3,
       c.self.invariant.4,
       held_same (opened_over (g.T.HostTree.is c.self.inside.tree).began c.self.inside.opening) c.self.inside.history.entries (entry_of c.args.seat Request.Collect [] Fault.None) c.self.inside.counts.counts (λ answer held. refl) c.self.invariant.5,
     )
@@ -29,7 +30,7 @@ invariant_of-self-2 g c =
 pub returns-clause-ok : goal.returns-clause-ok
 returns-clause-ok g c =
     let replied : reply_with c.in_ok-signals.signals (collect_answer (bus_of (connection_of c.self.inside.connections c.args.seat))) ≡ reply_at (state_now c.args.self.now.story) (entry_of c.args.seat Request.Collect [] Fault.None) =
-    rw (← c.self.view_is) (collect_answered (g.T.HostTree.is c.self.inside.tree).began c.self.inside.opening c.self.inside.history.entries c.self.inside.history.limit c.self.inside.documents c.self.inside.rights c.self.inside.applications c.self.inside.connections c.self.inside.handles c.self.inside.namings (g.T.HostTree.is c.self.inside.tree).told c.self.invariant.0 c.args.seat c.self.inside.tables c.self.inside.outboxes c.in_ok-signals.signals c.self.invariant.3 c.in_ok-signals.ensures.signals) in
+    rw (← c.self.view_is) (collect_answered (g.T.HostTree.is c.self.inside.tree).began c.self.inside.opening c.self.inside.history.entries c.self.inside.history.limit c.self.inside.documents c.self.inside.rights c.self.inside.applications c.self.inside.connections c.self.inside.handles (own_tables c.self.inside.namings c.self.inside.temps) (g.T.HostTree.is c.self.inside.tree).told c.self.invariant.0 c.args.seat c.self.inside.tables c.self.inside.outboxes c.in_ok-signals.signals c.self.invariant.3 c.in_ok-signals.ensures.signals) in
     let answered : c.collect_answer-answer.result ≡ collect_answer (bus_of (connection_of c.self.inside.connections c.args.seat)) =
     rw (c.collect_answer-answer.ensures, c.bus_of.ensures, c.as_slice-2.ensures) refl in
     record {

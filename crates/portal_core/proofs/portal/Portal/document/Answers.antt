@@ -1,4 +1,5 @@
 use Rattle.std.proofs.Common.{◌≡◌, ◌≤◌, ◌+◌, ◌∷◌, ◌++◌, [], ap, arith, inr, refl, rules, ◌∙◌}
+use Rattle.file_ops.specs.SeatNames.{own_tables}
 use Rattle.portal_model.specs.History.{cost, cost_of, run}
 use Rattle.portal_model.specs.Lawful.{Lawful}
 use Rattle.portal_model.specs.Opening.{opened_over}
@@ -26,17 +27,17 @@ invariant_of-self-in-Ok-served g c =
     let room = rw (c.as_slice.ensures) at c.in-Ok.ensures.room in
     let count = c.serve-served.ensures.count in
     let fits : cost k.history.entries + cost_of c.args.request ≤ k.opening.limits.history = rw (← c.self.view_is) at c.requires.fits in
-    let sent = signals-now began k.opening k.history.entries k.history.limit k.documents k.rights k.applications k.connections k.handles k.namings told c.self.invariant.0 c.args.seat k.tables k.outboxes c.in-Ok.signals c.self.invariant.3 c.in-Ok.ensures.signals in
-    let came = comes began k.opening k.history.entries k.history.limit k.documents k.rights k.applications k.connections k.handles k.namings told c.self.invariant.0 served.documents served.rights served.applications served.connections c.args.seat c.args.request c.in-Ok-served.field-0.given c.in-Ok.signals c.in-Ok-served.field-0.answer
+    let sent = signals-now began k.opening k.history.entries k.history.limit k.documents k.rights k.applications k.connections k.handles (own_tables k.namings k.temps) told c.self.invariant.0 c.args.seat k.tables k.outboxes c.in-Ok.signals c.self.invariant.3 c.in-Ok.ensures.signals in
+    let came = comes began k.opening k.history.entries k.history.limit k.documents k.rights k.applications k.connections k.handles (own_tables k.namings k.temps) told c.self.invariant.0 served.documents served.rights served.applications served.connections c.args.seat c.args.request c.in-Ok-served.field-0.given c.in-Ok.signals c.in-Ok-served.field-0.answer
     (g.K.Keeper.is k.keeper) (g.K.Keeper.is served.keeper) c.requires.call sent c.self.invariant.2 c.in-Ok-served.ensures.ok in
-    let stands = stands_served began k.opening k.history.entries k.history.limit k.documents k.rights k.applications k.connections k.handles k.namings told c.self.invariant.0 served.documents served.rights served.applications served.connections c.args.seat c.args.request c.in-Ok-served.field-0.given c.in-Ok.signals c.in-Ok-served.field-0.answer
+    let stands = stands_served began k.opening k.history.entries k.history.limit k.documents k.rights k.applications k.connections k.handles (own_tables k.namings k.temps) told c.self.invariant.0 served.documents served.rights served.applications served.connections c.args.seat c.args.request c.in-Ok-served.field-0.given c.in-Ok.signals c.in-Ok-served.field-0.answer
     (g.K.Keeper.is k.keeper) (g.K.Keeper.is served.keeper) (call-on-bus c.args.request c.requires.call) c.serve-served.ensures.queues came c.serve-served.ensures.limits fits in
     rw (c.push.ensures, c.taken-taken.ensures.entries, c.taken-taken.ensures.limit) (
       stands,
       omega (arith, room, count),
-      keeps_run began k.opening k.history.entries k.history.limit k.documents k.rights k.applications k.connections k.handles k.namings told c.self.invariant.0 served.documents served.rights served.applications served.connections c.args.seat c.args.request c.in-Ok-served.field-0.given c.in-Ok.signals c.in-Ok-served.field-0.answer
+      keeps_run began k.opening k.history.entries k.history.limit k.documents k.rights k.applications k.connections k.handles (own_tables k.namings k.temps) told c.self.invariant.0 served.documents served.rights served.applications served.connections c.args.seat c.args.request c.in-Ok-served.field-0.given c.in-Ok.signals c.in-Ok-served.field-0.answer
           (g.K.Keeper.is k.keeper) (g.K.Keeper.is served.keeper) came,
-      stored_served began k.opening k.history.entries k.history.limit k.documents k.rights k.applications k.connections k.handles k.namings told c.self.invariant.0 served.documents served.rights served.applications served.connections c.args.seat c.args.request c.in-Ok-served.field-0.given c.in-Ok.signals c.in-Ok-served.field-0.answer
+      stored_served began k.opening k.history.entries k.history.limit k.documents k.rights k.applications k.connections k.handles (own_tables k.namings k.temps) told c.self.invariant.0 served.documents served.rights served.applications served.connections c.args.seat c.args.request c.in-Ok-served.field-0.given c.in-Ok.signals c.in-Ok-served.field-0.answer
           (g.K.Keeper.is k.keeper) (g.K.Keeper.is served.keeper) k.tables k.outboxes c.taken-taken.new.outboxes came c.in-Ok.ensures.rest c.self.invariant.3,
       c.self.invariant.4,
       held_same (opened_over began k.opening) k.history.entries (entry_with c.args.seat c.args.request c.in-Ok-served.field-0.given) k.counts.counts (λ answer held. uncounted c.args.request c.args.seat answer held c.requires.call) c.self.invariant.5,
@@ -56,7 +57,7 @@ invariant_of-self-in-Err g c =
       c.self.invariant.0,
       omega (arith, room),
       c.self.invariant.2,
-      stored_back tree.began k.opening k.history.entries k.history.limit k.documents k.rights k.applications k.connections k.handles k.namings tree.told c.self.invariant.0 c.args.seat k.tables k.outboxes c.taken-taken.new.outboxes c.taken-taken.new.outboxes c.give_back.new.self c.in-Ok.signals
+      stored_back tree.began k.opening k.history.entries k.history.limit k.documents k.rights k.applications k.connections k.handles (own_tables k.namings k.temps) tree.told c.self.invariant.0 c.args.seat k.tables k.outboxes c.taken-taken.new.outboxes c.taken-taken.new.outboxes c.give_back.new.self c.in-Ok.signals
           c.in-Ok.ensures.rest (λ s. refl) c.in-Ok.ensures.signals c.give_back.ensures c.self.invariant.3,
       c.self.invariant.4,
       c.self.invariant.5,
@@ -69,17 +70,17 @@ returns-in-Ok-served-clause-ok g c =
     let told = (g.T.HostTree.is k.tree).told in
     let served = c.serve-served.new in
     let entry = entry_with c.args.seat c.args.request c.in-Ok-served.field-0.given in
-    let sent = signals-now began k.opening k.history.entries k.history.limit k.documents k.rights k.applications k.connections k.handles k.namings told c.self.invariant.0 c.args.seat k.tables k.outboxes c.in-Ok.signals c.self.invariant.3 c.in-Ok.ensures.signals in
-    let came = comes began k.opening k.history.entries k.history.limit k.documents k.rights k.applications k.connections k.handles k.namings told c.self.invariant.0 served.documents served.rights served.applications served.connections c.args.seat c.args.request c.in-Ok-served.field-0.given c.in-Ok.signals c.in-Ok-served.field-0.answer
+    let sent = signals-now began k.opening k.history.entries k.history.limit k.documents k.rights k.applications k.connections k.handles (own_tables k.namings k.temps) told c.self.invariant.0 c.args.seat k.tables k.outboxes c.in-Ok.signals c.self.invariant.3 c.in-Ok.ensures.signals in
+    let came = comes began k.opening k.history.entries k.history.limit k.documents k.rights k.applications k.connections k.handles (own_tables k.namings k.temps) told c.self.invariant.0 served.documents served.rights served.applications served.connections c.args.seat c.args.request c.in-Ok-served.field-0.given c.in-Ok.signals c.in-Ok-served.field-0.answer
     (g.K.Keeper.is k.keeper) (g.K.Keeper.is served.keeper) c.requires.call sent c.self.invariant.2 c.in-Ok-served.ensures.ok in
-    let plain = untreed began k.opening k.history.entries k.history.limit k.documents k.rights k.applications k.connections k.handles k.namings told c.self.invariant.0 served.documents served.rights served.applications served.connections c.args.seat c.args.request c.in-Ok-served.field-0.given c.in-Ok.signals c.in-Ok-served.field-0.answer
+    let plain = untreed began k.opening k.history.entries k.history.limit k.documents k.rights k.applications k.connections k.handles (own_tables k.namings k.temps) told c.self.invariant.0 served.documents served.rights served.applications served.connections c.args.seat c.args.request c.in-Ok-served.field-0.given c.in-Ok.signals c.in-Ok-served.field-0.answer
     (g.K.Keeper.is k.keeper) (g.K.Keeper.is served.keeper) c.requires.call c.in-Ok-served.ensures.ok in
     let lawful : Lawful (state_now c.args.self.now.story) entry =
     rw (← c.self.view_is) came.lawful in
     let replied : reply_with c.in-Ok.signals c.in-Ok-served.field-0.answer ≡ reply_at (state_now c.args.self.now.story) entry =
     rw (← c.self.view_is) came.reply_is in
     let keeping : Keeping (state_now c.args.self.now.story) entry (run (opened_over began k.opening) (k.history.entries ++ entry ∷ [])) (g.K.Keeper.is c.args.self.now.keeper) (g.K.Keeper.is served.keeper) =
-    rw (← c.self.view_is) (keeping_run began k.opening k.history.entries k.history.limit k.documents k.rights k.applications k.connections k.handles k.namings told c.self.invariant.0 served.documents served.rights served.applications served.connections c.args.seat c.args.request c.in-Ok-served.field-0.given c.in-Ok.signals c.in-Ok-served.field-0.answer
+    rw (← c.self.view_is) (keeping_run began k.opening k.history.entries k.history.limit k.documents k.rights k.applications k.connections k.handles (own_tables k.namings k.temps) told c.self.invariant.0 served.documents served.rights served.applications served.connections c.args.seat c.args.request c.in-Ok-served.field-0.given c.in-Ok.signals c.in-Ok-served.field-0.answer
     (g.K.Keeper.is k.keeper) (g.K.Keeper.is served.keeper) came) in
     let at = run (opened_over began k.opening) k.history.entries in
     let called : entry_calls (state_now c.args.self.now.story) entry ≡ [] =
@@ -102,8 +103,8 @@ returns-in-Ok-served-clause-fault g c =
     let began = (g.T.HostTree.is k.tree).began in
     let told = (g.T.HostTree.is k.tree).told in
     let served = c.serve-served.new in
-    let sent = signals-now began k.opening k.history.entries k.history.limit k.documents k.rights k.applications k.connections k.handles k.namings told c.self.invariant.0 c.args.seat k.tables k.outboxes c.in-Ok.signals c.self.invariant.3 c.in-Ok.ensures.signals in
-    let came = comes began k.opening k.history.entries k.history.limit k.documents k.rights k.applications k.connections k.handles k.namings told c.self.invariant.0 served.documents served.rights served.applications served.connections c.args.seat c.args.request c.in-Ok-served.field-0.given c.in-Ok.signals c.in-Ok-served.field-0.answer
+    let sent = signals-now began k.opening k.history.entries k.history.limit k.documents k.rights k.applications k.connections k.handles (own_tables k.namings k.temps) told c.self.invariant.0 c.args.seat k.tables k.outboxes c.in-Ok.signals c.self.invariant.3 c.in-Ok.ensures.signals in
+    let came = comes began k.opening k.history.entries k.history.limit k.documents k.rights k.applications k.connections k.handles (own_tables k.namings k.temps) told c.self.invariant.0 served.documents served.rights served.applications served.connections c.args.seat c.args.request c.in-Ok-served.field-0.given c.in-Ok.signals c.in-Ok-served.field-0.answer
     (g.K.Keeper.is k.keeper) (g.K.Keeper.is served.keeper) c.requires.call sent c.self.invariant.2 c.in-Ok-served.ensures.ok in
     λ h. absurd (came.settles.no_errno h)
 
@@ -113,10 +114,10 @@ returns-in-Ok-served-clause-failure g c =
     let began = (g.T.HostTree.is k.tree).began in
     let told = (g.T.HostTree.is k.tree).told in
     let served = c.serve-served.new in
-    let sent = signals-now began k.opening k.history.entries k.history.limit k.documents k.rights k.applications k.connections k.handles k.namings told c.self.invariant.0 c.args.seat k.tables k.outboxes c.in-Ok.signals c.self.invariant.3 c.in-Ok.ensures.signals in
-    let came = comes began k.opening k.history.entries k.history.limit k.documents k.rights k.applications k.connections k.handles k.namings told c.self.invariant.0 served.documents served.rights served.applications served.connections c.args.seat c.args.request c.in-Ok-served.field-0.given c.in-Ok.signals c.in-Ok-served.field-0.answer
+    let sent = signals-now began k.opening k.history.entries k.history.limit k.documents k.rights k.applications k.connections k.handles (own_tables k.namings k.temps) told c.self.invariant.0 c.args.seat k.tables k.outboxes c.in-Ok.signals c.self.invariant.3 c.in-Ok.ensures.signals in
+    let came = comes began k.opening k.history.entries k.history.limit k.documents k.rights k.applications k.connections k.handles (own_tables k.namings k.temps) told c.self.invariant.0 served.documents served.rights served.applications served.connections c.args.seat c.args.request c.in-Ok-served.field-0.given c.in-Ok.signals c.in-Ok-served.field-0.answer
     (g.K.Keeper.is k.keeper) (g.K.Keeper.is served.keeper) c.requires.call sent c.self.invariant.2 c.in-Ok-served.ensures.ok in
-    let plain = untreed began k.opening k.history.entries k.history.limit k.documents k.rights k.applications k.connections k.handles k.namings told c.self.invariant.0 served.documents served.rights served.applications served.connections c.args.seat c.args.request c.in-Ok-served.field-0.given c.in-Ok.signals c.in-Ok-served.field-0.answer
+    let plain = untreed began k.opening k.history.entries k.history.limit k.documents k.rights k.applications k.connections k.handles (own_tables k.namings k.temps) told c.self.invariant.0 served.documents served.rights served.applications served.connections c.args.seat c.args.request c.in-Ok-served.field-0.given c.in-Ok.signals c.in-Ok-served.field-0.answer
     (g.K.Keeper.is k.keeper) (g.K.Keeper.is served.keeper) c.requires.call c.in-Ok-served.ensures.ok in
     λ h. inr (rw (← c.self.view_is) (came.settles.failed plain.untreed h))
 

@@ -3,6 +3,7 @@ use Rattle.file_ops.specs.Wanting.{calls_in_vain}
 use Rattle.node_looks.specs.Done.{Reads}
 use Rattle.node_looks.specs.Served.{given_to}
 use Rattle.node_serving.specs.Seats.{seat_calls, seat_step, unnamed}
+use Rattle.file_ops.specs.SeatNames.{own_tables}
 use Rattle.portal_model.specs.declared.entry.Entry.{Entry}
 use Rattle.portal_model.specs.declared.entry.Fault.TheVariants as Fault
 use Rattle.portal_model.specs.declared.reply.Answer.{Answer}
@@ -31,7 +32,7 @@ pub serve-served-requires : goal.serve-served-requires
 serve-served-requires g c =
     let k = c.self.inside in
     let tree = g.T.HostTree.is k.tree in
-    entered-now tree.began k.opening k.history.entries k.history.limit k.documents k.rights k.applications k.connections k.handles k.namings tree.told c.self.invariant.0
+    entered-now tree.began k.opening k.history.entries k.history.limit k.documents k.rights k.applications k.connections k.handles (own_tables k.namings k.temps) tree.told c.self.invariant.0
 
 pub invariant_of-self-in-Ok : goal.invariant_of-self-in-Ok
 invariant_of-self-in-Ok g c =
@@ -44,19 +45,19 @@ invariant_of-self-in-Ok g c =
     let count = c.serve-served.ensures.count in
     let counted = rw c.keep_ahead.ensures.counts at c.in-Ok.ensures.counts in
     let at = run (opened_over tree.began k.opening) k.history.entries in
-    let s = c.in-Ok.ensures.ok (quiet at) (served_in tree.began k.opening k.history.entries k.history.limit k.documents k.rights k.applications k.connections k.handles k.namings tree.told c.self.invariant.0 _ refl refl refl refl) in
+    let s = c.in-Ok.ensures.ok (quiet at) (served_in tree.began k.opening k.history.entries k.history.limit k.documents k.rights k.applications k.connections k.handles (own_tables k.namings k.temps) tree.told c.self.invariant.0 _ refl refl refl refl) in
     let fits : cost k.history.entries + cost_of (Request.Node c.args.request) ≤ k.opening.limits.history = rw (← c.self.view_is) at c.requires in
-    let stands = stands_node tree.began k.opening k.history.entries k.history.limit k.documents k.rights k.applications k.connections k.handles k.namings tree.told c.self.invariant.0 c.args.seat c.args.request tree done new.connections new.handles new.namings after s fits in
-    let keeps = keeps-node tree.began k.opening k.history.entries k.history.limit k.documents k.rights k.applications k.connections k.handles k.namings tree.told c.self.invariant.0 c.args.seat c.args.request tree done new.connections new.handles new.namings after s (g.K.Keeper.is k.keeper).told c.self.invariant.2 in
+    let stands = stands_node tree.began k.opening k.history.entries k.history.limit k.documents k.rights k.applications k.connections k.handles (own_tables k.namings k.temps) tree.told c.self.invariant.0 c.args.seat c.args.request tree done new.connections new.handles (own_tables new.namings new.temps) after s fits in
+    let keeps = keeps-node tree.began k.opening k.history.entries k.history.limit k.documents k.rights k.applications k.connections k.handles (own_tables k.namings k.temps) tree.told c.self.invariant.0 c.args.seat c.args.request tree done new.connections new.handles (own_tables new.namings new.temps) after s (g.K.Keeper.is k.keeper).told c.self.invariant.2 in
     let kept = calls-keep tree (seat_calls (quiet at) c.args.seat c.args.request (given_to done)) after.told after s.calls in
-    let loud = loud-served tree.began k.opening k.history.entries k.history.limit k.documents k.rights k.applications k.connections k.handles k.namings tree.told c.self.invariant.0 c.args.seat c.args.request tree done new.connections new.handles new.namings after s in
-    let both = stands_over tree.began after.began k.opening (k.history.entries ++ node_entry c.args.seat c.args.request done ∷ []) k.history.limit k.documents k.rights k.applications new.connections new.handles new.namings after.told after.told (g.K.Keeper.is k.keeper).told kept refl stands keeps in
+    let loud = loud-served tree.began k.opening k.history.entries k.history.limit k.documents k.rights k.applications k.connections k.handles (own_tables k.namings k.temps) tree.told c.self.invariant.0 c.args.seat c.args.request tree done new.connections new.handles (own_tables new.namings new.temps) after s in
+    let both = stands_over tree.began after.began k.opening (k.history.entries ++ node_entry c.args.seat c.args.request done ∷ []) k.history.limit k.documents k.rights k.applications new.connections new.handles (own_tables new.namings new.temps) after.told after.told (g.K.Keeper.is k.keeper).told kept refl stands keeps in
     rw (c.push.ensures, c.in_ok-make_room.ensures.entries, c.in_ok-make_room.ensures.limit, c.node_entry-entry.ensures) (
       both.0,
       omega (arith, room, count),
       both.1,
       stored_over tree.began after.began k.opening (k.history.entries ++ node_entry c.args.seat c.args.request done ∷ []) k.tables k.outboxes kept
-          (stored_node tree.began k.opening k.history.entries k.history.limit k.documents k.rights k.applications k.connections k.handles k.namings tree.told c.self.invariant.0 c.args.seat c.args.request tree done new.connections new.handles new.namings after s k.tables k.outboxes c.self.invariant.3),
+          (stored_node tree.began k.opening k.history.entries k.history.limit k.documents k.rights k.applications k.connections k.handles (own_tables k.namings k.temps) tree.told c.self.invariant.0 c.args.seat c.args.request tree done new.connections new.handles (own_tables new.namings new.temps) after s k.tables k.outboxes c.self.invariant.3),
       c.self.invariant.4,
       held_over tree.began after.began k.opening (k.history.entries ++ node_entry c.args.seat c.args.request done ∷ []) new.counts.counts kept
           (held_node (opened_over tree.began k.opening) k.history.entries (node_entry c.args.seat c.args.request done) c.args.request done.answer at.told k.counts.counts new.counts.counts refl counted loud.serves.reply c.self.invariant.5),
@@ -68,9 +69,15 @@ invariant_of-self-in-Err g c =
     let tree = g.T.HostTree.is k.tree in
     let after = g.T.HostTree.is c.serve-served.new.tree in
     let room = rw (c.as_slice.ensures) at c.in_ok-make_room.ensures.room in
+<<<<<<< ours
     let kept = was-called-keeps (calls_in_vain c.args.request) tree after c.in-Err.ensures.err.calls in
     let wanting = stands_wanting tree.began k.opening k.history.entries k.history.limit k.documents k.rights k.applications k.connections k.handles k.namings tree.told c.self.invariant.0 c.serve-served.new.handles c.serve-served.new.namings c.in-Err.ensures.err.handles c.in-Err.ensures.names_err in
     let both = stands_over tree.began after.began k.opening k.history.entries k.history.limit k.documents k.rights k.applications k.connections c.serve-served.new.handles c.serve-served.new.namings tree.told after.told (g.K.Keeper.is k.keeper).told kept.0 kept.1 wanting c.self.invariant.2 in
+=======
+    let kept = was-called-keeps (calls_in_vain c.args.request.op) tree after c.in-Err.ensures.err.calls in
+    let wanting = stands_wanting tree.began k.opening k.history.entries k.history.limit k.documents k.rights k.applications k.connections k.handles (own_tables k.namings k.temps) tree.told c.self.invariant.0 c.serve-served.new.handles (own_tables c.serve-served.new.namings c.serve-served.new.temps) c.in-Err.ensures.err.handles (record { names = c.in-Err.ensures.names_err; temps = c.in-Err.ensures.temps_err }) in
+    let both = stands_over tree.began after.began k.opening k.history.entries k.history.limit k.documents k.rights k.applications k.connections c.serve-served.new.handles (own_tables c.serve-served.new.namings c.serve-served.new.temps) tree.told after.told (g.K.Keeper.is k.keeper).told kept.0 kept.1 wanting c.self.invariant.2 in
+>>>>>>> theirs
     rw (c.in-Err.ensures.connections, c.in_ok-make_room.ensures.entries, c.in_ok-make_room.ensures.limit) (
       both.0,
       omega (arith, room),
@@ -89,17 +96,17 @@ returns-in-Ok-clause-ok g c =
     let after = g.T.HostTree.is new.tree in
     let done = c.in-Ok.done in
     let at = run (opened_over tree.began k.opening) k.history.entries in
-    let s = c.in-Ok.ensures.ok (quiet at) (served_in tree.began k.opening k.history.entries k.history.limit k.documents k.rights k.applications k.connections k.handles k.namings tree.told c.self.invariant.0 _ refl refl refl refl) in
+    let s = c.in-Ok.ensures.ok (quiet at) (served_in tree.began k.opening k.history.entries k.history.limit k.documents k.rights k.applications k.connections k.handles (own_tables k.namings k.temps) tree.told c.self.invariant.0 _ refl refl refl refl) in
     let kept = calls-keep tree (seat_calls (quiet at) c.args.seat c.args.request (given_to done)) after.told after s.calls in
-    let loud = loud-served tree.began k.opening k.history.entries k.history.limit k.documents k.rights k.applications k.connections k.handles k.namings tree.told c.self.invariant.0 c.args.seat c.args.request tree done new.connections new.handles new.namings after s in
+    let loud = loud-served tree.began k.opening k.history.entries k.history.limit k.documents k.rights k.applications k.connections k.handles (own_tables k.namings k.temps) tree.told c.self.invariant.0 c.args.seat c.args.request tree done new.connections new.handles (own_tables new.namings new.temps) after s in
     let made : Entry = node_entry c.args.seat c.args.request done in
     let entry_is : c.node_entry-entry.result.0 ≡ made = ap (λ (x : Entry × Answer). x.0) c.node_entry-entry.ensures in
     let answer_is : done.answer ≡ c.node_entry-entry.result.1 = sym (ap (λ (x : Entry × Answer). x.1) c.node_entry-entry.ensures) in
     let reply_made : reply_with [] done.answer ≡ c.silent_reply.result = ap (reply_with []) answer_is ∙ sym c.silent_reply.ensures in
     let lawful : Lawful (state_now c.args.self.now.story) made =
-    rw (← c.self.view_is) (lawful_node tree.began k.opening k.history.entries k.history.limit k.documents k.rights k.applications k.connections k.handles k.namings tree.told c.self.invariant.0 c.args.seat c.args.request tree done new.connections new.handles new.namings after s) in
+    rw (← c.self.view_is) (lawful_node tree.began k.opening k.history.entries k.history.limit k.documents k.rights k.applications k.connections k.handles (own_tables k.namings k.temps) tree.told c.self.invariant.0 c.args.seat c.args.request tree done new.connections new.handles (own_tables new.namings new.temps) after s) in
     let replied : Alike (state_first c.args.self.now.story).told (Request.Node c.args.request) (reply_at (state_now c.args.self.now.story) made) (reply_with [] done.answer) =
-    rw (← c.self.view_is) (replied-node (opened_over tree.began k.opening).told at c.args.seat c.args.request tree done (map unnamed (seat_step at c.args.seat c.args.request (given_to done)).0.connections) new.handles new.namings after (told-on k.history.entries (opened_over tree.began k.opening)) loud.serves) in
+    rw (← c.self.view_is) (replied-node (opened_over tree.began k.opening).told at c.args.seat c.args.request tree done (map unnamed (seat_step at c.args.seat c.args.request (given_to done)).0.connections) new.handles (own_tables new.namings new.temps) after (told-on k.history.entries (opened_over tree.began k.opening)) loud.serves) in
     let calling : Calling (g.T.HostTree.is c.args.self.now.tree) (entry_calls (state_now c.args.self.now.story) made) after.told after = rw (← c.self.view_is) loud.serves.calls in
     let kept_not : made.given.fault ≢ Fault.Keeper = never-kept _ c.args.request made.given _ loud.serves.lawful in
     let moment : Reads g.C.Clock.reads c.args.self.now.clock made.given.now new.clock = rw (← c.self.view_is) c.in-Ok.ensures.clock in
@@ -119,7 +126,7 @@ returns-in-Ok-clause-began g c =
     let tree = g.T.HostTree.is k.tree in
     let after = g.T.HostTree.is c.serve-served.new.tree in
     let at = run (opened_over tree.began k.opening) k.history.entries in
-    let s = c.in-Ok.ensures.ok (quiet at) (served_in tree.began k.opening k.history.entries k.history.limit k.documents k.rights k.applications k.connections k.handles k.namings tree.told c.self.invariant.0 _ refl refl refl refl) in
+    let s = c.in-Ok.ensures.ok (quiet at) (served_in tree.began k.opening k.history.entries k.history.limit k.documents k.rights k.applications k.connections k.handles (own_tables k.namings k.temps) tree.told c.self.invariant.0 _ refl refl refl refl) in
     rw (← c.self.view_is) (calls-keep tree (seat_calls (quiet at) c.args.seat c.args.request (given_to c.in-Ok.done)) after.told after s.calls)
 
 pub returns-in-Err-clause-began : goal.returns-in-Err-clause-began
@@ -130,7 +137,7 @@ pub returns-in-Ok-clause-fault : goal.returns-in-Ok-clause-fault
 returns-in-Ok-clause-fault g c =
     let k = c.self.inside in
     let tree = g.T.HostTree.is k.tree in
-    let s = c.in-Ok.ensures.ok (quiet (run (opened_over tree.began k.opening) k.history.entries)) (served_in tree.began k.opening k.history.entries k.history.limit k.documents k.rights k.applications k.connections k.handles k.namings tree.told c.self.invariant.0 _ refl refl refl refl) in
+    let s = c.in-Ok.ensures.ok (quiet (run (opened_over tree.began k.opening) k.history.entries)) (served_in tree.began k.opening k.history.entries k.history.limit k.documents k.rights k.applications k.connections k.handles (own_tables k.namings k.temps) tree.told c.self.invariant.0 _ refl refl refl refl) in
     let answer_is : c.node_entry-entry.result.1 ≡ c.in-Ok.done.answer = ap (λ (x : Entry × Answer). x.1) c.node_entry-entry.ensures in
     λ h. rw (← c.self.view_is) (s.fault (sym answer_is ∙ (sym (ap (λ (r : Reply). r.answer) c.silent_reply.ensures) ∙ h)))
 
@@ -138,7 +145,7 @@ pub returns-in-Ok-clause-failure : goal.returns-in-Ok-clause-failure
 returns-in-Ok-clause-failure g c =
     let k = c.self.inside in
     let tree = g.T.HostTree.is k.tree in
-    let s = c.in-Ok.ensures.ok (quiet (run (opened_over tree.began k.opening) k.history.entries)) (served_in tree.began k.opening k.history.entries k.history.limit k.documents k.rights k.applications k.connections k.handles k.namings tree.told c.self.invariant.0 _ refl refl refl refl) in
+    let s = c.in-Ok.ensures.ok (quiet (run (opened_over tree.began k.opening) k.history.entries)) (served_in tree.began k.opening k.history.entries k.history.limit k.documents k.rights k.applications k.connections k.handles (own_tables k.namings k.temps) tree.told c.self.invariant.0 _ refl refl refl refl) in
     let answer_is : c.node_entry-entry.result.1 ≡ c.in-Ok.done.answer = ap (λ (x : Entry × Answer). x.1) c.node_entry-entry.ensures in
     λ h. absurd (s.failure (sym answer_is ∙ (sym (ap (λ (r : Reply). r.answer) c.silent_reply.ensures) ∙ h)))
 

@@ -1,5 +1,6 @@
 use Rattle.std.proofs.Common.{◌≡◌, ℕ, List, ap, arith, length, sym}
 use Rattle.change_signals.specs.Unsent.{Boxes, unsent_on}
+use Rattle.file_ops.specs.SeatNames.{own_tables}
 use Rattle.portal_core.proofs.Beginning.{stands_first}
 use Rattle.portal_core.specs.Reserve.{room_in}
 use Rattle.inode_table.specs.Counts.{count_of}
@@ -12,8 +13,8 @@ invariant_of-result g c =
     let lists = c.args.lists in
     let are = c.requires.lists in
     rw (c.new-2.ensures, c.new-history.ensures.entries) (
-      stands_first tree.began lists.opening lists.documents lists.rights lists.applications are.documents are.rights are.applications c.new-history.result.limit c.new-handles.result c.new-3.result tree.told c.requires.valid
-          c.new-history.ensures.limit c.new-handles.ensures.limit c.new-handles.ensures.seats c.new-3.ensures c.requires.told,
+      stands_first tree.began lists.opening lists.documents lists.rights lists.applications are.documents are.rights are.applications c.new-history.result.limit c.new-handles.result (own_tables c.new-3.result lists.temps) tree.told c.requires.valid
+          c.new-history.ensures.limit c.new-handles.ensures.limit c.new-handles.ensures.seats c.new-3.ensures are.none_made are.taken c.requires.told,
       omega arith,
       c.requires.kept,
       record { stored = sym are.tables; waiting = λ q. ap (λ (boxes : Boxes). unsent_on boxes q) c.new.ensures },

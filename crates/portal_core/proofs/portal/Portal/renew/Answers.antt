@@ -2,6 +2,7 @@ use Rattle.std.proofs.Common.{◌≡◌, ◌≤◌, ℕ, fold, length, Option, N
 use Rattle.std.proofs.lemmas.Result.{err_from_is_err_and}
 use Rattle.inode_table.specs.Counts.{count_of}
 use Rattle.inode_table.specs.declared.inodes.SeatNode.{SeatNode}
+use Rattle.file_ops.specs.SeatNames.{own_tables}
 use Rattle.portal_model.specs.declared.state.Connection.{Connection}
 use Rattle.portal_core.specs.Renewing.{lesser}
 use Rattle.portal_core.proofs.Renewals.{keeps_again, least_open, none_listed, none_open, opens_again, same_state, stands_again, stored_again}
@@ -31,12 +32,12 @@ pub invariant_of-self-2 : goal.invariant_of-self-2
 invariant_of-self-2 g c =
     let none = none_seen c.self.inside.connections c.as_slice.result.now c.least_seat.result c.as_slice.ensures c.least_seat.ensures c.in_default.is in
     let tree = rw (c.in_ok-settle.ensures.ok) at c.known.ensures.told in
-    rw (c.in_ok-settle.ensures.ok, c.new.ensures.entries, c.new.ensures.limit, c.in_ok-opening.ensures.value) (
-      stands_again (g.T.HostTree.is c.self.inside.tree).began c.self.inside.opening c.self.inside.history.entries c.self.inside.history.limit c.self.inside.documents c.self.inside.rights c.self.inside.applications c.self.inside.connections c.self.inside.handles c.self.inside.namings (g.T.HostTree.is c.self.inside.tree).told c.self.invariant.0 none c.self.inside.tables c.self.inside.outboxes c.self.invariant.3 c.in_ok-opening.ensures.rows tree,
+    rw (c.in_ok-settle.ensures.ok, c.new.ensures.entries, c.new.ensures.limit, c.in_ok-opening.ensures.value, c.taken.ensures) (
+      stands_again (g.T.HostTree.is c.self.inside.tree).began c.self.inside.opening c.self.inside.history.entries c.self.inside.history.limit c.self.inside.documents c.self.inside.rights c.self.inside.applications c.self.inside.connections c.self.inside.handles (own_tables c.self.inside.namings c.self.inside.temps) (g.T.HostTree.is c.self.inside.tree).told c.self.invariant.0 none c.self.inside.tables c.self.inside.outboxes c.self.invariant.3 c.in_ok-opening.ensures.rows tree,
       subst (λ (cs : List Connection). length cs ≤ c.new.result.spare) (sym (none_listed c.self.inside.connections none)) (omega arith),
-      keeps_again (g.T.HostTree.is c.self.inside.tree).began c.self.inside.opening c.self.inside.history.entries c.self.inside.history.limit c.self.inside.documents c.self.inside.rights c.self.inside.applications c.self.inside.connections c.self.inside.handles c.self.inside.namings (g.T.HostTree.is c.self.inside.tree).told c.self.invariant.0 none c.self.inside.tables c.self.inside.outboxes c.self.invariant.3 c.in_ok-opening.ensures.rows tree (g.K.Keeper.is c.self.inside.keeper).told c.self.invariant.2,
-      stored_again (g.T.HostTree.is c.self.inside.tree).began c.self.inside.opening c.self.inside.history.entries c.self.inside.history.limit c.self.inside.documents c.self.inside.rights c.self.inside.applications c.self.inside.connections c.self.inside.handles c.self.inside.namings (g.T.HostTree.is c.self.inside.tree).told c.self.invariant.0 none c.self.inside.tables c.self.inside.outboxes c.self.invariant.3 c.in_ok-opening.ensures.rows tree,
-      opens_again (g.T.HostTree.is c.self.inside.tree).began c.self.inside.opening c.self.inside.history.entries c.self.inside.history.limit c.self.inside.documents c.self.inside.rights c.self.inside.applications c.self.inside.connections c.self.inside.handles c.self.inside.namings (g.T.HostTree.is c.self.inside.tree).told c.self.invariant.0 none c.self.inside.tables c.self.inside.outboxes c.self.invariant.3 c.in_ok-opening.ensures.rows tree,
+      keeps_again (g.T.HostTree.is c.self.inside.tree).began c.self.inside.opening c.self.inside.history.entries c.self.inside.history.limit c.self.inside.documents c.self.inside.rights c.self.inside.applications c.self.inside.connections c.self.inside.handles (own_tables c.self.inside.namings c.self.inside.temps) (g.T.HostTree.is c.self.inside.tree).told c.self.invariant.0 none c.self.inside.tables c.self.inside.outboxes c.self.invariant.3 c.in_ok-opening.ensures.rows tree (g.K.Keeper.is c.self.inside.keeper).told c.self.invariant.2,
+      stored_again (g.T.HostTree.is c.self.inside.tree).began c.self.inside.opening c.self.inside.history.entries c.self.inside.history.limit c.self.inside.documents c.self.inside.rights c.self.inside.applications c.self.inside.connections c.self.inside.handles (own_tables c.self.inside.namings c.self.inside.temps) (g.T.HostTree.is c.self.inside.tree).told c.self.invariant.0 none c.self.inside.tables c.self.inside.outboxes c.self.invariant.3 c.in_ok-opening.ensures.rows tree,
+      opens_again (g.T.HostTree.is c.self.inside.tree).began c.self.inside.opening c.self.inside.history.entries c.self.inside.history.limit c.self.inside.documents c.self.inside.rights c.self.inside.applications c.self.inside.connections c.self.inside.handles (own_tables c.self.inside.namings c.self.inside.temps) (g.T.HostTree.is c.self.inside.tree).told c.self.invariant.0 none c.self.inside.tables c.self.inside.outboxes c.self.invariant.3 c.in_ok-opening.ensures.rows tree,
       λ seat node. ap (λ (counts : List (SeatNode × ℕ)). count_of counts seat node) c.new-2.ensures,
     )
 
@@ -46,7 +47,7 @@ returns-clause-ok g c =
     let tree = rw (c.in_ok-settle.ensures.ok) at c.known.ensures.told in
     rw (← c.self.view_is) (record {
       closed = none_open c.self.inside.connections _ c.self.invariant.0.holds.lists.connected none;
-      opening = rw (c.in_ok-settle.ensures.ok, c.in_ok-opening.ensures.value) (same_state (g.T.HostTree.is c.self.inside.tree).began c.self.inside.opening c.self.inside.history.entries c.self.inside.history.limit c.self.inside.documents c.self.inside.rights c.self.inside.applications c.self.inside.connections c.self.inside.handles c.self.inside.namings (g.T.HostTree.is c.self.inside.tree).told c.self.invariant.0 none c.self.inside.tables c.self.inside.outboxes c.self.invariant.3 c.in_ok-opening.ensures.rows tree);
+      opening = rw (c.in_ok-settle.ensures.ok, c.in_ok-opening.ensures.value, c.taken.ensures) (same_state (g.T.HostTree.is c.self.inside.tree).began c.self.inside.opening c.self.inside.history.entries c.self.inside.history.limit c.self.inside.documents c.self.inside.rights c.self.inside.applications c.self.inside.connections c.self.inside.handles (own_tables c.self.inside.namings c.self.inside.temps) (g.T.HostTree.is c.self.inside.tree).told c.self.invariant.0 none c.self.inside.tables c.self.inside.outboxes c.self.invariant.3 c.in_ok-opening.ensures.rows tree);
       history = c.new.ensures.entries;
       tree = c.in_ok-settle.ensures.ok;
       began = refl;

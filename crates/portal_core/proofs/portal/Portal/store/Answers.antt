@@ -1,4 +1,5 @@
 use Rattle.std.proofs.Common.{◌≡◌, ◌≤◌, ◌+◌, ◌∷◌, ◌++◌, [], ap, arith, inr, refl, rules}
+use Rattle.file_ops.specs.SeatNames.{own_tables}
 use Rattle.portal_model.specs.declared.request.Request.TheVariants as Request
 use Rattle.portal_model.specs.History.{cost, cost_of, run}
 use Rattle.portal_model.specs.Lawful.{Lawful}
@@ -30,16 +31,16 @@ invariant_of-self-in-Ok-served g c =
     let signals = c.in-Ok.signals in
     let taken = c.taken-taken.new.outboxes in
     let served = c.in-Ok-served.field-0 in
-    let sent = signals-now began k.opening k.history.entries k.history.limit k.documents k.rights k.applications k.connections k.handles k.namings told c.self.invariant.0 c.args.seat k.tables k.outboxes signals c.self.invariant.3 c.in-Ok.ensures.signals in
-    let came = stores began k.opening k.history.entries k.history.limit k.documents k.rights k.applications k.connections k.handles k.namings told c.self.invariant.0 c.args.seat c.args.call k.tables new.tables k.outboxes taken new.outboxes signals old_keeper new_keeper served
+    let sent = signals-now began k.opening k.history.entries k.history.limit k.documents k.rights k.applications k.connections k.handles (own_tables k.namings k.temps) told c.self.invariant.0 c.args.seat k.tables k.outboxes signals c.self.invariant.3 c.in-Ok.ensures.signals in
+    let came = stores began k.opening k.history.entries k.history.limit k.documents k.rights k.applications k.connections k.handles (own_tables k.namings k.temps) told c.self.invariant.0 c.args.seat c.args.call k.tables new.tables k.outboxes taken new.outboxes signals old_keeper new_keeper served
     sent c.in-Ok.ensures.rest c.self.invariant.2 c.self.invariant.3 (rw (c.as_slice-2.ensures) at c.in-Ok-served.ensures.ok) in
     let room = rw (c.as_slice.ensures) at c.in-Ok.ensures.room in
     let fits : cost k.history.entries + cost_of (Request.Store c.args.call) ≤ k.opening.limits.history = rw (← c.self.view_is) at c.requires in
     rw (c.push.ensures, c.taken-taken.ensures.entries, c.taken-taken.ensures.limit) (
-      stands_stored began k.opening k.history.entries k.history.limit k.documents k.rights k.applications k.connections k.handles k.namings told c.self.invariant.0 c.args.seat c.args.call k.tables new.tables k.outboxes taken new.outboxes signals old_keeper new_keeper served came fits,
+      stands_stored began k.opening k.history.entries k.history.limit k.documents k.rights k.applications k.connections k.handles (own_tables k.namings k.temps) told c.self.invariant.0 c.args.seat c.args.call k.tables new.tables k.outboxes taken new.outboxes signals old_keeper new_keeper served came fits,
       omega (arith, room),
-      keeps_stored began k.opening k.history.entries k.history.limit k.documents k.rights k.applications k.connections k.handles k.namings told c.self.invariant.0 c.args.seat c.args.call k.tables new.tables k.outboxes taken new.outboxes signals old_keeper new_keeper served came,
-      stored_stored began k.opening k.history.entries k.history.limit k.documents k.rights k.applications k.connections k.handles k.namings told c.self.invariant.0 c.args.seat c.args.call k.tables new.tables k.outboxes taken new.outboxes signals old_keeper new_keeper served came,
+      keeps_stored began k.opening k.history.entries k.history.limit k.documents k.rights k.applications k.connections k.handles (own_tables k.namings k.temps) told c.self.invariant.0 c.args.seat c.args.call k.tables new.tables k.outboxes taken new.outboxes signals old_keeper new_keeper served came,
+      stored_stored began k.opening k.history.entries k.history.limit k.documents k.rights k.applications k.connections k.handles (own_tables k.namings k.temps) told c.self.invariant.0 c.args.seat c.args.call k.tables new.tables k.outboxes taken new.outboxes signals old_keeper new_keeper served came,
       c.self.invariant.4,
       held_same (opened_over began k.opening) k.history.entries (entry_with c.args.seat (Request.Store c.args.call) served.given) k.counts.counts (λ answer held. refl) c.self.invariant.5,
     )
@@ -58,7 +59,7 @@ invariant_of-self-in-Err g c =
       c.self.invariant.0,
       omega (arith, room),
       c.self.invariant.2,
-      stored_back tree.began k.opening k.history.entries k.history.limit k.documents k.rights k.applications k.connections k.handles k.namings tree.told c.self.invariant.0 c.args.seat k.tables k.outboxes c.taken-taken.new.outboxes new.outboxes c.give_back.new.self c.in-Ok.signals
+      stored_back tree.began k.opening k.history.entries k.history.limit k.documents k.rights k.applications k.connections k.handles (own_tables k.namings k.temps) tree.told c.self.invariant.0 c.args.seat k.tables k.outboxes c.taken-taken.new.outboxes new.outboxes c.give_back.new.self c.in-Ok.signals
           c.in-Ok.ensures.rest c.in-Err.ensures.outboxes c.in-Ok.ensures.signals c.give_back.ensures c.self.invariant.3,
       c.self.invariant.4,
       c.self.invariant.5,
@@ -76,14 +77,14 @@ returns-in-Ok-served-clause-ok g c =
     let signals = c.in-Ok.signals in
     let taken = c.taken-taken.new.outboxes in
     let served = c.in-Ok-served.field-0 in
-    let sent = signals-now began k.opening k.history.entries k.history.limit k.documents k.rights k.applications k.connections k.handles k.namings told c.self.invariant.0 c.args.seat k.tables k.outboxes signals c.self.invariant.3 c.in-Ok.ensures.signals in
-    let came = stores began k.opening k.history.entries k.history.limit k.documents k.rights k.applications k.connections k.handles k.namings told c.self.invariant.0 c.args.seat c.args.call k.tables new.tables k.outboxes taken new.outboxes signals old_keeper new_keeper served
+    let sent = signals-now began k.opening k.history.entries k.history.limit k.documents k.rights k.applications k.connections k.handles (own_tables k.namings k.temps) told c.self.invariant.0 c.args.seat k.tables k.outboxes signals c.self.invariant.3 c.in-Ok.ensures.signals in
+    let came = stores began k.opening k.history.entries k.history.limit k.documents k.rights k.applications k.connections k.handles (own_tables k.namings k.temps) told c.self.invariant.0 c.args.seat c.args.call k.tables new.tables k.outboxes taken new.outboxes signals old_keeper new_keeper served
     sent c.in-Ok.ensures.rest c.self.invariant.2 c.self.invariant.3 (rw (c.as_slice-2.ensures) at c.in-Ok-served.ensures.ok) in
     let entry = entry_with c.args.seat (Request.Store c.args.call) served.given in
     let lawful : Lawful (state_now c.args.self.now.story) entry = rw (← c.self.view_is) came.comes.lawful in
     let replied : reply_with signals served.answer ≡ reply_at (state_now c.args.self.now.story) entry = rw (← c.self.view_is) came.comes.reply_is in
     let keeping : Keeping (state_now c.args.self.now.story) entry (run (opened_over began k.opening) (k.history.entries ++ entry ∷ [])) (g.K.Keeper.is c.args.self.now.keeper) new_keeper =
-    rw (← c.self.view_is) (keeping_stored began k.opening k.history.entries k.history.limit k.documents k.rights k.applications k.connections k.handles k.namings told c.self.invariant.0 c.args.seat c.args.call k.tables new.tables k.outboxes taken new.outboxes signals old_keeper new_keeper served came) in
+    rw (← c.self.view_is) (keeping_stored began k.opening k.history.entries k.history.limit k.documents k.rights k.applications k.connections k.handles (own_tables k.namings k.temps) told c.self.invariant.0 c.args.seat c.args.call k.tables new.tables k.outboxes taken new.outboxes signals old_keeper new_keeper served came) in
     let at = run (opened_over began k.opening) k.history.entries in
     let called : entry_calls (state_now c.args.self.now.story) entry ≡ [] =
     rw (← c.self.view_is) (store-calls at c.args.call served.given (bus_of (connection_of at.connections c.args.seat))) in
@@ -110,8 +111,8 @@ returns-in-Ok-served-clause-fault g c =
     let signals = c.in-Ok.signals in
     let taken = c.taken-taken.new.outboxes in
     let served = c.in-Ok-served.field-0 in
-    let sent = signals-now began k.opening k.history.entries k.history.limit k.documents k.rights k.applications k.connections k.handles k.namings told c.self.invariant.0 c.args.seat k.tables k.outboxes signals c.self.invariant.3 c.in-Ok.ensures.signals in
-    let came = stores began k.opening k.history.entries k.history.limit k.documents k.rights k.applications k.connections k.handles k.namings told c.self.invariant.0 c.args.seat c.args.call k.tables new.tables k.outboxes taken new.outboxes signals old_keeper new_keeper served
+    let sent = signals-now began k.opening k.history.entries k.history.limit k.documents k.rights k.applications k.connections k.handles (own_tables k.namings k.temps) told c.self.invariant.0 c.args.seat k.tables k.outboxes signals c.self.invariant.3 c.in-Ok.ensures.signals in
+    let came = stores began k.opening k.history.entries k.history.limit k.documents k.rights k.applications k.connections k.handles (own_tables k.namings k.temps) told c.self.invariant.0 c.args.seat c.args.call k.tables new.tables k.outboxes taken new.outboxes signals old_keeper new_keeper served
     sent c.in-Ok.ensures.rest c.self.invariant.2 c.self.invariant.3 (rw (c.as_slice-2.ensures) at c.in-Ok-served.ensures.ok) in
     λ h. absurd (came.comes.settles.no_errno h)
 
@@ -127,8 +128,8 @@ returns-in-Ok-served-clause-failure g c =
     let signals = c.in-Ok.signals in
     let taken = c.taken-taken.new.outboxes in
     let served = c.in-Ok-served.field-0 in
-    let sent = signals-now began k.opening k.history.entries k.history.limit k.documents k.rights k.applications k.connections k.handles k.namings told c.self.invariant.0 c.args.seat k.tables k.outboxes signals c.self.invariant.3 c.in-Ok.ensures.signals in
-    let came = stores began k.opening k.history.entries k.history.limit k.documents k.rights k.applications k.connections k.handles k.namings told c.self.invariant.0 c.args.seat c.args.call k.tables new.tables k.outboxes taken new.outboxes signals old_keeper new_keeper served
+    let sent = signals-now began k.opening k.history.entries k.history.limit k.documents k.rights k.applications k.connections k.handles (own_tables k.namings k.temps) told c.self.invariant.0 c.args.seat k.tables k.outboxes signals c.self.invariant.3 c.in-Ok.ensures.signals in
+    let came = stores began k.opening k.history.entries k.history.limit k.documents k.rights k.applications k.connections k.handles (own_tables k.namings k.temps) told c.self.invariant.0 c.args.seat c.args.call k.tables new.tables k.outboxes taken new.outboxes signals old_keeper new_keeper served
     sent c.in-Ok.ensures.rest c.self.invariant.2 c.self.invariant.3 (rw (c.as_slice-2.ensures) at c.in-Ok-served.ensures.ok) in
     λ h. inr (rw (← c.self.view_is) (came.comes.settles.failed came.untreed.untreed h))
 

@@ -1,8 +1,9 @@
 use Rattle.std.proofs.Common.{◌≡◌, List, None, ◌∙◌, ap}
 use Rattle.portal_base.specs.Content.{file_at}
-use Rattle.portal_base.specs.FileChanges.{file_with, put_file}
+use Rattle.portal_base.specs.FileChanges.{file_with}
 use Rattle.portal_base.specs.declared.files.File.{File}
-use Rattle.tree_files.specs.Kept.{files_of}
+use Rattle.file_generations.specs.Generations.{Held, held_with, put_present}
+use Rattle.tree_files.specs.Kept.{files_of, hidden_of}
 use Rattle.tree_files.proofs.Entries.{inserted-is}
 use Rattle.tree_files.proofs.files.TreeFiles.add.Goals as goal
 
@@ -11,7 +12,8 @@ returns-clause-ok c =
     let old = c.self.inside.map.entries in
     let path = c.args.path in
     let none : file_at (files_of old) path ≡ None =
-    ap (λ (fs : List File). file_at fs path) c.self.view_is ∙ c.requires in
-    inserted-is old c.insert.new.self.entries path
-    (record { bytes = c.args.bytes; moment = c.args.moment }) none c.in_ok-insert.ensures.entries
-    ∙ ap (put_file (file_with path c.args.bytes c.args.moment)) c.self.view_is
+    ap (λ (h : Held). file_at h.present path) c.self.view_is ∙ c.requires in
+    ap (λ (fs : List File). held_with fs (hidden_of c.self.inside.hidden.items))
+    (inserted-is old c.insert.new.self.entries path
+    (record { generation = 0; bytes = c.args.bytes; moment = c.args.moment }) none c.in_ok-insert.ensures.entries)
+    ∙ ap (put_present (file_with path c.args.bytes c.args.moment)) c.self.view_is

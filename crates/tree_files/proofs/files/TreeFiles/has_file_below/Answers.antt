@@ -1,7 +1,8 @@
-use Rattle.std.proofs.Common.{sym, ap, ◌∙◌, List}
+use Rattle.std.proofs.Common.{sym, ap, ◌∙◌}
 use Rattle.std.specs.List.{list_any}
 use Rattle.portal_base.specs.Content.{is_above}
 use Rattle.portal_base.specs.declared.files.File.{File}
+use Rattle.file_generations.specs.Generations.{Held}
 use Rattle.tree_files.proofs.FilesBelow.{below-first, seen-at-first}
 use Rattle.tree_files.proofs.files.TreeFiles.has_file_below.Goals as goal
 
@@ -12,11 +13,11 @@ returns-in-Some c =
     ∙ ((λ i. is_above (c.as_bytes.ensures.bytes i) (c.as_bytes-in-Some.ensures.bytes i))
     ∙ (ap (below-first path) (sym c.in-Some.ensures.steps ∙ c.range-behind.ensures.between tt)
     ∙ (seen-at-first path c.self.inside.map.entries c.range-behind.ensures.ordered
-    ∙ ap (λ (fs : List File). list_any (λ (f : File). is_above path f.path) fs) c.self.view_is)))
+    ∙ ap (λ (h : Held). list_any (λ (f : File). is_above path f.path) h.present) c.self.view_is)))
 
 pub returns-in-None : goal.returns-in-None
 returns-in-None c =
     let path = c.args.path.now in
     ap (below-first path) (sym c.in-None.ensures.steps.0 ∙ c.range-behind.ensures.between tt)
     ∙ (seen-at-first path c.self.inside.map.entries c.range-behind.ensures.ordered
-    ∙ ap (λ (fs : List File). list_any (λ (f : File). is_above path f.path) fs) c.self.view_is)
+    ∙ ap (λ (h : Held). list_any (λ (f : File). is_above path f.path) h.present) c.self.view_is)

@@ -1,19 +1,33 @@
-use Rattle.std.proofs.Common.{List, ◌∙◌, ap, sym}
-use Rattle.std.specs.Option.{option_map}
+use Rattle.std.proofs.Common.{◌≡◌, ◌<◌, List, Some, None, length, get_or, ◌∙◌, ap, sym, subst}
+use Rattle.std.specs.List.{position}
 use Rattle.portal_base.specs.Content.{file_named}
-use Rattle.portal_base.specs.declared.files.File.{File}
-use Rattle.tree_files.specs.Kept.{file_kept}
-use Rattle.tree_files.proofs.Entries.{found-named, none-named, not-zero}
+use Rattle.file_generations.specs.Generations.{Held, all_held}
+use Rattle.tree_files.specs.Kept.{files_of}
+use Rattle.tree_files.specs.declared.kept.HiddenFile.{HiddenFile}
+use Rattle.tree_files.proofs.HiddenNames.{has_name, is-within, named-hidden, named-present}
 use Rattle.tree_files.proofs.files.TreeFiles.named.Goals as goal
 
-pub returns-then-name-ne0 : goal.returns-then-name-ne0
-returns-then-name-ne0 c =
-    ap (λ (fs : List File). file_named fs c.args.name.now) (sym c.self.view_is)
-    ∙ none-named c.args.name.now (not-zero c.args.name.now.generation c.if-name-ne0.true)
-    c.self.inside.map.entries
+pub bounds-hidden-at : goal.bounds-hidden-at
+bounds-hidden-at c =
+    let name = c.args.name.now in
+    let hs = c.self.inside.hidden.items in
+    let at : Some c.in-Some.at ≡ position (has_name name) hs = c.in-Some.ensures ∙ ap (λ (xs : List HiddenFile). position (has_name name) xs) c.as_slice-hidden.ensures.value in
+    subst (λ (xs : List HiddenFile). c.in-Some.at < length xs) (sym c.as_slice-hidden.ensures.value) (is-within name hs c.in-Some.at at)
 
-pub returns : goal.returns
-returns c =
-    ap (λ (fs : List File). file_named fs c.args.name.now) (sym c.self.view_is)
-    ∙ (found-named c.args.name.now c.if-name-ne0.false c.self.inside.map.entries
-    ∙ ap (option_map (file_kept c.args.name.now.path)) (sym c.get.ensures.value))
+pub returns-in-Some : goal.returns-in-Some
+returns-in-Some c =
+    let name = c.args.name.now in
+    let hs = c.self.inside.hidden.items in
+    let v = c.index-hidden-at.result.now in
+    let at : Some c.in-Some.at ≡ position (has_name name) hs = c.in-Some.ensures ∙ ap (λ (xs : List HiddenFile). position (has_name name) xs) c.as_slice-hidden.ensures.value in
+    let here : v ≡ get_or hs c.in-Some.at v = c.index-hidden-at.is ∙ ap (λ (xs : List HiddenFile). get_or xs c.in-Some.at v) c.as_slice-hidden.ensures.value in
+    ap (λ (h : Held). file_named (all_held h) name) (sym c.self.view_is)
+    ∙ named-hidden name hs (files_of c.self.inside.map.entries) c.in-Some.at v at here
+
+pub returns-in-None : goal.returns-in-None
+returns-in-None c =
+    let name = c.args.name.now in
+    let hs = c.self.inside.hidden.items in
+    let none : None ≡ position (has_name name) hs = c.in-None.ensures ∙ ap (λ (xs : List HiddenFile). position (has_name name) xs) c.as_slice-hidden.ensures.value in
+    ap (λ (h : Held). file_named (all_held h) name) (sym c.self.view_is)
+    ∙ (named-present name hs (files_of c.self.inside.map.entries) none ∙ c.present_named.ensures)

@@ -1,0 +1,5 @@
+mod Outcomes
+mod OwnLemmas
+pub mod Owned
+mod TakenLemmas
+mod WithinLimit

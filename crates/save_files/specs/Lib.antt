@@ -1,0 +1,4 @@
+pub mod Own
+pub mod Tables
+pub mod Taken
+pub mod TempErrors
