@@ -184,12 +184,13 @@ fn put_change<T: HostTree>(
     rest: &str,
 ) -> Result<(), VectorError> {
     let (second, content) = cut(rest);
-<<<<<<< ours
     match kind {
         "create" => put_shown(out, &tree.create(&file.path, number(first)?)),
         "write" => put_write(alloc, out, tree, file, first, second, content),
         "len" => put_shown(out, &tree.set_len(file, number(first)?, number(second)?)),
         "sync" => put_shown(out, &tree.sync(file)),
+        "fresh" => put_shown(out, &tree.fresh(file, number(first)?)),
+        "turn" => put_shown(out, &tree.turn(file)),
         _ => bad(),
     }
 }
@@ -207,20 +208,4 @@ fn put_write<T: HostTree>(
     let (offset, now) = (number(offset)?, number(now)?);
     let content = bytes(alloc, content)?;
     put_shown(out, &tree.write(file, offset, content.as_slice(), now))
-=======
-    let answer = match kind {
-        "write" => tree.write(
-            file,
-            number(first)?,
-            bytes(alloc, content)?.as_slice(),
-            number(second)?,
-        ),
-        "len" => tree.set_len(file, number(first)?, number(second)?),
-        "sync" => tree.sync(file),
-        "fresh" => tree.fresh(file, number(first)?),
-        "turn" => tree.turn(file),
-        _ => return bad(),
-    };
-    Ok(write!(out, "{answer:?}")?)
->>>>>>> theirs
 }
