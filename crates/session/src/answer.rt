@@ -142,7 +142,7 @@ fn collect_request(collects: bool) -> Option<Request>
 ///
 /// What became of the item's request can be told, and the room is taken: there is memory for
 /// whatever frame isn't longer, and for an answer that tells a call little.
-pub(crate) fn answer(
+pub fn answer(
     alloc: Global,
     client: &Client,
     due: Due,
