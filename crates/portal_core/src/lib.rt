@@ -35,6 +35,7 @@
 //! | `portal/renewed` | a new history |
 //! | `portal/reopened` | a portal that opens with any state |
 //! | `portal/reserve` | memory that is taken ahead |
+//! | `portal/shown` | the history, and the state after it as the lists that hold it |
 //! | `renewal` | [`renewal::RenewError`]: why no new history begins |
 //! | `room` | room that is taken ahead of a request |
 //! | `storied` | [`storied::Storied`] and [`storied::Renews`]: what keeps a history promises |

@@ -1,10 +1,6 @@
 //! The portal.
 
-ghost use Rattle.std.specs.Prelude.{◌≡◌, ◌+◌, ◌<◌, ◌≤◌, ◌^◌, [], length, map, false, true, IfErr, IfOk, IsOk, OnErr, OnOk, None, unwrap_or};
-ghost use Rattle.app_view.specs.Books.{Lends as LendsBook};
-ghost use Rattle.file_ops.specs.SeatNames.{AreNamed};
-ghost use Rattle.file_ops.specs.SeatTemps.{AreTemps};
-ghost use Rattle.node_looks.specs.OpenHandles.{AreOpen};
+ghost use Rattle.std.specs.Prelude.{◌≡◌, ◌+◌, ◌<◌, ◌≤◌, ◌^◌, length, false, true, IfErr, IfOk, IsOk, OnErr, OnOk, None};
 ghost use Rattle.portal_desk.specs.Opening.{IsOpeningState};
 ghost use Rattle.portal_model.specs.History.{Legal, cost};
 ghost use Rattle.portal_model.specs.Opening.{opened_over};
@@ -19,7 +15,6 @@ ghost use Rattle.portal_start.specs.Loading.{AreLists, BeganFirst};
 ghost use Rattle.portal_core.specs.Started.{HandsBack, Starts, reopened};
 ghost use Rattle.portal_steps.specs.Story.{HasCause, IsAsBefore, OnlyCounts, cost_with, limit_of, state_first, state_now};
 ghost use Rattle.store_serving.specs.Serving.{may_change_entries};
-ghost use Rattle.store_serving.specs.Waiting.{silent};
 
 use crate::portal::asked::refusals_after;
 use crate::room::{keep_ahead, make_room, taken};
@@ -66,6 +61,7 @@ mod lent;
 mod renewed;
 mod reopened;
 mod reserve;
+mod shown;
 
 /// A portal over a tree of files, a keeper of records, a clock and words.
 ///
@@ -232,62 +228,6 @@ impl<T: HostTree, K: Keeper, C: Clock, W: Words> Portal<T, K, C, W> {
         }
     }
 
-    /// The state that the history began in. Its files are those that the tree
-    /// began with, whatever its own list has.
-    pub fn opening(&self) -> &OpeningState
-        ensures { result.now ≡ self.now.story.opening }
-    {
-        &self.opening
-    }
-
-    /// The history: every request that was answered, in order.
-    pub fn history(&self) -> &History
-        ensures entries { result.now.entries ≡ self.now.story.history }
-        ensures limit { result.now.limit ≡ limit_of self.now.story }
-    {
-        &self.history
-    }
-
-    /// The lists of documents, of rights and of applications.
-    pub fn book(&self) -> ViewBook<'_>
-        ensures { LendsBook result (state_now self.now.story) }
-    {
-        ViewBook {
-            documents: &self.documents,
-            grants: &self.rights,
-            applications: &self.applications,
-        }
-    }
-
-    /// The open connections, but for what they wait for, what they have named and their
-    /// temporaries.
-    pub fn connections(&self) -> &[Connection]
-        ensures { result.now ≡ map silent (state_now self.now.story).connections }
-    {
-        self.connections.as_slice()
-    }
-
-    /// What each connection has open.
-    pub fn handles(&self) -> &Handles
-        ensures { AreOpen (state_now self.now.story) result.now }
-    {
-        &self.handles
-    }
-
-    /// What each connection has named below folders that are documents.
-    pub fn namings(&self) -> &Namings
-        ensures { AreNamed (state_now self.now.story) result.now }
-    {
-        &self.namings
-    }
-
-    /// The temporaries of each connection, and the generations that were taken.
-    pub fn temps(&self) -> &Temps
-        ensures { AreTemps (state_now self.now.story) result.now }
-    {
-        &self.temps
-    }
-
     /// What is true of every portal: its history began in an opening state, is
     /// legal, within its limit and countable, its state is valid, and its
     /// devices tell the files and the records of that state, where they tell.
@@ -326,29 +266,16 @@ impl<T: HostTree, K: Keeper, C: Clock, W: Words> Portal<T, K, C, W> {
     /// handle of a strict document is done only as far as it has the rights in the document
     /// then.
     ///
-<<<<<<< ours
     /// Where memory is wanted the portal is as it was, but for the count of refusals and for memory
     /// that was taken ahead: that stays, or is more, since what was taken for the request stays
     /// too; at a request on a node what is for one request may go. Such a refusal of a request that
     /// may change the records may have asked the keeper in vain; one of an Add may have asked the
     /// tree too, once for each of its files or twice where they are named, and have drawn no more
-    /// words than it would have made documents; one of a READ, WRITE, FSYNC or OPENDIR may have
-    /// asked the tree once, and one of a SETATTR, OPEN or CREATE twice; at the node of a document's
-    /// file or of a name below a document that is a folder one of a LOOKUP or OPENDIR twice too, and
-    /// one of a CREATE three times; and of these SETATTR, OPEN, CREATE and WRITE may have read the
-    /// clock.
-=======
-    /// Where memory is wanted the portal is as it was, but for the count of refusals and for
-    /// memory that was taken ahead: that stays, or is more, since what was taken for the request
-    /// stays too; at a request on a node what is for one request may go. Such a refusal of a
-    /// request that may change the records may have asked the keeper in vain; one of an Add may
-    /// have asked the tree too, once for each of its files or twice where they are named, and
-    /// have drawn no more words than it would have made documents; one of a READ, WRITE, FSYNC or
-    /// RENAME may have asked the tree once, one of a SETATTR, OPEN or OPENDIR twice, as one of a
-    /// LOOKUP at the node of a document's file or of a name below a document that is a folder,
-    /// and one of a CREATE three times; and of these SETATTR, OPEN, CREATE and WRITE may have
-    /// read the clock.
->>>>>>> theirs
+    /// words than it would have made documents; one of a READ, WRITE, FSYNC, OPENDIR or RENAME may
+    /// have asked the tree once, and one of a SETATTR, OPEN or CREATE twice; at the node of a
+    /// document's file or of a name below a document that is a folder one of a LOOKUP or OPENDIR
+    /// twice too, and one of a CREATE three times; and of these SETATTR, OPEN, CREATE and WRITE may
+    /// have read the clock.
     ///
     /// A LOOKUP in a root, in the folder of all views or in a document's folder, a GETATTR,
     /// ACCESS, FLUSH, RELEASE, RELEASEDIR, FORGET or BATCH_FORGET finds memory where some was

@@ -69,15 +69,9 @@ invariant_of-self-in-Err g c =
     let tree = g.T.HostTree.is k.tree in
     let after = g.T.HostTree.is c.serve-served.new.tree in
     let room = rw (c.as_slice.ensures) at c.in_ok-make_room.ensures.room in
-<<<<<<< ours
     let kept = was-called-keeps (calls_in_vain c.args.request) tree after c.in-Err.ensures.err.calls in
-    let wanting = stands_wanting tree.began k.opening k.history.entries k.history.limit k.documents k.rights k.applications k.connections k.handles k.namings tree.told c.self.invariant.0 c.serve-served.new.handles c.serve-served.new.namings c.in-Err.ensures.err.handles c.in-Err.ensures.names_err in
-    let both = stands_over tree.began after.began k.opening k.history.entries k.history.limit k.documents k.rights k.applications k.connections c.serve-served.new.handles c.serve-served.new.namings tree.told after.told (g.K.Keeper.is k.keeper).told kept.0 kept.1 wanting c.self.invariant.2 in
-=======
-    let kept = was-called-keeps (calls_in_vain c.args.request.op) tree after c.in-Err.ensures.err.calls in
     let wanting = stands_wanting tree.began k.opening k.history.entries k.history.limit k.documents k.rights k.applications k.connections k.handles (own_tables k.namings k.temps) tree.told c.self.invariant.0 c.serve-served.new.handles (own_tables c.serve-served.new.namings c.serve-served.new.temps) c.in-Err.ensures.err.handles (record { names = c.in-Err.ensures.names_err; temps = c.in-Err.ensures.temps_err }) in
     let both = stands_over tree.began after.began k.opening k.history.entries k.history.limit k.documents k.rights k.applications k.connections c.serve-served.new.handles (own_tables c.serve-served.new.namings c.serve-served.new.temps) tree.told after.told (g.K.Keeper.is k.keeper).told kept.0 kept.1 wanting c.self.invariant.2 in
->>>>>>> theirs
     rw (c.in-Err.ensures.connections, c.in_ok-make_room.ensures.entries, c.in_ok-make_room.ensures.limit) (
       both.0,
       omega (arith, room),
