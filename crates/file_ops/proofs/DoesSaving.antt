@@ -1,5 +1,5 @@
 -- Requests that may change temporaries are done in every state in which they may be asked.
-use Rattle.std.proofs.Common.{◌≡◌, ℕ, List, Option, Some, Result, Ok, Err, IfSome, sym, ap, subst, arith, ◌∙◌, true}
+use Rattle.std.proofs.Common.{◌≡◌, ◌≤◌, ℕ, List, Option, Some, Result, Ok, Err, IfSome, sym, ap, subst, arith, ◌∙◌, true}
 use Rattle.std.specs.Option.{option_map}
 use Rattle.std.specs.Result.{OnErr}
 use Rattle.host_tree.specs.Trees.{TreeIs}
@@ -122,9 +122,9 @@ module _ (book : FileBook) (call : NodeCall) (table : HandleTable) (had : OwnTab
 -- ---- want of memory
 
 -- the handles stay, and the tree was called twice at most
-pub wants-handled : {X E : Type 0} (r : Result X E) (seat : ℕ) (table after : HandleTable) (old new : TreeIs) → OnErr r (WasCalledUpTo 2 old new) → OnErr r (Handled seat HandlesStay table after) → OnErr r (Wants 3 table old after new)
-wants-handled (Ok x) seat table after old new w h = tt
-wants-handled (Err e) seat table after old new w h = record {
+pub wants-handled : {X E : Type 0} (r : Result X E) (most seat : ℕ) (table after : HandleTable) (old new : TreeIs) → 2 ≤ most → OnErr r (WasCalledUpTo 2 old new) → OnErr r (Handled seat HandlesStay table after) → OnErr r (Wants most table old after new)
+wants-handled (Ok x) most seat table after old new m w h = tt
+wants-handled (Err e) most seat table after old new m w h = record {
   handles = λ s a. stay-open s seat table after a h;
   calls = (w.0, w.1, omega (arith, w.2));
 }

@@ -53,13 +53,8 @@ use Rattle.node_looks.specs.OpenHandles.{Handled}
 use Rattle.node_looks.proofs.DoneLemmas.{IsExact, done-in, handle-is, handles-stay, same-answer, walk-is}
 use Rattle.node_looks.proofs.Follow.{seen-by-caller}
 use Rattle.node_looks.specs.Sights.{sight_of}
-<<<<<<< ours
 use Rattle.file_ops.specs.Wanting.{calls_by}
-use Rattle.file_ops.specs.Tries.{Goes, GoesBehind, ShowsAt, done_after, done_behind, done_of_ended, ended_by, fault_of_call, found_nothing, refuses, says, shown_behind, tree_done}
-=======
-use Rattle.file_ops.specs.Wanting.{calls_in_vain}
 use Rattle.file_ops.specs.Tries.{Goes, GoesBehind, ShowsAt, done_after, done_behind, done_of_ended, ended_by, ended_of, found_nothing, refuses, says, shown_behind, tree_done}
->>>>>>> theirs
 use Rattle.node_looks.specs.declared.served.NodeDone.{NodeDone}
 use Rattle.node_looks.specs.declared.sight.SeenPlace.{SeenPlace}
 use Rattle.file_ops.specs.declared.tried.Came.{Came}

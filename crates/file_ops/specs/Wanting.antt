@@ -25,39 +25,14 @@ may_change_file (NodeOp.Access mask) = false
 may_change_file (NodeOp.Rename new_parent flags old_name new_name) = false
 may_change_file (NodeOp.Unlink name) = false
 
-<<<<<<< ours
-=======
--- How often the tree was called at most where memory is wanted: by a call that wants it, and the
--- looks ahead of one that lists, cuts or makes or names a file, or makes one present.
-abbrev pub calls_in_vain : NodeOp → ℕ
-calls_in_vain (NodeOp.Create name flags) = 3
-calls_in_vain (NodeOp.Lookup name) = 2
-calls_in_vain (NodeOp.SetAttr valid fh size) = 2
-calls_in_vain (NodeOp.Open flags) = 2
-calls_in_vain NodeOp.OpenDir = 2
-calls_in_vain (NodeOp.Read fh offset size) = 1
-calls_in_vain (NodeOp.Write fh offset content) = 1
-calls_in_vain (NodeOp.Fsync fh) = 1
-calls_in_vain (NodeOp.Rename new_parent flags old_name new_name) = 1
-calls_in_vain (NodeOp.Forget count) = 0
-calls_in_vain (NodeOp.BatchForget nodes) = 0
-calls_in_vain (NodeOp.GetAttr flags fh) = 0
-calls_in_vain (NodeOp.Flush fh) = 0
-calls_in_vain (NodeOp.Release fh) = 0
-calls_in_vain (NodeOp.ReadDir fh offset size) = 0
-calls_in_vain (NodeOp.ReleaseDir fh) = 0
-calls_in_vain (NodeOp.Access mask) = 0
-calls_in_vain (NodeOp.Unlink name) = 0
-
->>>>>>> theirs
 -- a node that is none of a root, of the folder of all views or of a document's folder: an exported
 -- folder, a name below it or a temporary may be there
 abbrev pub may_be_below : ℕ → Bool
 may_be_below node = not (nat_lt (kind_of_node node) 2)
 
 -- How often the tree was called at most where memory is wanted: by a call that wants it, and the
--- looks ahead of one that lists, cuts or makes or names a file. An exported folder, or what lies
--- below it, is looked at first.
+-- looks ahead of one that lists, cuts or makes or names a file, or makes one present. An exported
+-- folder, or what lies below it, is looked at first.
 abbrev pub calls_by : Bool → NodeOp → ℕ
 calls_by below (NodeOp.Create name flags) = cond below 3 2
 calls_by below (NodeOp.Lookup name) = cond below 2 0
@@ -75,6 +50,8 @@ calls_by below (NodeOp.Release fh) = 0
 calls_by below (NodeOp.ReadDir fh offset size) = 0
 calls_by below (NodeOp.ReleaseDir fh) = 0
 calls_by below (NodeOp.Access mask) = 0
+calls_by below (NodeOp.Rename new_parent flags old_name new_name) = 1
+calls_by below (NodeOp.Unlink name) = 0
 
 abbrev pub calls_in_vain : NodeRequest → ℕ
 calls_in_vain r = calls_by (may_be_below r.node) r.op

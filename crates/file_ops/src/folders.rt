@@ -1,10 +1,6 @@
 //! FUSE_OPENDIR: a folder, and the entries that it has then.
 
-<<<<<<< ours
-ghost use Rattle.std.specs.Prelude.{◌≡◌, ℕ, ◌<◌, ◌^◌, [], ◌∷◌, IfOk, IsSome, IsSomeAnd, None, OnErr, Option, Some, false, length, option_copied, option_map, true};
-=======
-ghost use Rattle.std.specs.Prelude.{◌≡◌, ℕ, ◌<◌, ◌^◌, [], ◌∷◌, IfOk, IfSome, IsSome, IsSomeAnd, List, None, OnErr, Option, Some, false, length, option_map};
->>>>>>> theirs
+ghost use Rattle.std.specs.Prelude.{◌≡◌, ℕ, ◌<◌, ◌^◌, [], ◌∷◌, IfOk, IfSome, IsSome, IsSomeAnd, List, None, OnErr, Option, Some, false, length, option_map, true};
 ghost use Rattle.portal_base.specs.declared.files.Look.TheVariants as Look;
 ghost use Rattle.host_tree.specs.Trees.{is_look_fault};
 ghost use Rattle.open_handles.specs.Opened.{CanAdd, HandleTable, opened_on};
@@ -22,17 +18,11 @@ ghost use Rattle.portal_model.specs.Walk.{AtPath, Looks};
 ghost use Rattle.app_view.specs.Books.{Lends};
 ghost use Rattle.app_view.specs.Places.{IsFolder, is_folder_place};
 ghost use Rattle.app_view.specs.declared.book.ViewBook.{ViewBook};
-<<<<<<< ours
-ghost use Rattle.node_looks.specs.Done.{DoesAt, DoneBy, Wants, done_with, room_in};
-ghost use Rattle.file_ops.specs.OpenedFolders.{ListedBelow, Lists, ListsBehind, OpensBelow, path_in};
-ghost use Rattle.file_ops.specs.Wanting.{may_be_below};
-ghost use Rattle.node_looks.specs.Sights.{sight_of};
-=======
 ghost use Rattle.node_looks.specs.Done.{DoesWhere, DoneBy, Wants, done_with, room_in};
 ghost use Rattle.file_ops.specs.OpenedFolders.{HasTemps, ListedBelow, Lists, ListsBehind, OpensBelow, folder_told, home_in};
+ghost use Rattle.file_ops.specs.Wanting.{may_be_below};
 ghost use Rattle.file_ops.specs.SeatTemps.{HeldTemps, temps_on};
 ghost use Rattle.node_looks.specs.Sights.{naming_by, sight_of, temp_by, view_of};
->>>>>>> theirs
 
 use crate::temps_listed::names_of_temps;
 use app_view::{SeenBelow, ViewBook, listing, listing_below, place_of};
@@ -57,21 +47,13 @@ use std::alloc::Global;
 /// Answers a caller's OPENDIR of a folder: the next handle of its connection, which
 /// was entered, keeps the entries that the folder has now.
 ///
-<<<<<<< ours
-/// `naming` is what the connection has named by the number in the node. Room for the
-/// handle is taken first; a document's folder then takes one look at the tree. A folder
-/// that is a document, or lies below one, takes its look ahead of the room, and then the
-/// names in it are listed: so a request that wants memory has called the tree twice at most, and
-/// once at other nodes. No document is looked at in which the view's subject has no
-/// right: n documents or applications take about n log m steps, of m that there are.
-=======
 /// `own` is what the connection has by the number in the node. Room for the handle is
 /// taken first; a document's folder then takes one look at the tree, and has the
 /// connection's temporaries behind the document's name. A folder that is a document, or
 /// lies below one, takes its look ahead of the room, and then the names in it are
-/// listed. No document is looked at in which the view's subject has no right: n
-/// documents or applications take about n log m steps, of m that there are.
->>>>>>> theirs
+/// listed: so a request that wants memory has called the tree twice at most, and once at
+/// the nodes of other folders. No document is looked at in which the view's subject has
+/// no right: n documents or applications take about n log m steps, of m that there are.
 pub fn open_dir<T: HostTree>(
     alloc: Global,
     book: &FileBook,

@@ -43,29 +43,17 @@ use std::alloc::Global;
 /// handles, among what was named and among the temporaries. Each takes what its own call
 /// says.
 ///
-<<<<<<< ours
-/// Where memory is wanted, the open handles, what was named and the files are as before.
-/// The tree may have been called in vain by a SETATTR, OPEN, CREATE, READ, WRITE, FSYNC
-/// or OPENDIR, by a LOOKUP at a node of a document's file or of a name below a folder that
-/// is a document, and the clock read by a SETATTR, OPEN, CREATE or WRITE; no other request
-/// that wants memory has called the tree, and none reads the clock. So CREATE, SETATTR and
-/// OPEN call it twice at most, and the others once; at a node of a document's file or of a
-/// name below such a folder LOOKUP and OPENDIR call it twice at most, and CREATE three times. A
-/// GETATTR or ACCESS wants no memory where there is one of `rooms`, of which it takes one
-/// at most, nor does a LOOKUP in a root, in the folder of all views or in a document's
-/// folder; a FLUSH, RELEASE, RELEASEDIR, FORGET or BATCH_FORGET never does.
-=======
 /// Where memory is wanted, the open handles, what was named, the temporaries and the
 /// files are as before. The tree may have been called in vain by a SETATTR, OPEN,
 /// CREATE, READ, WRITE, FSYNC, OPENDIR or RENAME, by a LOOKUP at a node of a document's
-/// file or of a name below a folder that is a document, and the clock read by a
-/// SETATTR, OPEN, CREATE or WRITE; no other request that wants memory has called the
-/// tree, and none reads the clock. So CREATE calls it three times at most, LOOKUP,
-/// SETATTR, OPEN and OPENDIR twice, and the others once. A GETATTR or ACCESS wants no
-/// memory where there is one of `rooms`, of which it takes one at most, nor does a
-/// LOOKUP in a root, in the folder of all views or in a document's folder; a FLUSH,
-/// RELEASE, RELEASEDIR, FORGET or BATCH_FORGET never does.
->>>>>>> theirs
+/// file, of a name below a folder that is a document or of a temporary, and the clock
+/// read by a SETATTR, OPEN, CREATE or WRITE; no other request that wants memory has
+/// called the tree, and none reads the clock. So CREATE, SETATTR and OPEN call it twice
+/// at most, and the others once; at those nodes LOOKUP and OPENDIR call it twice at most,
+/// and CREATE three times. A GETATTR or ACCESS wants no memory where there is one of
+/// `rooms`, of which it takes one at most, nor does a LOOKUP in a root, in the folder of
+/// all views or in a document's folder; a FLUSH, RELEASE, RELEASEDIR, FORGET or
+/// BATCH_FORGET never does.
 pub fn serve_node<T: HostTree, C: Clock>(
     alloc: Global,
     rooms: &mut LookRooms,

@@ -1,4 +1,4 @@
-use Rattle.std.proofs.Common.{◌∙◌, ap, Some}
+use Rattle.std.proofs.Common.{◌∙◌, ap, arith, Some}
 use Rattle.std.proofs.lemmas.Result.{IfOk-weaker, on_err_weaker}
 use Rattle.file_ops.specs.SeatNames.{own_tables}
 use Rattle.file_ops.proofs.DoesBelow.{create-does}
@@ -26,7 +26,10 @@ returns-in_ok-folder-in-Some-Folder-clause-ok g c = λ op.
     (all-ok _ c.create_in_folder.result c.create_in_folder.ensures.ok)
 
 pub returns-in_ok-folder-in-Some-Folder-clause-err : goal.returns-in_ok-folder-in-Some-Folder-clause-err
-returns-in_ok-folder-in-Some-Folder-clause-err g c = wants-handled c.create_in_folder.result c.args.call.now.seat c.args.handles.now _ _ _ c.create_in_folder.ensures.err c.create_in_folder.ensures.handles_err
+returns-in_ok-folder-in-Some-Folder-clause-err g c = wants-handled c.create_in_folder.result 3 c.args.call.now.seat c.args.handles.now _ _ _ (omega arith) c.create_in_folder.ensures.err c.create_in_folder.ensures.handles_err
+
+pub returns-in_ok-folder-in-Some-Folder-clause-plain_err : goal.returns-in_ok-folder-in-Some-Folder-clause-plain_err
+returns-in_ok-folder-in-Some-Folder-clause-plain_err g c = λ plain. wants-handled c.create_in_folder.result 2 c.args.call.now.seat c.args.handles.now _ _ _ (omega arith) c.create_in_folder.ensures.err c.create_in_folder.ensures.handles_err
 
 pub returns-in_default-clause-ok : goal.returns-in_default-clause-ok
 returns-in_default-clause-ok g c = λ op. c.make_nowhere.ensures.ok c.args.handles.now (own_tables c.args.namings.now c.args.temps.now) c.by_number-own.ensures.naming c.by_number-own.ensures.temp op

@@ -2,12 +2,6 @@ use Rattle.std.proofs.Common.{ℕ, List, ap, refl, subst, sym, ◌∙◌}
 use Rattle.std.proofs.lemmas.Result.{IfOk-weaker, on_err_weaker}
 use Rattle.portal_model.specs.declared.request.NodeOp.TheVariants as NodeOp
 use Rattle.node_looks.specs.Done.{Forgets}
-<<<<<<< ours
-use Rattle.node_looks.proofs.DoneLemmas.{IsExact, tells-does-at}
-use Rattle.file_ops.proofs.DoesNames.{at-other, does-other}
-use Rattle.file_ops.specs.Wanting.{may_be_below}
-use Rattle.file_ops.proofs.Tries.{called-so, looked-there, once-so, wants-so, wants-there}
-=======
 use Rattle.node_looks.specs.Served.{HasAt}
 use Rattle.node_looks.specs.Sights.{naming_by, temp_by}
 use Rattle.node_looks.proofs.DoneLemmas.{IsExact, tells-does}
@@ -16,8 +10,8 @@ use Rattle.file_ops.specs.SeatNames.{own_tables}
 use Rattle.file_ops.proofs.DoesNames.{at-other, does-other, has-temps, known-names, known-temps, where-other}
 use Rattle.file_ops.proofs.DoesSaving.{rename-does, unlink-does}
 use Rattle.file_ops.proofs.Savings.{same-kept}
-use Rattle.file_ops.proofs.Tries.{called-so, once-so, wants-so}
->>>>>>> theirs
+use Rattle.file_ops.specs.Wanting.{may_be_below}
+use Rattle.file_ops.proofs.Tries.{called-so, looked-there, once-so, wants-so, wants-there}
 use Rattle.file_ops.proofs.serve.serve_node.Goals as goal
 
 pub returns-in-Lookup-clause-ok : goal.returns-in-Lookup-clause-ok
@@ -120,7 +114,7 @@ returns-in-Unlink-clause-ok g c =
 
 pub returns-in-Rename-clause-err : goal.returns-in-Rename-clause-err
 returns-in-Rename-clause-err g c =
-    on_err_weaker c.rename.result (called-so _ _ c.args.handles.now _ _ c.in-Rename.is) c.rename.ensures.err
+    on_err_weaker c.rename.result (called-so (may_be_below c.args.call.now.request.now.node) _ _ c.args.handles.now _ _ c.in-Rename.is) c.rename.ensures.err
 
 pub returns-in-Unlink-clause-temps_err : goal.returns-in-Unlink-clause-temps_err
 returns-in-Unlink-clause-temps_err g c = on_err_weaker c.unlink.result (same-kept _ _) c.unlink.ensures.temps_err
