@@ -353,38 +353,38 @@ paths-in-place f (g ∷ gs) = λ i. one (is_same g.path f.path) refl i ∷ paths
 -- what is present then is the file, or was so and has another path
 there-in-place : (f : File) (m : FileName) (fs : List File) → has_file m (in_place f.path f fs) ≡ true → (name_of_file f ≡ m) ⊎ ((has_file m fs ≡ true) × (is_same m.path f.path ≡ false))
 there-in-place f m [] e = absurd (cc)
-there-in-place f m (g ∷ gs) e = step (is_same g.path f.path) refl e
+there-in-place f m (g ∷ gs) e = step (is_same g.path f.path) refl (λ h. there-in-place f m gs h) e
   where
-    later : (has_file m (in_place f.path f gs) ≡ true) → (name_of_file f ≡ m) ⊎ ((has_file m (g ∷ gs) ≡ true) × (is_same m.path f.path ≡ false))
-    later h = ⊎_elim (λ k. inl k) (λ k. inr (has-behind m g gs k.0, k.1)) (there-in-place f m gs h)
+    later : (has_file m (in_place f.path f gs) ≡ true → (name_of_file f ≡ m) ⊎ ((has_file m gs ≡ true) × (is_same m.path f.path ≡ false))) → has_file m (in_place f.path f gs) ≡ true → (name_of_file f ≡ m) ⊎ ((has_file m (g ∷ gs) ≡ true) × (is_same m.path f.path ≡ false))
+    later more h = ⊎_elim (λ k. inl k) (λ k. inr (has-behind m g gs k.0, k.1)) (more h)
 
-    step : (b : Bool) → is_same g.path f.path ≡ b → has_file m (cond b f g ∷ in_place f.path f gs) ≡ true → (name_of_file f ≡ m) ⊎ ((has_file m (g ∷ gs) ≡ true) × (is_same m.path f.path ≡ false))
-    step true k h = ⊎_elim (λ s. inl (named-is m f s)) later (either (is_named m f) (has_file m (in_place f.path f gs)) (sym (has-next m f (in_place f.path f gs)) ∙ h))
-    step false k h = ⊎_elim
+    step : (b : Bool) → is_same g.path f.path ≡ b → (has_file m (in_place f.path f gs) ≡ true → (name_of_file f ≡ m) ⊎ ((has_file m gs ≡ true) × (is_same m.path f.path ≡ false))) → has_file m (cond b f g ∷ in_place f.path f gs) ≡ true → (name_of_file f ≡ m) ⊎ ((has_file m (g ∷ gs) ≡ true) × (is_same m.path f.path ≡ false))
+    step true k more h = ⊎_elim (λ s. inl (named-is m f s)) (later more) (either (is_named m f) (has_file m (in_place f.path f gs)) (sym (has-next m f (in_place f.path f gs)) ∙ h))
+    step false k more h = ⊎_elim
         (λ s.
         let here : name_of_file g ≡ m = named-is m g s in
         inr (has-first m g gs here, subst (λ (n : FileName). is_same n.path f.path ≡ false) here k))
-        later
+        (later more)
         (either (is_named m g) (has_file m (in_place f.path f gs)) (sym (has-next m g (in_place f.path f gs)) ∙ h))
 
 -- what is beside then is the former file, or was so and has another name
 left-exchanged : (n : FileName) (former : File) (m : FileName) (fs : List File) → has_file m (change_named n (λ g. former) fs) ≡ true → (name_of_file former ≡ m) ⊎ ((has_file m fs ≡ true) × (m ≡ n → ⊥))
 left-exchanged n former m [] e = absurd (cc)
-left-exchanged n former m (g ∷ gs) e = step (is_named n g) refl e
+left-exchanged n former m (g ∷ gs) e = step (is_named n g) refl (λ h. left-exchanged n former m gs h) e
   where
     rest : List File
     rest = change_named n (λ (h : File). former) gs
 
-    later : has_file m rest ≡ true → (name_of_file former ≡ m) ⊎ ((has_file m (g ∷ gs) ≡ true) × (m ≡ n → ⊥))
-    later h = ⊎_elim (λ k. inl k) (λ k. inr (has-behind m g gs k.0, k.1)) (left-exchanged n former m gs h)
+    later : (has_file m rest ≡ true → (name_of_file former ≡ m) ⊎ ((has_file m gs ≡ true) × (m ≡ n → ⊥))) → has_file m rest ≡ true → (name_of_file former ≡ m) ⊎ ((has_file m (g ∷ gs) ≡ true) × (m ≡ n → ⊥))
+    later more h = ⊎_elim (λ k. inl k) (λ k. inr (has-behind m g gs k.0, k.1)) (more h)
 
-    step : (b : Bool) → is_named n g ≡ b → has_file m (cond b former g ∷ rest) ≡ true → (name_of_file former ≡ m) ⊎ ((has_file m (g ∷ gs) ≡ true) × (m ≡ n → ⊥))
-    step true k h = ⊎_elim (λ s. inl (named-is m former s)) later (either (is_named m former) (has_file m rest) (sym (has-next m former rest) ∙ h))
-    step false k h = ⊎_elim
+    step : (b : Bool) → is_named n g ≡ b → (has_file m rest ≡ true → (name_of_file former ≡ m) ⊎ ((has_file m gs ≡ true) × (m ≡ n → ⊥))) → has_file m (cond b former g ∷ rest) ≡ true → (name_of_file former ≡ m) ⊎ ((has_file m (g ∷ gs) ≡ true) × (m ≡ n → ⊥))
+    step true k more h = ⊎_elim (λ s. inl (named-is m former s)) (later more) (either (is_named m former) (has_file m rest) (sym (has-next m former rest) ∙ h))
+    step false k more h = ⊎_elim
         (λ s.
         let here : name_of_file g ≡ m = named-is m g s in
         inr (has-first m g gs here, λ same. true≢false (sym (subst (λ (x : FileName). is_named x g ≡ true) same s) ∙ k)))
-        later
+        (later more)
         (either (is_named m g) (has_file m rest) (sym (has-next m g rest) ∙ h))
 
 apart-exchanged : (n : FileName) (former : File) (fs : List File) → are_apart fs ≡ true → has_file (name_of_file former) fs ≡ false → are_apart (change_named n (λ g. former) fs) ≡ true
@@ -417,13 +417,13 @@ apart-exchanged n former (g ∷ gs) a none = step (is_named n g) refl (apart-exc
 -- the file of a path has its name among the files
 has-at : (p : List ℕ) (fs : List File) (f : File) → file_at fs p ≡ Some f → (has_file (name_of_file f) fs ≡ true) × (f.path ≡ p)
 has-at p [] f e = absurd (cc)
-has-at p (g ∷ gs) f e = step (is_same g.path p) refl e
+has-at p (g ∷ gs) f e = step (is_same g.path p) refl e (λ h. has-at p gs f h)
   where
-    step : (b : Bool) → is_same g.path p ≡ b → cond b (Some g) (file_at gs p) ≡ Some f → (has_file (name_of_file f) (g ∷ gs) ≡ true) × (f.path ≡ p)
-    step true k h =
+    step : (b : Bool) → is_same g.path p ≡ b → cond b (Some g) (file_at gs p) ≡ Some f → (file_at gs p ≡ Some f → (has_file (name_of_file f) gs ≡ true) × (f.path ≡ p)) → (has_file (name_of_file f) (g ∷ gs) ≡ true) × (f.path ≡ p)
+    step true k h more =
         let same : g ≡ f = cc in
         (has-first (name_of_file f) g gs (ap name_of_file same), ap (λ (x : File). x.path) (sym same) ∙ same-is g.path p k)
-    step false k h = let w = has-at p gs f h in (has-behind (name_of_file f) g gs w.0, w.1)
+    step false k h more = let w = more h in (has-behind (name_of_file f) g gs w.0, w.1)
 
 pub beside-exchanged : (f former : File) (present hidden : List File) → AreBeside present hidden → has_file (name_of_file f) hidden ≡ true → file_at present f.path ≡ Some former
     → AreBeside (in_place f.path f present) (change_named (name_of_file f) (λ g. former) hidden)
@@ -460,14 +460,14 @@ beside-exchanged f former present hidden a here at = record {
 -- the file of a name has it, and so has one among the files
 pub found-name : (n : FileName) (fs : List File) (f : File) → file_named fs n ≡ Some f → (name_of_file f ≡ n) × (has_file n fs ≡ true)
 found-name n [] f e = absurd (cc)
-found-name n (g ∷ gs) f e = step (is_named n g) refl e
+found-name n (g ∷ gs) f e = step (is_named n g) refl e (λ h. found-name n gs f h)
   where
-    step : (b : Bool) → is_named n g ≡ b → cond b (Some g) (file_named gs n) ≡ Some f → (name_of_file f ≡ n) × (has_file n (g ∷ gs) ≡ true)
-    step true k h =
+    step : (b : Bool) → is_named n g ≡ b → cond b (Some g) (file_named gs n) ≡ Some f → (file_named gs n ≡ Some f → (name_of_file f ≡ n) × (has_file n gs ≡ true)) → (name_of_file f ≡ n) × (has_file n (g ∷ gs) ≡ true)
+    step true k h more =
         let same : g ≡ f = cc in
         let here : name_of_file g ≡ n = named-is n g k in
         (ap name_of_file (sym same) ∙ here, has-first n g gs here)
-    step false k h = let w = found-name n gs f h in (w.0, has-behind n g gs w.1)
+    step false k h more = let w = more h in (w.0, has-behind n g gs w.1)
 
 turned-beside : (f : File) (there : Option File) (present hidden : List File) → AreBeside present hidden → has_file (name_of_file f) hidden ≡ true → file_at present f.path ≡ there
     → AreHeld (turned_to (name_of_file f) (Some f) there (held_with present hidden))
