@@ -101,7 +101,7 @@ pub(crate) fn rename<T: HostTree>(
     ensures temps_err { OnErr result (TempsKept temps.old temps.new) }
 {
     let room = room_below(alloc)?;
-    match moving(book, namings, temps, tree, call, new_parent, asked) {
+    match moves(book, namings, temps, tree, call, new_parent, asked) {
         Moving::Refused(tried) => Ok(tried.done(room)),
         Moving::Saved(k) => {
             let ended = saved(temps, tree, call.seat, k)?;
@@ -117,7 +117,7 @@ pub(crate) fn rename<T: HostTree>(
 }
 
 /// What the request comes to.
-fn moving<T: HostTree>(
+fn moves<T: HostTree>(
     book: &ViewBook,
     namings: &Namings,
     temps: &Temps,

@@ -65,7 +65,7 @@ pub(crate) fn unlink<T: HostTree>(
     ensures temps_err { OnErr result (temps.new ≡ temps.old) }
 {
     let room = room_for_looks(alloc)?;
-    match removing(book, namings, temps, tree, call, name) {
+    match removes(book, namings, temps, tree, call, name) {
         Removing::Refused(tried) => Ok(tried.done(room)),
         Removing::Temp(k) => {
             drop_temp(temps, call.seat, k);
@@ -75,7 +75,7 @@ pub(crate) fn unlink<T: HostTree>(
 }
 
 /// What the request comes to.
-fn removing<T: HostTree>(
+fn removes<T: HostTree>(
     book: &ViewBook,
     namings: &Namings,
     temps: &Temps,

@@ -10,7 +10,7 @@ use Rattle.file_ops.specs.Renames.{call_told, number_left, rename_seen}
 use Rattle.file_ops.specs.SeatNames.{seat_sight}
 use Rattle.file_ops.proofs.Moves.{behind-checks, flags-refused, moved-along, new-too-long, nothing-moving, old-too-long, refused-moving}
 use Rattle.file_ops.proofs.SeenHomes.{seat-seen}
-use Rattle.file_ops.proofs.renamed.moving.Goals as goal
+use Rattle.file_ops.proofs.renamed.moves.Goals as goal
 
 pub returns-then-asked-ne0-clause-moved : goal.returns-then-asked-ne0-clause-moved
 returns-then-asked-ne0-clause-moved g c = λ names has e f s l.

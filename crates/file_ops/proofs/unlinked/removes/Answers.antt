@@ -12,7 +12,7 @@ use Rattle.file_ops.specs.declared.homes.What.{What}
 use Rattle.file_ops.proofs.Removals.{file-removed, folder-removed, home-removed, nothing-removed, removed-along, too-long}
 use Rattle.file_ops.proofs.SeenHomes.{seat-seen}
 use Rattle.file_ops.proofs.Tries.{if-right, if-wrong}
-use Rattle.file_ops.proofs.unlinked.removing.Goals as goal
+use Rattle.file_ops.proofs.unlinked.removes.Goals as goal
 
 pub returns-then-is_too_long-clause-removed : goal.returns-then-is_too_long-clause-removed
 returns-then-is_too_long-clause-removed g c = λ names has e f s l.
