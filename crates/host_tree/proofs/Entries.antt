@@ -1,6 +1,5 @@
 -- The entries of a map by path, and the files that they are.
-use Rattle.std.proofs.Common.{◌≡◌, ℕ, ◌==◌, List, [], ◌∷◌, ◌++◌, Bool, true, false, not, ◌&&◌, cond, Option, Some, None, map, option_map, is_some, length, Result, Ok, Err, OnOk, OnErr, refl, sym, ap, subst, ◌∙◌, arith}
-use Rattle.std.proofs.lemmas.Bool.Decides.{nat_tests}
+use Rattle.std.proofs.Common.{◌≡◌, ℕ, ◌==◌, List, [], ◌∷◌, ◌++◌, Bool, true, false, not, ◌&&◌, cond, Option, Some, None, map, option_map, is_some, length, Result, Ok, Err, OnOk, OnErr, refl, sym, ap, subst, ◌∙◌}
 use Rattle.std.proofs.lemmas.Map.Steps.{set_value_same}
 use Rattle.std.specs.BTreeMap.{is_at, insert_entry}
 use Rattle.std.specs.Cmp.Lexicographic.{nat_list_eq_equiv, bytes_decides}

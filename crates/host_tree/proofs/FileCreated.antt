@@ -1,16 +1,10 @@
 -- A file that is made where nothing stands and the parent is a folder leaves a tree.
-use Rattle.std.proofs.Common.{◌≡◌, ℕ, ◌+◌, ◌-◌, ◌≤◌, suc, List, [], ◌∷◌, ◌++◌, length, take, reverse, Bool, true, false, not, ◌&&◌, ◌||◌, cond, Option, Some, None, is_some, refl, sym, ap, subst, ◌∙◌, ◌⊎◌, arith, ⊎_elim, inl, inr, length-append, leb}
-use Rattle.std.proofs.lemmas.Bool.{cases_lt}
-use Rattle.std.proofs.lemmas.List.{reverse-append, length-reverse}
-use Rattle.std.proofs.Math.Seq.{take-append-add}
-use mathlib.Core.Bool.{true≢false}
+use Rattle.std.proofs.Common.{◌≡◌, ℕ, List, Bool, true, false, not, ◌&&◌, ◌||◌, Option, Some, None, is_some, refl, sym, ap, subst, ◌∙◌, arith}
 use Rattle.std.specs.BTreeMap.{is_at, insert_entry}
-use Rattle.std.specs.List.{list_all, list_any, prefix_len, suffix_len}
+use Rattle.std.specs.List.{list_any}
 use Rattle.std.specs.List.Sorted.{IsStrictlySortedBy}
 use Rattle.std.specs.Map.{lookup, keys_of}
-use Rattle.std.specs.List.{slice_split}
-use Rattle.std.specs.Str.{is_utf8}
-use Rattle.portal_base.specs.Names.{is_same, is_slash, is_rooted, is_byte_of_path, is_host_path, has_path_form, path_limit, root, parent_of}
+use Rattle.portal_base.specs.Names.{is_same, is_host_path, root, parent_of}
 use Rattle.portal_base.specs.PathOrder.{path_order}
 use Rattle.portal_base.specs.Content.{is_above, is_folder, has_room, file_at, paths_of, ArePlaced, IsTree}
 use Rattle.portal_base.specs.declared.files.File.{File}
@@ -18,7 +12,7 @@ use Rattle.portal_base.proofs.PathsAbove.{above_longer, all-apart, any-paths, bo
 use Rattle.host_tree.specs.Stored.{file_of, files_of}
 use Rattle.host_tree.specs.Trees.{put_file, may_create}
 use Rattle.host_tree.specs.declared.files.Stored.{Stored}
-use Rattle.host_tree.proofs.Entries.{same-is, paths-are, put-entry, has-file-at}
+use Rattle.host_tree.proofs.Entries.{paths-are, put-entry, has-file-at}
 use Rattle.portal_base.proofs.PathsAbove.{all-put, any-put}
 
 pub put-is-tree : (f : File) (fs : List File) → IsTree fs → may_create fs f.path ≡ true → is_host_path f.path ≡ true → IsStrictlySortedBy path_order (paths_of (put_file f fs)) → IsTree (put_file f fs)

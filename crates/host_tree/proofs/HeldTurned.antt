@@ -1,5 +1,5 @@
 -- A file that becomes its path's present one.
-use Rattle.std.proofs.Common.{◌≡◌, ℕ, ◌==◌, List, [], ◌∷◌, Bool, true, false, not, cond, Option, Some, None, option_map, is_some, refl, sym, ap, subst, ◌∙◌}
+use Rattle.std.proofs.Common.{◌≡◌, ℕ, ◌==◌, List, [], ◌∷◌, Bool, true, false, cond, Option, Some, None, option_map, is_some, refl, sym, ap, ◌∙◌}
 use Rattle.std.specs.Ordering.{is_lt}
 use Rattle.portal_base.specs.Names.{is_same}
 use Rattle.portal_base.specs.PathOrder.{path_order}
@@ -46,7 +46,7 @@ has-replaced p g (h ∷ hs) e = step (is_same h.path p) refl (has-replaced p g h
     step false k more = ap (λ (c : Bool). is_some (cond c (Some h) (file_at (in_place p g hs) p))) k ∙ more
 
 -- a new file that another takes the place of
-replaced-put : (p : List ℕ) (f g : File) (fs : List File) → f.path ≡ p → g.path ≡ p → file_at fs p ≡ None → in_place p f (put_file g fs) ≡ put_file f fs
+pub replaced-put : (p : List ℕ) (f g : File) (fs : List File) → f.path ≡ p → g.path ≡ p → file_at fs p ≡ None → in_place p f (put_file g fs) ≡ put_file f fs
 replaced-put p f g [] a b e = ap (λ (c : Bool). cond c f g ∷ []) (ap (λ (q : List ℕ). is_same q p) b ∙ same-itself p)
 replaced-put p f g (h ∷ hs) a b e = step (is_lt (path_order g.path h.path)) refl (is_same h.path p) e (λ m. replaced-put p f g hs a b m)
   where

@@ -3,3 +3,4 @@ pub mod PathsHeld
 pub mod KeptNumbers
 pub mod StillOpen
 pub mod TempsAt
+pub mod NamesHeld

@@ -3,6 +3,7 @@ use Rattle.std.proofs.Common.{◌≡◌, ◌==◌, ◌&&◌, ◌||◌, ℕ, List
 use Rattle.std.specs.List.{AllByRecursion, IsDistinct, filter, find, flat_map, list_all, list_any}
 use Rattle.std.specs.Map.{lookup}
 use Rattle.std.proofs.lemmas.Bool.Decides.{nat_tests}
+use mathlib.Core.Bool.{true≢false}
 use Rattle.portal_base.specs.Names.{is_same}
 use Rattle.portal_model.specs.declared.handle.Handle.{Handle}
 use Rattle.portal_model.specs.declared.handle.OpenHandle.{OpenHandle}
@@ -49,32 +50,28 @@ pub handle-found : (s : State) (seat : ℕ) (c : Connection) (o : Option Opened)
 handle-found s seat c None fh h = absurd h
 handle-found s seat c (Some o) fh h = ap (lookup (λ n. fh == n)) h.1 ∙ found seat fh s.handles
 
--- ---- a file that is open
+-- ---- a handle that is looked for
 
-module _ (path : List ℕ) where
-  abbrev opens : OpenHandle → Bool
-  opens h = is_open_at path (Some h.handle)
+abbrev pub opens : (Option Handle → Bool) → OpenHandle → Bool
+opens q h = q (Some h.handle)
 
-  none-named : (o : Option OpenHandle) → is_open_at path (option_map (λ (h : OpenHandle). h.handle) o) ≡ true → (h : OpenHandle) × (o ≡ Some h) × (opens h ≡ true)
-  none-named None e = cc
-  none-named (Some h) e = (h, refl, e)
-
+module _ (q : Option Handle → Bool) (none : q None ≡ false) where
   module _ (seat : ℕ) where
     -- what is found by a number is open on the seat
-    found-any : (fh : ℕ) (hs : List OpenHandle) → is_open_at path (handle_of hs seat fh) ≡ true → list_any opens (handles_of hs seat) ≡ true
-    found-any fh [] e = cc
+    found-any : (fh : ℕ) (hs : List OpenHandle) → q (handle_of hs seat fh) ≡ true → list_any (opens q) (handles_of hs seat) ≡ true
+    found-any fh [] e = absurd (true≢false (sym e ∙ none))
     found-any fh (x ∷ xs) e = by (x.seat == seat) (x.fh == fh) e (found-any fh xs)
       where
-        by : (b t : Bool) → is_open_at path (option_map (λ (h : OpenHandle). h.handle) (cond (b && t) (Some x) (find (is_handle seat fh) xs))) ≡ true →
-            (is_open_at path (handle_of xs seat fh) ≡ true → list_any opens (handles_of xs seat) ≡ true) → list_any opens (cond b (x ∷ handles_of xs seat) (handles_of xs seat)) ≡ true
-        by true true f more = or-left (opens x) (list_any opens (handles_of xs seat)) f
-        by true false f more = or-right (opens x) (list_any opens (handles_of xs seat)) (more f)
+        by : (b t : Bool) → q (option_map (λ (h : OpenHandle). h.handle) (cond (b && t) (Some x) (find (is_handle seat fh) xs))) ≡ true →
+            (q (handle_of xs seat fh) ≡ true → list_any (opens q) (handles_of xs seat) ≡ true) → list_any (opens q) (cond b (x ∷ handles_of xs seat) (handles_of xs seat)) ≡ true
+        by true true f more = or-left (opens q x) (list_any (opens q) (handles_of xs seat)) f
+        by true false f more = or-right (opens q x) (list_any (opens q) (handles_of xs seat)) (more f)
         by false t f more = more f
 
     -- and what is open is found by its number
     record IsOpenBy (hs : List OpenHandle) (fh : ℕ) : Type 0 where
       pub there : list_any (λ (h : OpenHandle). h.seat == seat && h.fh == fh) hs ≡ true
-      pub open_at : is_open_at path (handle_of hs seat fh) ≡ true
+      pub open_at : q (handle_of hs seat fh) ≡ true
 
     apart : (x y : OpenHandle) (fh : ℕ) → (y.seat == seat && y.fh == fh) ≡ true → same_handle x y ≡ false → (x.seat == seat && x.fh == fh) ≡ false
     apart x y fh e f = grind (arith, nat_tests)
@@ -97,37 +94,37 @@ module _ (path : List ℕ) where
           more.0,
           record {
             there = ap (λ (b : Bool). b || list_any (λ (h : OpenHandle). h.seat == seat && h.fh == more.0) xs) other ∙ more.1.there;
-            open_at = ap (λ (b : Bool). is_open_at path (option_map (λ (h : OpenHandle). h.handle) (cond b (Some x) (find (is_handle seat more.0) xs)))) other ∙ more.1.open_at;
+            open_at = ap (λ (b : Bool). q (option_map (λ (h : OpenHandle). h.handle) (cond b (Some x) (find (is_handle seat more.0) xs)))) other ∙ more.1.open_at;
           },
         )
 
-    found-first : (x : OpenHandle) (xs : List OpenHandle) → (x.seat == seat) ≡ true → opens x ≡ true → (fh : ℕ) × IsOpenBy (x ∷ xs) fh
+    found-first : (x : OpenHandle) (xs : List OpenHandle) → (x.seat == seat) ≡ true → opens q x ≡ true → (fh : ℕ) × IsOpenBy (x ∷ xs) fh
     found-first x xs f o =
         let same : (x.seat == seat && x.fh == x.fh) ≡ true = (λ i. f i && self x.fh i) in (
           x.fh,
           record {
             there = ap (λ (b : Bool). b || list_any (λ (h : OpenHandle). h.seat == seat && h.fh == x.fh) xs) same;
-            open_at = ap (λ (b : Bool). is_open_at path (option_map (λ (h : OpenHandle). h.handle) (cond b (Some x) (find (is_handle seat x.fh) xs)))) same ∙ o;
+            open_at = ap (λ (b : Bool). q (option_map (λ (h : OpenHandle). h.handle) (cond b (Some x) (find (is_handle seat x.fh) xs)))) same ∙ o;
           },
         )
 
-    open-found : (hs : List OpenHandle) → IsDistinct same_handle hs → list_any opens (handles_of hs seat) ≡ true → (fh : ℕ) × IsOpenBy hs fh
+    open-found : (hs : List OpenHandle) → IsDistinct same_handle hs → list_any (opens q) (handles_of hs seat) ≡ true → (fh : ℕ) × IsOpenBy hs fh
     unfolding IsDistinct
     open-found [] d e = cc
-    open-found (x ∷ xs) d e = by (x.seat == seat) (opens x) refl refl e (λ f. found-behind x xs d.0 (open-found xs d.1 f))
+    open-found (x ∷ xs) d e = by (x.seat == seat) (opens q x) refl refl e (λ f. found-behind x xs d.0 (open-found xs d.1 f))
       where
-        by : (b o : Bool) → (x.seat == seat) ≡ b → opens x ≡ o → list_any opens (cond b (x ∷ handles_of xs seat) (handles_of xs seat)) ≡ true →
-            (list_any opens (handles_of xs seat) ≡ true → (fh : ℕ) × IsOpenBy (x ∷ xs) fh) → (fh : ℕ) × IsOpenBy (x ∷ xs) fh
+        by : (b o : Bool) → (x.seat == seat) ≡ b → opens q x ≡ o → list_any (opens q) (cond b (x ∷ handles_of xs seat) (handles_of xs seat)) ≡ true →
+            (list_any (opens q) (handles_of xs seat) ≡ true → (fh : ℕ) × IsOpenBy (x ∷ xs) fh) → (fh : ℕ) × IsOpenBy (x ∷ xs) fh
         by true true f k g more = found-first x xs f k
-        by true false f k g more = more (ap (λ (b : Bool). b || list_any opens (handles_of xs seat)) (sym k) ∙ g)
+        by true false f k g more = more (ap (λ (b : Bool). b || list_any (opens q) (handles_of xs seat)) (sym k) ∙ g)
         by false o f k g more = more g
 
 -- ---- by the numbers that are kept
 
-module _ (path : List ℕ) (o : Option Opened) where
+module _ (q : Option Handle → Bool) (o : Option Opened) where
   any-number : (ns : List ℕ) (fh : ℕ) → has ns fh ≡ true →
-      is_open_at path (handle_in o fh) ≡ true →
-      list_any (λ n. is_open_at path (handle_in o n)) ns ≡ true
+      q (handle_in o fh) ≡ true →
+      list_any (λ n. q (handle_in o n)) ns ≡ true
   any-number [] fh m e = cc
   any-number (n ∷ ns) fh m e = by (n == fh) refl m (λ f. any-number ns fh f e)
     where
@@ -135,25 +132,25 @@ module _ (path : List ℕ) (o : Option Opened) where
       same x y f = grind (arith, nat_tests)
 
       by : (b : Bool) → (n == fh) ≡ b → (b || has ns fh) ≡ true →
-          (has ns fh ≡ true → list_any (λ k. is_open_at path (handle_in o k)) ns ≡ true) →
-          (is_open_at path (handle_in o n)
-          || list_any (λ k. is_open_at path (handle_in o k)) ns) ≡ true
-      by true f g more = or-left (is_open_at path (handle_in o n))
-          (list_any (λ k. is_open_at path (handle_in o k)) ns)
-          (ap (λ (k : ℕ). is_open_at path (handle_in o k)) (same n fh f) ∙ e)
-      by false f g more = or-right (is_open_at path (handle_in o n))
-          (list_any (λ k. is_open_at path (handle_in o k)) ns) (more g)
+          (has ns fh ≡ true → list_any (λ k. q (handle_in o k)) ns ≡ true) →
+          (q (handle_in o n)
+          || list_any (λ k. q (handle_in o k)) ns) ≡ true
+      by true f g more = or-left (q (handle_in o n))
+          (list_any (λ k. q (handle_in o k)) ns)
+          (ap (λ (k : ℕ). q (handle_in o k)) (same n fh f) ∙ e)
+      by false f g more = or-right (q (handle_in o n))
+          (list_any (λ k. q (handle_in o k)) ns) (more g)
 
-  some-number : (ns : List ℕ) → list_any (λ n. is_open_at path (handle_in o n)) ns ≡ true →
-      (fh : ℕ) × (is_open_at path (handle_in o fh) ≡ true)
+  some-number : (ns : List ℕ) → list_any (λ n. q (handle_in o n)) ns ≡ true →
+      (fh : ℕ) × (q (handle_in o fh) ≡ true)
   some-number [] e = cc
-  some-number (n ∷ ns) e = by (is_open_at path (handle_in o n)) refl e (some-number ns)
+  some-number (n ∷ ns) e = by (q (handle_in o n)) refl e (some-number ns)
     where
-      by : (b : Bool) → is_open_at path (handle_in o n) ≡ b →
-          (b || list_any (λ k. is_open_at path (handle_in o k)) ns) ≡ true →
-          (list_any (λ k. is_open_at path (handle_in o k)) ns ≡ true →
-          (fh : ℕ) × (is_open_at path (handle_in o fh) ≡ true)) →
-          (fh : ℕ) × (is_open_at path (handle_in o fh) ≡ true)
+      by : (b : Bool) → q (handle_in o n) ≡ b →
+          (b || list_any (λ k. q (handle_in o k)) ns) ≡ true →
+          (list_any (λ k. q (handle_in o k)) ns ≡ true →
+          (fh : ℕ) × (q (handle_in o fh) ≡ true)) →
+          (fh : ℕ) × (q (handle_in o fh) ≡ true)
       by true f g more = (n, f)
       by false f g more = more g
 
@@ -189,27 +186,27 @@ module _ (s : State) (v : Valid s) where
           (λ i. opened_here (sym numbers i) (connection_of s.connections (sym seats i))) ∙ here
       by false f g more = more g
 
-  module _ (numbers : OpenNumbers) (cover : Cover numbers s.handles) (path : List ℕ) (seat : ℕ)
-      (c : Connection) (o : Option Opened) (h : HasOpen s seat c o) where
-    found-by : list_any (λ n. is_open_at path (handle_in o n)) (numbers_of numbers seat) ≡ true →
-        list_any (opens path) (handles_of s.handles seat) ≡ true
+  module _ (numbers : OpenNumbers) (cover : Cover numbers s.handles)
+      (q : Option Handle → Bool) (none : q None ≡ false) (seat : ℕ) (c : Connection) (o : Option Opened) (h : HasOpen s seat c o) where
+    found-by : list_any (λ n. q (handle_in o n)) (numbers_of numbers seat) ≡ true →
+        list_any (opens q) (handles_of s.handles seat) ≡ true
     found-by e =
-        let one = some-number path o (numbers_of numbers seat) e in
-        found-any path seat one.0 s.handles
-        (ap (is_open_at path) (sym (handle-found s seat c o one.0 h)) ∙ one.1)
+        let one = some-number q o (numbers_of numbers seat) e in
+        found-any q none seat one.0 s.handles
+        (ap q (sym (handle-found s seat c o one.0 h)) ∙ one.1)
 
-    any-by : list_any (opens path) (handles_of s.handles seat) ≡ true →
-        list_any (λ n. is_open_at path (handle_in o n)) (numbers_of numbers seat) ≡ true
+    any-by : list_any (opens q) (handles_of s.handles seat) ≡ true →
+        list_any (λ n. q (handle_in o n)) (numbers_of numbers seat) ≡ true
     any-by e =
-        let one = open-found path seat s.handles v.handles_differ e in
-        any-number path o (numbers_of numbers seat) one.0 (cover seat one.0 one.1.there)
-        (ap (is_open_at path) (handle-found s seat c o one.0 h) ∙ one.1.open_at)
+        let one = open-found q none seat s.handles v.handles_differ e in
+        any-number q o (numbers_of numbers seat) one.0 (cover seat one.0 one.1.there)
+        (ap q (handle-found s seat c o one.0 h) ∙ one.1.open_at)
 
-    pub by-numbers : list_any (λ n. is_open_at path (handle_in o n)) (numbers_of numbers seat)
-        ≡ list_any (opens path) (handles_of s.handles seat)
+    pub by-numbers : list_any (λ n. q (handle_in o n)) (numbers_of numbers seat)
+        ≡ list_any (opens q) (handles_of s.handles seat)
     by-numbers = both-ways
-        (list_any (λ n. is_open_at path (handle_in o n)) (numbers_of numbers seat))
-        (list_any (opens path) (handles_of s.handles seat)) found-by any-by
+        (list_any (λ n. q (handle_in o n)) (numbers_of numbers seat))
+        (list_any (opens q) (handles_of s.handles seat)) found-by any-by
 
 -- ---- all connections
 
@@ -226,18 +223,18 @@ module _ (path : List ℕ) where
       no-more false = refl
   handle-named (Handle.Folder node names) = refl
 
-  handles-named : (hs : List OpenHandle) → is_among (flat_map (λ (h : OwnHandle). paths_of_handle h.handle) (map own_handle hs)) path ≡ list_any (opens path) hs
+  handles-named : (hs : List OpenHandle) → is_among (flat_map (λ (h : OwnHandle). paths_of_handle h.handle) (map own_handle hs)) path ≡ list_any (opens (is_open_at path)) hs
   handles-named [] = refl
   handles-named (h ∷ hs) = among-joined (paths_of_handle h.handle) (flat_map (λ (x : OwnHandle). paths_of_handle x.handle) (map own_handle hs)) ∙ (λ i. handle-named h.handle i || handles-named hs i)
 
   module _ (app : List ℕ) (handles : List OpenHandle) where
-    connections-named : (cs : List Connection) → is_among (flat_map paths_of_connection (own_connections app handles cs)) path ≡ list_any (λ (c : Connection). is_app app c.who && list_any (opens path) (handles_of handles c.seat)) cs
+    connections-named : (cs : List Connection) → is_among (flat_map paths_of_connection (own_connections app handles cs)) path ≡ list_any (λ (c : Connection). is_app app c.who && list_any (opens (is_open_at path)) (handles_of handles c.seat)) cs
     connections-named [] = refl
     connections-named (c ∷ cs) = by (is_app app c.who) (connections-named cs)
       where
-        by : (b : Bool) → is_among (flat_map paths_of_connection (own_connections app handles cs)) path ≡ list_any (λ (x : Connection). is_app app x.who && list_any (opens path) (handles_of handles x.seat)) cs →
+        by : (b : Bool) → is_among (flat_map paths_of_connection (own_connections app handles cs)) path ≡ list_any (λ (x : Connection). is_app app x.who && list_any (opens (is_open_at path)) (handles_of handles x.seat)) cs →
             is_among (flat_map paths_of_connection (map (own_connection app handles) (cond b (c ∷ filter (λ (x : Connection). is_app app x.who) cs) (filter (λ (x : Connection). is_app app x.who) cs)))) path
-            ≡ ((b && list_any (opens path) (handles_of handles c.seat)) || list_any (λ (x : Connection). is_app app x.who && list_any (opens path) (handles_of handles x.seat)) cs)
+            ≡ ((b && list_any (opens (is_open_at path)) (handles_of handles c.seat)) || list_any (λ (x : Connection). is_app app x.who && list_any (opens (is_open_at path)) (handles_of handles x.seat)) cs)
         by true e =
             among-joined (paths_of_connection (own_connection app handles c)) (flat_map paths_of_connection (own_connections app handles cs))
             ∙ (λ i. handles-named (handles_of handles c.seat) i || e i)
@@ -245,14 +242,14 @@ module _ (path : List ℕ) where
 
 -- each of the connections is the one of its seat
 module _ (P : Connection → Type 0) where
-  abbrev Each : List Connection → Type 0
+  abbrev pub Each : List Connection → Type 0
   Each [] = Unit {0}
   Each (c ∷ cs) = P c × Each cs
 
 seat-self : (n : ℕ) → (n == n) ≡ true
 seat-self n = grind (arith, nat_tests)
 
-each-here : (cs : List Connection) → IsDistinct nat_eq (map (λ (c : Connection). c.seat) cs) → Each (λ c. connection_of cs c.seat ≡ Some c) cs
+pub each-here : (cs : List Connection) → IsDistinct nat_eq (map (λ (c : Connection). c.seat) cs) → Each (λ c. connection_of cs c.seat ≡ Some c) cs
 unfolding IsDistinct
 each-here [] d = tt
 each-here (c ∷ cs) d = (ap (λ (b : Bool). cond b (Some c) (connection_of cs c.seat)) (seat-self c.seat), behind cs d.0 (each-here cs d.1))
@@ -272,10 +269,10 @@ module _ (s : State) (v : Valid s) (numbers : OpenNumbers) (cover : Cover number
       Each (λ c. connection_of s.connections c.seat ≡ Some c) cs →
       any_has_open numbers seats app path (map silent cs)
       ≡ list_any (λ (c : Connection).
-      is_app app c.who && list_any (opens path) (handles_of s.handles c.seat)) cs
+      is_app app c.who && list_any (opens (is_open_at path)) (handles_of s.handles c.seat)) cs
   table-named [] e = refl
   table-named (c ∷ cs) e =
-      λ i. (is_app app c.who && by-numbers s v numbers cover path c.seat c (opened_on seats c.seat)
+      λ i. (is_app app c.who && by-numbers s v numbers cover (is_open_at path) refl c.seat c (opened_on seats c.seat)
       (table c.seat c e.0) i) || table-named cs e.1 i
 
   -- by the handles of the table, an open file names the path

@@ -9,7 +9,7 @@ use Rattle.portal_model.specs.declared.temporary.OwnTemp.{OwnTemp}
 use Rattle.portal_model.specs.declared.temporary.Temp.{Temp}
 use Rattle.app_world.specs.View.{same_name}
 use Rattle.save_files.specs.Own.{IsKept, Own, number_at, number_in, owned, temp_of}
-use Rattle.named_paths.specs.Named.{is_temp_at, temps_of}
+use Rattle.named_paths.specs.Named.{is_temp_at, is_temp_of, temps_of}
 
 or-second : (a b : Bool) → b ≡ true → (a || b) ≡ true
 or-second true b h = refl
@@ -90,3 +90,8 @@ number-temp (Some o) place k h e = step (slice_get o.temps place) refl e
         let there : slice_get (owned o.temps) place ≡ Some (own_temp y.0 y.1) = owned-at o.temps place ∙ ap (option_map (λ (z : ℕ × Temp). own_temp z.0 z.1)) g in
         let numbered : lookup (λ n. k == n) o.temps ≡ Some y.1 = ap (λ (m : ℕ). lookup (λ n. m == n) o.temps) (sym same) ∙ lookup-at o.temps place y h.numbered.differ g in
         (y, (there, numbered))
+
+pub is-that : (name : FileName) (o : Option Own) (place k : ℕ) → IfSome o IsKept → number_at o place ≡ Some k → is_temp_of name (temp_of o k) ≡ is_temp_at name (slice_get (temps_of o) place)
+is-that name o place k h e =
+    let w = number-temp o place k h e in
+    ap (is_temp_of name) w.1.1 ∙ sym (ap (is_temp_at name) w.1.0)

@@ -7,6 +7,7 @@ use Rattle.portal_base.specs.declared.files.FileName.{FileName}
 use Rattle.portal_model.specs.declared.handle.Handle.{Handle}
 use Rattle.portal_model.specs.declared.state.Connection.{Connection}
 use Rattle.portal_model.specs.declared.temporary.OwnTemp.{OwnTemp}
+use Rattle.portal_model.specs.declared.temporary.Temp.{Temp}
 use Rattle.portal_model.specs.State.{is_app}
 use Rattle.open_handles.specs.Opened.{Opened, handle_of, opened_on}
 use Rattle.app_world.specs.View.{HeldDocument, is_of_document, same_name}
@@ -55,6 +56,10 @@ temps_of (Some o) = owned o.temps
 abbrev pub is_temp_at : FileName → Option OwnTemp → Bool
 is_temp_at name None = false
 is_temp_at name (Some t) = same_name t.temp.file name
+
+abbrev pub is_temp_of : FileName → Option Temp → Bool
+is_temp_of name None = false
+is_temp_of name (Some t) = same_name t.file name
 
 abbrev pub has_temp : List (ℕ × Own) → FileName → ℕ → Bool
 has_temp temps name seat =

@@ -6,7 +6,7 @@ ghost use Rattle.app_world.specs.View.{held_documents, is_of_document};
 ghost use Rattle.open_handles.specs.Opened.{handle_of, opened_on};
 ghost use Rattle.portal_model.specs.State.{held_of, is_app};
 ghost use Rattle.rights_rule.specs.Rights.{holds_any};
-ghost use Rattle.named_paths.specs.Named.{any_has_open, any_names, are_of, has_file_open as does_have_file_open, has_open as does_have_open, has_temp as does_have_temp, is_open_as as is_file_as, is_open_at as is_file_at, is_temp_at, temps_of};
+ghost use Rattle.named_paths.specs.Named.{any_has_open, any_names, are_of, has_file_open as does_have_file_open, has_open as does_have_open, has_temp as does_have_temp, is_open_as as is_file_as, is_open_at as is_file_at, is_temp_at, is_temp_of, temps_of};
 ghost use Rattle.save_files.specs.Own.{own_on};
 ghost use Rattle.app_world.specs.View.{same_name};
 
@@ -193,7 +193,15 @@ fn any_is_open_as(handles: &Handles, seat: u32, known: &[u64], name: &FileName) 
 {
     known
         .iter()
-        .any(|number| is_open_as(handles.get(seat, *number), name))
+        .any(|number| is_open_as_by(handles, seat, *number, name))
+}
+
+/// Says whether this file is open on a seat by a number.
+fn is_open_as_by(handles: &Handles, seat: u32, number: u64, name: &FileName) -> bool
+    ensures { result
+        ≡ is_file_as name.now (handle_of (opened_on handles.now.seats seat) number) }
+{
+    is_open_as(handles.get(seat, number), name)
 }
 
 /// Says whether an open handle is that of this file.
@@ -228,19 +236,19 @@ fn has_temp_at(temps: &Temps, seat: u32, place: u32, name: &FileName) -> bool
     ensures { result ≡ is_temp_at name.now (slice_get (temps_of (own_on temps.now.seats seat)) place) }
 {
     match temps.at(seat, place) {
-        Some(k) => match temps.get(seat, k) {
-            Some(temp) => is_file_of(temp, name),
-            None => false,
-        },
+        Some(k) => is_file_of(temps.get(seat, k), name),
         None => false,
     }
 }
 
 /// Says whether this is the file of a temporary.
-fn is_file_of(temp: &Temp, name: &FileName) -> bool
-    ensures { result ≡ same_name temp.now.file name.now }
+fn is_file_of(temp: Option<&Temp>, name: &FileName) -> bool
+    ensures { result ≡ is_temp_of name.now (option_copied temp.entry) }
 {
-    is_same(&temp.file, name)
+    match temp {
+        Some(temp) => is_same(&temp.file, name),
+        None => false,
+    }
 }
 
 /// Says whether two names are of one file.

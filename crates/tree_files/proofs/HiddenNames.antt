@@ -2,18 +2,19 @@
 use Rattle.std.proofs.Common.{◌≡◌, ℕ, ◌+◌, ◌<◌, ◌≤◌, ◌==◌, suc, zero, List, [], ◌∷◌, ◌++◌, length, map, Bool, true, false, not, ◌&&◌, ◌||◌, cond, ltb, get_or, Option, Some, None, refl, sym, ap, ◌∙◌, arith}
 use Rattle.std.proofs.lemmas.Bool.Decides.{nat_tests}
 use mathlib.Core.Bool.{true≢false}
-use Rattle.std.specs.List.{find, list_all, list_any, position, position_or_len, slice_get, slice_set, IsDistinct, AllByRecursion}
+use Rattle.std.specs.List.{find, list_all, list_any, position, position_or_len, remove, slice_get, slice_set, IsDistinct, AllByRecursion}
 use Rattle.std.proofs.lemmas.List.Folds.{find_at}
 use Rattle.std.proofs.lemmas.List.{set-get_or}
 use Rattle.std.proofs.lemmas.Option.{slice_get_read}
 use Rattle.portal_base.specs.Content.{file_at, file_named, is_named}
-use Rattle.portal_base.specs.FileChanges.{change_named}
+use Rattle.portal_base.specs.FileChanges.{change_named, put_file}
 use Rattle.portal_base.specs.Names.{is_same}
 use Rattle.portal_base.specs.declared.files.File.{File}
 use Rattle.portal_base.specs.declared.files.FileName.{FileName}
 use Rattle.portal_base.proofs.PathsAbove.{both}
-use Rattle.file_generations.specs.Generations.{held_with, in_place, same_file, turned, turned_to}
+use Rattle.file_generations.specs.Generations.{held_with, in_place, same_file, turned, turned_to, without_named}
 use Rattle.host_tree.proofs.Entries.{same-is, same-itself}
+use Rattle.host_tree.proofs.HeldTurned.{replaced-put}
 use Rattle.tree_files.specs.Kept.{file_kept, hidden_file, hidden_of}
 use Rattle.tree_files.specs.declared.kept.HiddenFile.{HiddenFile}
 use Rattle.tree_files.specs.declared.kept.KeptFile.{KeptFile}
@@ -280,6 +281,50 @@ module _ (name : FileName) (change : File → File) where
       others-stay name change (hidden_file v) (is-named name hs i v e h) fs
       (none-of (hidden_file v) fs (its-own hs i v fs (got-there name hs i v e h) a))
 
+-- ---- it is taken out
+
+-- the others than a file of the name stay
+others-kept : (name : FileName) (x : File) → is_named name x ≡ true → (fs : List File) →
+    AllByRecursion (λ y. same_file x y ≡ false) fs → without_named name fs ≡ fs
+others-kept name x own [] a = refl
+others-kept name x own (f ∷ fs) a =
+    step (is_named name f) refl (others-kept name x own fs a.1)
+  where
+    step : (b : Bool) → is_named name f ≡ b → without_named name fs ≡ fs →
+        cond (not b) (f ∷ without_named name fs) (without_named name fs) ≡ f ∷ fs
+    step true k more = absurd (true≢false (sym (both-named name x f own k) ∙ a.0))
+    step false k more = ap (λ (gs : List File). f ∷ gs) more
+
+take-hidden : (name : FileName) (hs : List HiddenFile) (i : ℕ) (v : HiddenFile) →
+    position_or_len (has_name name) hs ≡ i → slice_get hs i ≡ Some v →
+    IsDistinct same_file (hidden_of hs) →
+    hidden_of (remove hs i) ≡ without_named name (hidden_of hs)
+unfolding IsDistinct
+take-hidden name [] i v p g d = absurd (cc)
+take-hidden name (h ∷ hs) i v p g d =
+    step (has_name name h) refl p (λ j q m. take-hidden name hs j v q m d.1)
+  where
+    step : (b : Bool) → has_name name h ≡ b →
+        cond (not b) (1 + position_or_len (has_name name) hs) 0 ≡ i →
+        ((j : ℕ) → position_or_len (has_name name) hs ≡ j → slice_get hs j ≡ Some v →
+        hidden_of (remove hs j) ≡ without_named name (hidden_of hs)) →
+        hidden_of (remove (h ∷ hs) i)
+        ≡ cond (not b) (hidden_file h ∷ without_named name (hidden_of hs))
+        (without_named name (hidden_of hs))
+    step true own q more = first i (sym q)
+      where
+        first : (j : ℕ) → j ≡ 0 →
+            hidden_of (remove (h ∷ hs) j) ≡ without_named name (hidden_of hs)
+        first zero z = sym (others-kept name (hidden_file h) own (hidden_of hs) d.0)
+        first (suc j) z = absurd (omega arith)
+    step false own q more = later i (sym q) g
+      where
+        later : (j : ℕ) → j ≡ 1 + position_or_len (has_name name) hs →
+            slice_get (h ∷ hs) j ≡ Some v →
+            hidden_of (remove (h ∷ hs) j) ≡ hidden_file h ∷ without_named name (hidden_of hs)
+        later zero z m = absurd (omega arith)
+        later (suc j) z m = ap (λ (fs : List File). hidden_file h ∷ fs) (more j (omega arith) m)
+
 -- ---- it becomes the present file of its path
 
 named-alone : (name : FileName) (hs : List HiddenFile) (i : ℕ) (v : HiddenFile) →
@@ -309,6 +354,25 @@ turned-swapped name fs after hs i v former e h there placed d =
     (ap (λ (p : List ℕ). file_kept p former) path) d in
     (λ j. held_with (placed j) (beside j))
     ∙ (λ j. turned_to name (sym found j) (sym there j) (held_with fs (hidden_of hs)))
+
+-- where the path has none, by an empty one that holds its place
+pub turned-placed : (name : FileName) (fs first last : List File) (hs : List HiddenFile) (i : ℕ)
+    (v : HiddenFile) (blank : KeptFile) → Some i ≡ position (has_name name) hs →
+    v ≡ get_or hs i v → file_at fs name.path ≡ None →
+    first ≡ put_file (file_kept name.path blank) fs →
+    last ≡ in_place name.path (file_kept name.path v.kept) first →
+    IsDistinct same_file (hidden_of hs) →
+    held_with last (hidden_of (remove hs i)) ≡ turned name (held_with fs (hidden_of hs))
+turned-placed name fs first last hs i v blank e h none put placed d =
+    let f = file_kept name.path v.kept in
+    let found : file_named (hidden_of hs) name ≡ Some f = named-alone name hs i v e h in
+    let whole : last ≡ put_file f fs =
+    placed ∙ (ap (in_place name.path f) put
+    ∙ replaced-put name.path f (file_kept name.path blank) fs refl refl none) in
+    let left : hidden_of (remove hs i) ≡ without_named name (hidden_of hs) =
+    take-hidden name hs i v (sym (place-is name hs i e).0) (got-there name hs i v e h) d in
+    (λ j. held_with (whole j) (left j))
+    ∙ (λ j. turned_to name (sym found j) (sym none j) (held_with fs (hidden_of hs)))
 
 -- nothing of the name is beside the present ones
 pub turned-nothing : (name : FileName) (fs : List File) (hs : List HiddenFile) →

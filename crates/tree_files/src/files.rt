@@ -149,32 +149,10 @@ impl TreeFiles {
         ensures ok { OnOk result (self.new ≡ turned name.now self.old) }
         ensures err { OnErr result (self.new ≡ self.old) }
     {
-        let Some(at) = hidden_at(self.hidden.as_slice(), name) else {
-            return Ok(());
-        };
-        if let Some(present) = self.map.get_mut(&name.path) {
-            mem::swap(present, &mut self.hidden[at].kept);
-            return Ok(());
+        match hidden_at(self.hidden.as_slice(), name) {
+            Some(at) => turn_in(alloc, &mut self.map, &mut self.hidden, name, at),
+            None => Ok(()),
         }
-        self.place(alloc, at)
-    }
-
-    /// Takes a file out of those that aren't present to its path, which has none.
-    fn place(&mut self, alloc: Global, at: usize) -> Result<(), WantOfMemory>
-        requires place { at < length self.old.hidden }
-        requires free { (f : TreeFile) → slice_get self.old.hidden at ≡ Some f →
-            file_at self.old.present f.path ≡ None }
-        ensures ok { OnOk result ((f : TreeFile) → slice_get self.old.hidden at ≡ Some f →
-            self.new ≡ held_with (put_file f self.old.present)
-            (take at self.old.hidden ++ drop (at + 1) self.old.hidden)) }
-        ensures err { OnErr result (self.new ≡ self.old) }
-    {
-        // A copy goes there first, so that nothing is lost where there is no room.
-        let path = self.hidden[at].path.replica(alloc)?;
-        let kept = self.hidden[at].kept.replica(alloc)?;
-        self.map.insert(path, kept)?;
-        drop(self.hidden.remove(at));
-        Ok(())
     }
 
     /// Writes over the bytes of the file of a name from an offset on.
@@ -216,10 +194,10 @@ impl TreeFiles {
     }
 }
 
-ghost use Rattle.std.specs.Prelude.{◌+◌, ◌<◌, Some, drop, length, slice_get, take};
-ghost use Rattle.file_generations.specs.Generations.{held_with};
-ghost use Rattle.portal_base.specs.declared.files.File.{File as TreeFile};
-ghost use Rattle.tree_files.specs.Kept.{files_of};
+ghost use Rattle.std.specs.Prelude.{Some, is_some, true};
+ghost use Rattle.std.specs.List.{IsDistinct};
+ghost use Rattle.file_generations.specs.Generations.{held_with, in_place, same_file};
+ghost use Rattle.tree_files.specs.Kept.{files_of, hidden_of};
 
 /// The place of the file of a name among those that aren't present.
 fn hidden_at(hidden: &[HiddenFile], name: &FileName) -> Option<usize>
@@ -327,5 +305,72 @@ fn set_len_in(
     match map.get_mut(&name.path) {
         Some(kept) => kept.set_len_as(name.generation, size, now),
         None => Ok(()),
+    }
+}
+
+/// Lets a file that isn't present be the present one of its path.
+fn turn_in(
+    alloc: Global,
+    map: &mut BTreeMap<HostPath, KeptFile>,
+    hidden: &mut Vec<HiddenFile>,
+    name: &FileName,
+    at: usize,
+) -> Result<(), WantOfMemory>
+    requires there { Some at ≡ position (λ f. is_named name.now (hidden_file f)) hidden.old.items }
+    requires differ { IsDistinct same_file (hidden_of hidden.old.items) }
+    ensures ok { OnOk result (held_with (files_of map.new.entries) (hidden_of hidden.new.items)
+        ≡ turned name.now (held_with (files_of map.old.entries) (hidden_of hidden.old.items))) }
+    ensures err { OnErr result (held_with (files_of map.new.entries) (hidden_of hidden.new.items)
+        ≡ held_with (files_of map.old.entries) (hidden_of hidden.old.items)) }
+{
+    if !map.contains_key(&name.path) {
+        return place(alloc, map, hidden, name, at);
+    }
+    let file = &mut hidden[at];
+    exchange(map, &name.path, &mut file.kept);
+    Ok(())
+}
+
+/// Takes a file out of those that aren't present to its path, which has none.
+fn place(
+    alloc: Global,
+    map: &mut BTreeMap<HostPath, KeptFile>,
+    hidden: &mut Vec<HiddenFile>,
+    name: &FileName,
+    at: usize,
+) -> Result<(), WantOfMemory>
+    requires free { file_at (files_of map.old.entries) name.now.path ≡ None }
+    requires there { Some at ≡ position (λ f. is_named name.now (hidden_file f)) hidden.old.items }
+    requires differ { IsDistinct same_file (hidden_of hidden.old.items) }
+    ensures ok { OnOk result (held_with (files_of map.new.entries) (hidden_of hidden.new.items)
+        ≡ turned name.now (held_with (files_of map.old.entries) (hidden_of hidden.old.items))) }
+    ensures err { OnErr result (held_with (files_of map.new.entries) (hidden_of hidden.new.items)
+        ≡ held_with (files_of map.old.entries) (hidden_of hidden.old.items)) }
+{
+    // An empty one takes the place first, so that nothing is lost where there is no room.
+    let path = name.path.replica(alloc)?;
+    let kept = KeptFile {
+        generation: name.generation,
+        bytes: List::new(alloc),
+        moment: 0,
+    };
+    map.insert(path, kept)?;
+    let mut file = hidden.remove(at);
+    exchange(map, &name.path, &mut file.kept);
+    Ok(())
+}
+
+/// Exchanges what is kept of the file at a path.
+fn exchange(map: &mut BTreeMap<HostPath, KeptFile>, path: &HostPath, kept: &mut KeptFile)
+    requires { is_some (file_at (files_of map.old.entries) path.now) ≡ true }
+    ensures given { file_at (files_of map.old.entries) path.now
+        ≡ Some (file_kept path.now kept.new) }
+    ensures rest { files_of map.new.entries
+        ≡ in_place path.now (file_kept path.now kept.old) (files_of map.old.entries) }
+{
+    match map.get_mut(path) {
+        Some(present) => mem::swap(present, kept),
+        // It is there.
+        None => (),
     }
 }

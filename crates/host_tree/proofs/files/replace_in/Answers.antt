@@ -1,4 +1,4 @@
-use Rattle.std.proofs.Common.{◌≡◌, sym, ap, ◌∙◌, Some, true, false, true≢false}
+use Rattle.std.proofs.Common.{◌≡◌, sym, ap, ◌∙◌, Some, false, true≢false}
 use Rattle.std.specs.BTreeMap.{is_at}
 use Rattle.std.specs.Map.{set_value}
 use Rattle.std.specs.Option.{is_some}

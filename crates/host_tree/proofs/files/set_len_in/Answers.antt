@@ -1,4 +1,4 @@
-use Rattle.std.proofs.Common.{ap, sym, Some, List, ℕ, ◌≡◌}
+use Rattle.std.proofs.Common.{ap, sym, Some, List, ℕ}
 use Rattle.std.specs.BTreeMap.{BTreeMap}
 use Rattle.host_tree.specs.Stored.{files_of, of_generation, stored_resized}
 use Rattle.host_tree.specs.Trees.{resized}

@@ -1,4 +1,4 @@
-use Rattle.std.proofs.Common.{◌≡◌, refl, sym, ap, ◌∙◌, true, false, None, Some, Option, List}
+use Rattle.std.proofs.Common.{◌≡◌, refl, sym, ap, ◌∙◌, false, None, Some, Option, List}
 use Rattle.std.specs.Option.{is_some}
 use Rattle.portal_base.specs.Content.{file_at}
 use Rattle.portal_base.specs.declared.files.File.{File}

@@ -1,7 +1,6 @@
-use Rattle.std.proofs.Common.{◌≡◌, ◌<◌, length, true, Some, sym, ap, ◌∙◌, arith}
+use Rattle.std.proofs.Common.{◌≡◌, ◌<◌, length, Some, sym, ap, ◌∙◌, arith}
 use Rattle.std.specs.List.{position_or_len}
-use Rattle.host_tree.specs.Stored.{file_of, files_of, is_stored}
-use Rattle.host_tree.specs.Trees.{has_file}
+use Rattle.host_tree.specs.Stored.{file_of, is_stored}
 use Rattle.host_tree.specs.declared.files.Stored.{Stored}
 use Rattle.host_tree.proofs.HiddenEntries.{got-there, has-place, is-found, path-named, set-listed, stored-found}
 use Rattle.host_tree.proofs.hidden.exchange_in.Goals as goal

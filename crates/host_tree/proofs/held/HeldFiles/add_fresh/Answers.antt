@@ -1,9 +1,7 @@
-use Rattle.std.proofs.Common.{◌≡◌, [], ◌∷◌, ◌++◌, false, true, List, sym, ap, subst, ◌∙◌}
-use Rattle.portal_base.specs.Content.{has_room}
+use Rattle.std.proofs.Common.{◌≡◌, true, sym, ap, subst, ◌∙◌}
 use Rattle.file_generations.specs.Generations.{fresh_file, freshened, held_with}
-use Rattle.portal_base.specs.declared.files.File.{File}
 use Rattle.host_tree.specs.Beside.{AreBeside}
-use Rattle.host_tree.specs.Trees.{has_file, may_fresh}
+use Rattle.host_tree.specs.Trees.{may_fresh}
 use Rattle.host_tree.proofs.BesideFiles.{beside-added}
 use Rattle.host_tree.proofs.HeldChanges.{may-be-fresh}
 use Rattle.host_tree.proofs.held.HeldFiles.add_fresh.Goals as goal

@@ -1,4 +1,4 @@
-use Rattle.std.proofs.Common.{None, Option, option_map, sym, ap, ◌∙◌}
+use Rattle.std.proofs.Common.{Option, option_map, sym, ap, ◌∙◌}
 use Rattle.portal_base.specs.Content.{file_named}
 use Rattle.file_generations.specs.Generations.{Held, all_held}
 use Rattle.host_tree.specs.Stored.{stored_of}

@@ -1,4 +1,4 @@
-use Rattle.std.proofs.Common.{◌≡◌, List, None, option_map, ap, ◌∙◌}
+use Rattle.std.proofs.Common.{List, option_map, ap, ◌∙◌}
 use Rattle.std.specs.List.{find}
 use Rattle.portal_base.specs.Content.{file_named}
 use Rattle.portal_base.specs.declared.files.File.{File}
