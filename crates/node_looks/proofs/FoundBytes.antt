@@ -1,5 +1,5 @@
 -- How a READ comes to its answer, and is served.
-use Rattle.std.proofs.Common.{◌≡◌, ℕ, List, Bool, true, false, not, cond, Option, Some, None, sym, ap, subst, ◌∙◌}
+use Rattle.std.proofs.Common.{◌≡◌, ℕ, Bool, true, false, not, cond, Option, Some, None, sym, ap, subst, ◌∙◌}
 use Rattle.std.specs.Option.{option_map}
 use Rattle.file_generations.specs.Generations.{Held, all_held}
 use Rattle.portal_base.specs.declared.who.Who.{Who}

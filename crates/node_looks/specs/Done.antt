@@ -1,5 +1,5 @@
 -- A request on a node, whatever it changes: the one relation that all of them are served by.
-use Rattle.std.specs.Prelude.{◌≡◌, ◌⊎◌, ℕ, nat_lt, List, [], length, Bool, is_some, true, false, not, Option, Some, None, option_map}
+use Rattle.std.specs.Prelude.{◌≡◌, ◌⊎◌, ℕ, nat_lt, [], length, Bool, is_some, true, false, not, Option, Some, None, option_map}
 use Rattle.file_generations.specs.Generations.{Held}
 use Rattle.host_tree.specs.Trees.{TreeIs}
 use Rattle.open_handles.specs.Opened.{HandleTable, Opened, opened_on}
