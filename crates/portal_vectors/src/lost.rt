@@ -17,6 +17,7 @@ use portal_base::names::{DocId, HostPath};
 use portal_base::outside::SetClock;
 use portal_base::who::Who;
 use portal_model::request::NodeRequest;
+use save_files::Temps;
 use std::alloc::Global;
 use vector_lines::error::{VectorError, bad, given};
 use vector_lines::notation::cut;
@@ -48,10 +49,12 @@ pub fn lost(alloc: Global, rest: &str) -> Result<String, VectorError> {
 fn asked(alloc: Global, request: &NodeRequest) -> Result<String, VectorError> {
     let mut handles = Handles::new(alloc, &LIMITS);
     let mut namings = Namings::new(alloc);
-    let shown = match put_file(alloc, &mut handles, &mut namings) {
-        Ok(()) => asked_by(alloc, &mut handles, &mut namings, request),
+    let mut temps = Temps::new(alloc);
+    let shown = match put_file(alloc, &mut handles, &mut namings, &mut temps) {
+        Ok(()) => asked_by(alloc, &mut handles, &mut namings, &mut temps, request),
         Err(error) => Err(error),
     };
+    drop(temps);
     drop(namings);
     drop(handles);
     shown
@@ -62,12 +65,14 @@ fn put_file(
     alloc: Global,
     handles: &mut Handles,
     namings: &mut Namings,
+    temps: &mut Temps,
 ) -> Result<(), VectorError> {
-    if handles.is_entered(SEAT) || namings.is_entered(SEAT) {
+    if handles.is_entered(SEAT) || namings.is_entered(SEAT) || temps.is_entered(SEAT) {
         return bad();
     }
     handles.enter(SEAT)?;
     namings.enter(SEAT)?;
+    temps.enter(SEAT)?;
     let file = file(alloc)?;
     if !handles.is_entered(SEAT) {
         return bad();
@@ -81,6 +86,7 @@ fn asked_by(
     alloc: Global,
     handles: &mut Handles,
     namings: &mut Namings,
+    temps: &mut Temps,
     request: &NodeRequest,
 ) -> Result<String, VectorError> {
     let documents = Documents::new(alloc, &LIMITS);
@@ -94,7 +100,7 @@ fn asked_by(
         },
         file_limit: LIMITS.file_bytes,
     };
-    served(alloc, &book, handles, namings, request)
+    served(alloc, &book, handles, namings, temps, request)
 }
 
 fn served(
@@ -102,9 +108,10 @@ fn served(
     book: &FileBook,
     handles: &mut Handles,
     namings: &mut Namings,
+    temps: &mut Temps,
     request: &NodeRequest,
 ) -> Result<String, VectorError> {
-    if !handles.is_entered(SEAT) || !namings.is_entered(SEAT) {
+    if !handles.is_entered(SEAT) || !namings.is_entered(SEAT) || !temps.is_entered(SEAT) {
         return bad();
     }
     let call = NodeCall {
@@ -116,7 +123,7 @@ fn served(
     let mut clock = SetClock::new(9);
     let mut rooms = LookRooms::new(alloc);
     let done = serve_node(
-        alloc, &mut rooms, book, handles, namings, &mut tree, &mut clock, &call,
+        alloc, &mut rooms, book, handles, namings, temps, &mut tree, &mut clock, &call,
     );
     drop(rooms);
     drop(tree);

@@ -3,10 +3,10 @@ use Rattle.std.proofs.Common.{◌≡◌, ℕ, ◌<◌, ◌^◌, ◌==◌, List, 
 use Rattle.std.specs.Prelude.{IfSome}
 use Rattle.std.proofs.lemmas.Bool.Decides.{nat_tests}
 use Rattle.document_calls.specs.KeeperCalls.{is_keeper}
+use Rattle.file_generations.specs.Generations.{Held}
 use Rattle.portal_base.specs.Calls.{Calls, is_to_fail, next_call}
 use Rattle.portal_base.specs.Names.{is_same}
 use Rattle.portal_base.specs.Outside.{Draws}
-use Rattle.portal_base.specs.declared.files.File.{File}
 use Rattle.portal_base.specs.declared.files.Look.{Look}
 use Rattle.portal_base.specs.declared.names.doc_id.DocId.{DocId}
 use Rattle.portal_steps.specs.Devices.{Drawn}
@@ -24,9 +24,9 @@ use Rattle.portal_model.specs.Documents.{IsUnused, above}
 use Rattle.portal_model.specs.Lawful.{LawfulOnBus, LawfulOnNode}
 use Rattle.portal_model.specs.Node.{walk_on_node}
 use Rattle.portal_model.specs.Outside.{AreDrawn, ChangesRecords, files_told, meets_limit, verdict_of, words_drawn}
-use Rattle.portal_model.specs.State.{State, connection_of}
+use Rattle.portal_model.specs.State.{State, connection_of, held_in}
 use Rattle.portal_model.specs.Step.{after, all_told, bus_of, mount_of}
-use Rattle.portal_model.specs.Walk.{Gives, GivesNames, reads_clock, walked}
+use Rattle.portal_model.specs.Walk.{Gives, GivesNames, generation_reached, reads_clock, walked}
 use Rattle.portal_model.proofs.ListLookups.{is_same-eq, nat_is}
 use Rattle.portal_model.proofs.StaysTold.{step_told}
 use Rattle.portal_model.proofs.TripleOrder.{is_same-refl}
@@ -129,8 +129,8 @@ no_keeper Fault.None h = refl
 no_keeper Fault.Tree h = refl
 no_keeper Fault.Keeper h = absurd (h refl)
 
-told_files : (s : State) → s.told ≡ true → files_told s ≡ Some s.files
-told_files s t = ap (λ (b : Bool). cond b (Some s.files) None) t
+told_files : (s : State) → s.told ≡ true → files_told s ≡ Some (held_in s)
+told_files s t = ap (λ (b : Bool). cond b (Some (held_in s)) None) t
 
 abbrev entry : ℕ → Request → Given → Entry
 entry seat request given = record { seat = seat; request = request; given = given }
@@ -144,17 +144,17 @@ node_one s r g h calls moment (Some x) t c d m n l k =
     let at = all_told x.seat s in
     let w = walk_on_node at x r in
     let told = told_files at t in
-    let lg = subst (λ (files : Option (List File)). Gives files w g.looks (is_tree g.fault)) told l.looks in
-    let lh = subst (λ (files : Option (List File)). Gives files w h.looks (is_tree h.fault)) told k.looks in
-    let both = one_given call_doing s.files w g.looks h.looks (is_tree g.fault) (is_tree h.fault) calls lg lh c d in
+    let lg = subst (λ (files : Option Held). Gives files w g.looks (is_tree g.fault)) told l.looks in
+    let lh = subst (λ (files : Option Held). Gives files w h.looks (is_tree h.fault)) told k.looks in
+    let both = one_given call_doing (held_in s) w g.looks h.looks (is_tree g.fault) (is_tree h.fault) calls lg lh c d in
     let read : is_some g.now ≡ is_some h.now = l.clock ∙ (ap (reads_clock w) both.0 ∙ sym k.clock) in
-    let ng = subst (λ (files : Option (List File)). GivesNames files w g.looks g.listed (is_tree g.fault)) told l.listed in
-    let nh = subst (λ (files : Option (List File)). GivesNames files w h.looks h.listed (is_tree h.fault)) told k.listed in
-    let listed : g.listed ≡ h.listed = one_listed s.files w h.looks g.listed h.listed (is_tree h.fault)
-    (subst (λ (ls : List Look). GivesNames (Some s.files) w ls g.listed (is_tree h.fault)) both.0 (subst (λ (f : Bool). GivesNames (Some s.files) w g.looks g.listed f) both.1 ng)) nh in
+    let ng = subst (λ (files : Option Held). GivesNames files w g.looks g.listed (is_tree g.fault)) told l.listed in
+    let nh = subst (λ (files : Option Held). GivesNames files w h.looks h.listed (is_tree h.fault)) told k.listed in
+    let listed : g.listed ≡ h.listed = one_listed (held_in s) w h.looks g.listed h.listed (is_tree h.fault)
+    (subst (λ (ls : List Look). GivesNames (Some (held_in s)) w ls g.listed (is_tree h.fault)) both.0 (subst (λ (f : Bool). GivesNames (Some (held_in s)) w g.looks g.listed f) both.1 ng)) nh in
     given_is g h
     (moment_one g.now h.now moment read m n)
-    (l.words ∙ sym k.words) (l.numbers ∙ sym k.numbers) both.0 listed (l.generation ∙ sym k.generation) (l.full ∙ sym k.full)
+    (l.words ∙ sym k.words) (l.numbers ∙ sym k.numbers) both.0 listed (l.generation ∙ (ap (generation_reached w) both.0 ∙ sym k.generation)) (l.full ∙ sym k.full)
     (fault_is g.fault h.fault both.1 (no_keeper g.fault l.keeper ∙ sym (no_keeper h.fault k.keeper)))
 
 -- ---- on documents
@@ -171,9 +171,9 @@ module _ (s : State) (o : Outside) (request : Request) (g h : Given) (left also 
       let wh = bus_walk at x request h.numbers in
       let alike = bus_alike at x request g.numbers h.numbers in
       let told = told_files at t in
-      let lg = subst (λ (files : Option (List File)). Gives files wg g.looks (is_tree g.fault)) told l.looks in
-      let lh = subst (λ (files : Option (List File)). Gives files wh h.looks (is_tree h.fault)) told k.looks in
-      let both = alike_given DrawAlike only_looks s.files wg wh g.looks h.looks (is_tree g.fault) (is_tree h.fault) o.tree alike lg lh c d in
+      let lg = subst (λ (files : Option Held). Gives files wg g.looks (is_tree g.fault)) told l.looks in
+      let lh = subst (λ (files : Option Held). Gives files wh h.looks (is_tree h.fault)) told k.looks in
+      let both = alike_given DrawAlike only_looks (held_in s) wg wh g.looks h.looks (is_tree g.fault) (is_tree h.fault) o.tree alike lg lh c d in
       let count : words_drawn (verdict_of at x request g) ≡ words_drawn (verdict_of at x request h) =
       alike_drawn wg wh g.looks (moment_given g.now) (moment_given h.now) (is_tree g.fault) alike
       ∙ (ap (λ (z : List Look). words_drawn (walked wh (moment_given h.now) z (is_tree g.fault))) both.0

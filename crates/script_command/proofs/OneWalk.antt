@@ -1,10 +1,10 @@
 -- Over a tree that tells its files and its calls, one thing is given to a walk.
 use Rattle.std.proofs.Common.{◌≡◌, ℕ, List, [], ◌∷◌, Bool, true, false, Option, Some, None, is_some, refl, sym, ap, subst, ◌∙◌}
 use Rattle.std.specs.Prelude.{IfSome}
+use Rattle.file_generations.specs.Generations.{Held}
 use Rattle.host_tree.specs.declared.tree.TreeCall.{TreeCall}
 use Rattle.node_looks.specs.TreeCalls.{CallsAsTold, calls_by}
 use Rattle.portal_base.specs.Calls.{Calls, next_call}
-use Rattle.portal_base.specs.declared.files.File.{File}
 use Rattle.portal_base.specs.declared.files.ChildName.{ChildName}
 use Rattle.portal_base.specs.declared.files.Look.{Look}
 use Rattle.portal_model.specs.Walk.{Walk, Answers, Looks, Ends, Lists, Gives, GivesNames}
@@ -15,7 +15,7 @@ not_both f b t e k = let x : true ≡ false = sym t ∙ (e ∙ sym k) in absurd 
 
 module _ {X : Type 0} (last : X → TreeCall) where
   -- the same looks are given, and the same call fails
-  pub one_given : (files : List File) (w : Walk X) (xs ys : List Look) (f g : Bool) (calls : Calls) → Gives (Some files) w xs f → Gives (Some files) w ys g
+  pub one_given : (files : Held) (w : Walk X) (xs ys : List Look) (f g : Bool) (calls : Calls) → Gives (Some files) w xs f → Gives (Some files) w ys g
       → CallsAsTold (Some calls) (calls_by last w xs f) → CallsAsTold (Some calls) (calls_by last w ys g) → (xs ≡ ys) × (f ≡ g)
   one_given files (Answers x) xs ys f g calls a b c d = (a.0 ∙ sym b.0, a.1 ∙ sym b.1)
   one_given files (Looks target next) [] [] f g calls a b c d = (refl, a ∙ sym b)
@@ -37,7 +37,7 @@ module _ {X : Type 0} (last : X → TreeCall) where
   one_given files (Lists path done missing) xs ys f g calls a b c d = (a ∙ sym b, c.0 ∙ sym d.0)
 
 -- and the same names are listed
-pub one_listed : {X : Type 0} (files : List File) (w : Walk X) (xs : List Look) (m n : Option (List ChildName)) (f : Bool) → GivesNames (Some files) w xs m f → GivesNames (Some files) w xs n f → m ≡ n
+pub one_listed : {X : Type 0} (files : Held) (w : Walk X) (xs : List Look) (m n : Option (List ChildName)) (f : Bool) → GivesNames (Some files) w xs m f → GivesNames (Some files) w xs n f → m ≡ n
 one_listed files (Answers x) xs m n f a b = a ∙ sym b
 one_listed files (Looks target next) [] m n f a b = a ∙ sym b
 one_listed files (Looks target next) (x ∷ xs) m n f a b = one_listed files (next x) xs m n f a b

@@ -24,7 +24,7 @@ use Rattle.script_command.specs.Runs.{IsSound}
 use Rattle.portal_model.specs.Store.{Entries}
 use Rattle.record_keeper.specs.KeptEntries.{KeepEntries}
 use Rattle.record_keeper.proofs.HeldEntries.{good_rows}
-use Rattle.script_form.specs.Devices.{tree_files}
+use Rattle.script_form.specs.Devices.{held_files, tree_files}
 use Rattle.script_form.specs.Opening.{entries_of, opening_with}
 use Rattle.script_form.specs.Order.{IsScript}
 use Rattle.script_form.proofs.FilesPlaced.{script_placed}
@@ -90,7 +90,7 @@ plays_lawful (line ∷ front) a b es out (first, more, said, rest, mid, entries_
 -- the state that a script opens with is an opening state
 pub script_opens : (entries : Entries) (lines : List ScriptLine) → IsScript lines → KeepEntries (entries_of lines) entries → Valid (opening_state entries lines) → IsOpeningState (opening_state entries lines)
 script_opens entries lines good kept valid =
-    opens-told (Some (tree_files lines)) (opening_with entries run_limits lines) valid
+    opens-told (Some (held_files lines)) (opening_with entries run_limits lines) valid
     (good_rows (entries_of lines) entries (never_bad run_limits lines good holds).entries kept)
     (record { placed = script_placed lines good; names = list_all-map is_host_path (λ (f : HostFile). f.path) (tree_files lines) ∙ valid.files_named })
 

@@ -1,10 +1,12 @@
 -- Files in a table by path, and in a tree; the state that a script opens with, as plain data.
-use Rattle.std.proofs.Common.{◌≡◌, ℕ, List, [], ◌∷◌, Bool, true, false, cond, Some, None, Result, Ok, Err, IfOk, map, refl, sym, ap, ◌∙◌, subst}
+use Rattle.std.proofs.Common.{◌≡◌, ℕ, List, [], ◌∷◌, Bool, true, false, ◌&&◌, cond, Some, None, Result, Ok, Err, IfOk, map, refl, sym, ap, ◌∙◌, subst}
 use Rattle.std.specs.BTreeMap.{insert_entry, is_at}
+use Rattle.std.specs.List.{list_all}
 use Rattle.std.specs.Map.{lookup}
 use Rattle.std.specs.Ordering.{is_eq, is_lt, match_ordering}
 use Rattle.std.specs.declared.cmp.Ordering.{Ordering}
 use Rattle.std.specs.declared.cmp.Ordering.TheVariants.{Less, Equal, Greater}
+use Rattle.std.proofs.lemmas.Bool.{and_parts}
 use Rattle.host_tree.proofs.Entries.{put-is-new, same-key}
 use Rattle.host_tree.specs.Trees.{put_file}
 use Rattle.portal_base.specs.declared.limits.Limits.{Limits}
@@ -14,11 +16,11 @@ use Rattle.portal_base.specs.Names.{is_same}
 use Rattle.portal_base.specs.PathOrder.{path_order}
 use Rattle.portal_model.specs.declared.opening.FileItem.{FileItem}
 use Rattle.portal_model.specs.declared.opening.OpeningState.{OpeningState}
-use Rattle.portal_model.specs.Opening.{file_of}
+use Rattle.portal_model.specs.Opening.{file_of, is_first_item}
 use Rattle.script_lines.specs.declared.script.ScriptLine.{ScriptLine}
 use Rattle.script_form.specs.Devices.{tree_files}
 use Rattle.script_form.specs.Opening.{IsOpening, opening_with}
-use Rattle.script_command.specs.Openings.{AreAtTheirs, StandsFor, files_in}
+use Rattle.script_command.specs.Openings.{AreAtTheirs, AreFirst, StandsFor, files_in}
 use Rattle.script_replay.specs.Scenes.{run_limits}
 
 abbrev Table : Type 0
@@ -74,6 +76,21 @@ module _ (f : FileItem) where
           ap (λ (p : List ℕ). p ∷ map (λ (x : List ℕ × FileItem). x.0) (insert_entry path_order es f.path f)) (first_at e es h)
           ∙ ap (λ (ps : List (List ℕ)). e.1.path ∷ ps) (more m)
 
+  first_in : is_first_item f ≡ true → (es : Table) → AreFirst es → AreFirst (insert_entry path_order es f.path f)
+  first_in is [] h = λ i. is i && true
+  first_in is (e ∷ es) h = step (path_order f.path e.0)
+    where
+      parts : (is_first_item e.1 ≡ true) × AreFirst es
+      parts = and_parts (is_first_item e.1) (list_all is_first_item (map (λ (x : List ℕ × FileItem). x.1) es)) h
+
+      more : AreFirst (insert_entry path_order es f.path f)
+      more = first_in is es parts.1
+
+      step : (o : Ordering) → AreFirst (match_ordering o ((f.path, f) ∷ e ∷ es) ((e.0, f) ∷ es) (e ∷ insert_entry path_order es f.path f))
+      step Less = λ i. is i && h i
+      step Equal = λ i. is i && parts.1 i
+      step Greater = λ i. parts.0 i && more i
+
 -- a file that is added where the paths then are those of a tree
 module _ (item g : FileItem) (k : List ℕ) (old new : Table) (same : g ≡ item) (at : k ≡ item.path) (keyed : AreAtTheirs old) (placed : ArePlaced (paths_of (put_file (file_of item) (files_in old)))) (is : new ≡ insert_entry path_order old k g) where
   new_there : lookup (is_at (path_order item.path)) old ≡ None
@@ -88,6 +105,9 @@ module _ (item g : FileItem) (k : List ℕ) (old new : Table) (same : g ≡ item
   pub keyed_added : AreAtTheirs new
   keyed_added = subst AreAtTheirs (sym is_put) (keyed_in item old keyed new_there)
 
+  pub first_added : is_first_item item ≡ true → AreFirst old → AreFirst new
+  first_added one firsts = subst AreFirst (sym is_put) (first_in item one old firsts)
+
 -- ---- the files of a table
 
 files_are : (table : Table) → map file_of (map (λ (e : List ℕ × FileItem). e.1) table) ≡ files_in table
@@ -99,15 +119,20 @@ pub in_order : {E : Type 0} (r : Result (List FileItem) E) (table : Table) (file
 in_order (Ok items) table files t e = ap (map file_of) e ∙ (files_are table ∙ t)
 in_order (Err x) table files t e = tt
 
+pub first_taken : {E : Type 0} (r : Result (List FileItem) E) (table : Table) → AreFirst table → IfOk r (λ (items : List FileItem). items ≡ map (λ (e : List ℕ × FileItem). e.1) table) → IfOk r (λ (items : List FileItem). list_all is_first_item items ≡ true)
+first_taken (Ok items) table firsts e = ap (list_all is_first_item) e ∙ firsts
+first_taken (Err x) table firsts e = tt
+
 -- ---- the state that a script opens with
 
 -- the state that the script reads as, with the files of its tree in place of its own
-pub stands_for : (lines : List ScriptLine) (limits : Limits) (opening o : OpeningState) (files : List FileItem) → limits ≡ run_limits → IsOpening limits lines opening → map file_of files ≡ tree_files lines → o ≡ record opening { files = files }
+pub stands_for : (lines : List ScriptLine) (limits : Limits) (opening o : OpeningState) (files : List FileItem) → limits ≡ run_limits → IsOpening limits lines opening → map file_of files ≡ tree_files lines → list_all is_first_item files ≡ true → o ≡ record opening { files = files }
     → StandsFor lines o
-stands_for lines limits opening o files l is tree e =
+stands_for lines limits opening o files l is tree first e =
     let whole : opening ≡ opening_with opening.entries run_limits lines = is.whole ∙ ap (λ (x : Limits). opening_with opening.entries x lines) l in
     subst (StandsFor lines) (sym e) (record {
       whole = ap (λ (x : OpeningState). record x { files = files }) whole;
       entries = is.entries;
       files = tree;
+      first = first;
     })

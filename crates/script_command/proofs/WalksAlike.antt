@@ -1,9 +1,9 @@
 -- Walks of requests on documents that look alike: over a tree that tells its files and its calls, what is given to the one is given to the other.
 use Rattle.std.proofs.Common.{◌≡◌, ℕ, List, [], ◌∷◌, Bool, false, Some, refl, sym, ap, subst, ◌∙◌}
+use Rattle.file_generations.specs.Generations.{Held}
 use Rattle.host_tree.specs.declared.tree.TreeCall.{TreeCall}
 use Rattle.node_looks.specs.TreeCalls.{CallsAsTold, calls_by}
 use Rattle.portal_base.specs.Calls.{Calls, next_call}
-use Rattle.portal_base.specs.declared.files.File.{File}
 use Rattle.portal_base.specs.declared.files.Look.{Look}
 use Rattle.portal_model.specs.Outside.{words_drawn}
 use Rattle.portal_model.specs.Verdict.{Verdict}
@@ -37,7 +37,7 @@ module _ {X : Type 0} (Same : X → X → Type 0) where
   alike_clock (Lists path done missing) u looks h = absurd h
 
   -- the same looks are given, and the same call fails
-  pub alike_given : (last : X → TreeCall) (files : List File) (w u : Walk X) (xs ys : List Look) (f g : Bool) (calls : Calls) → WalkAlike w u → Gives (Some files) w xs f → Gives (Some files) u ys g
+  pub alike_given : (last : X → TreeCall) (files : Held) (w u : Walk X) (xs ys : List Look) (f g : Bool) (calls : Calls) → WalkAlike w u → Gives (Some files) w xs f → Gives (Some files) u ys g
       → CallsAsTold (Some calls) (calls_by last w xs f) → CallsAsTold (Some calls) (calls_by last u ys g) → (xs ≡ ys) × (f ≡ g)
   alike_given last files (Answers x) (Answers y) xs ys f g calls h a b c d = (a.0 ∙ sym b.0, a.1 ∙ sym b.1)
   alike_given last files (Answers x) (Looks other more) xs ys f g calls h a b c d = absurd h

@@ -4,18 +4,20 @@ use Rattle.std.proofs.lemmas.List.{append-nil}
 use Rattle.app_trace.specs.declared.trace.Trace as plain
 use Rattle.app_trace.specs.Told.{trace_told}
 use Rattle.app_world.specs.World.{Trace, trace}
+use Rattle.file_generations.specs.Generations.{Held, held_with}
 use Rattle.portal_base.specs.declared.files.File.{File}
 use Rattle.portal_model.specs.declared.entry.Entry.{Entry}
 use Rattle.portal_model.specs.declared.opening.OpeningState.{OpeningState}
 use Rattle.portal_desk.specs.Opening.{IsOpeningState}
 use Rattle.portal_model.specs.History.{Legal, cost}
+use Rattle.portal_model.proofs.OpeningLaws.{items-first}
 use Rattle.portal_model.specs.Opening.{opened, opened_over}
 use Rattle.portal_model.specs.State.{State}
 use Rattle.portal_model.specs.Store.{Entries}
 use Rattle.record_keeper.proofs.KeptFacts.{kept_in_one_way}
 use Rattle.script_lines.specs.declared.script.ScriptLine.{ScriptLine}
 use Rattle.script_lines.specs.Lines.{text_of}
-use Rattle.script_form.specs.Devices.{tree_files}
+use Rattle.script_form.specs.Devices.{held_files}
 use Rattle.script_form.specs.Opening.{entries_of}
 use Rattle.script_form.specs.Order.{IsRead, IsScript}
 use Rattle.script_command.specs.Inputs.{script_limit}
@@ -58,8 +60,9 @@ module _ (lines : List ScriptLine) (p : ScriptPortal) (o : OpeningState) (entrie
 
   first : opened o ≡ opening_state ran.replay.entries lines
   first =
-      ap (λ (fs : List File). opened_over (Some fs) o) stands.files
-      ∙ (ap (λ (x : OpeningState). opened_over (Some (tree_files lines)) x) stands.whole ∙ ap (λ (z : Entries). opening_state z lines) same_entries)
+      ap (λ (held : Held). opened_over (Some held) o) (items-first o.files stands.first)
+      ∙ (ap (λ (fs : List File). opened_over (Some (held_with fs [])) o) stands.files
+      ∙ (ap (λ (x : OpeningState). opened_over (Some (held_files lines)) x) stands.whole ∙ ap (λ (z : Entries). opening_state z lines) same_entries))
 
   pub legal : Legal (opened o) entries
   legal = subst (λ (s : State). Legal s entries) (sym first) (subst (λ (h : List Entry). Legal (opening_state ran.replay.entries lines) h) (sym is) ran.replay.sound.legal)

@@ -1,13 +1,14 @@
 //! The state that a script opens with, as plain data.
 
-ghost use Rattle.std.specs.Prelude.{◌≡◌, IfOk, OnOk, map};
+ghost use Rattle.std.specs.Prelude.{◌≡◌, IfOk, OnOk, map, true};
+ghost use Rattle.std.specs.List.{list_all};
 ghost use Rattle.host_tree.specs.Trees.{file_with, put_file};
 ghost use Rattle.portal_base.specs.Content.{ArePlaced, paths_of};
-ghost use Rattle.portal_model.specs.Opening.{file_of, first_item};
+ghost use Rattle.portal_model.specs.Opening.{file_of, first_item, is_first_item};
 ghost use Rattle.script_form.specs.Devices.{tree_files, with_files};
 ghost use Rattle.script_form.specs.Opening.{file_in, time_behind};
 ghost use Rattle.script_form.specs.Order.{IsScript};
-ghost use Rattle.script_command.specs.Openings.{AreAtTheirs, StandsFor, files_in};
+ghost use Rattle.script_command.specs.Openings.{AreAtTheirs, AreFirst, StandsFor, files_in};
 
 use portal_base::list::{ByteList, List};
 use portal_base::memory::{Replica, WantOfMemory};
@@ -23,7 +24,7 @@ use std::collections::BTreeMap;
 type FileTable = BTreeMap<HostPath, FileItem>;
 
 /// The state that a script opens with, whose files stand in the order of their
-/// paths, as a tree has them.
+/// paths, as a tree has them, each the first of its path.
 pub fn opening_over_tree(alloc: Global, script: &Script) -> Result<OpeningState, WantOfMemory>
     requires { IsScript script.now.lines }
     ensures { IfOk result (StandsFor script.now.lines) }
@@ -64,7 +65,8 @@ fn holding(opening: OpeningState, files: List<FileItem>) -> OpeningState
 /// The files that lines add, in the order of their paths.
 fn files_by_path(alloc: Global, lines: &[ScriptLine]) -> Result<List<FileItem>, WantOfMemory>
     requires { IsScript lines.now }
-    ensures { IfOk result (λ files. map file_of files ≡ tree_files lines.now) }
+    ensures files { IfOk result (λ files. map file_of files ≡ tree_files lines.now) }
+    ensures first { IfOk result (λ files. list_all is_first_item files ≡ true) }
 {
     let table = table_of(alloc, lines)?;
     files_of(alloc, table)
@@ -81,7 +83,8 @@ fn files_of(alloc: Global, table: FileTable) -> Result<List<FileItem>, WantOfMem
 /// The table of the files that lines add.
 fn table_of(alloc: Global, lines: &[ScriptLine]) -> Result<FileTable, WantOfMemory>
     requires { IsScript lines.now }
-    ensures { IfOk result (λ table. files_in table.entries ≡ tree_files lines.now) }
+    ensures files { IfOk result (λ table. files_in table.entries ≡ tree_files lines.now) }
+    ensures first { IfOk result (λ table. AreFirst table.entries) }
 {
     let mut table = BTreeMap::new(alloc);
     let mut time = 0;
@@ -104,9 +107,11 @@ fn add_line(
     requires placed { ArePlaced
         (paths_of (with_files (files_in table.old.entries) (file_in time.old line.now))) }
     requires keyed { AreAtTheirs table.old.entries }
+    requires first { AreFirst table.old.entries }
     ensures files { OnOk result (files_in table.new.entries
         ≡ with_files (files_in table.old.entries) (file_in time.old line.now)) }
     ensures keyed { OnOk result (AreAtTheirs table.new.entries) }
+    ensures first { OnOk result (AreFirst table.new.entries) }
     ensures time { OnOk result (time.new ≡ time_behind time.old line.now) }
 {
     match line {
@@ -130,9 +135,11 @@ fn add_file(
     requires placed { ArePlaced (paths_of (put_file (file_with path.now content.now moment)
         (files_in table.old.entries))) }
     requires keyed { AreAtTheirs table.old.entries }
+    requires first { AreFirst table.old.entries }
     ensures files { OnOk result (files_in table.new.entries
         ≡ put_file (file_with path.now content.now moment) (files_in table.old.entries)) }
     ensures keyed { OnOk result (AreAtTheirs table.new.entries) }
+    ensures first { OnOk result (AreFirst table.new.entries) }
 {
     let file = item(alloc, path, content, moment)?;
     let Ok(key) = path.replica(alloc) else {

@@ -8,3 +8,4 @@ pub mod RecordsFacts
 pub mod WrittenFacts
 pub mod FilesPlaced
 pub mod OpeningFacts
+pub mod FirstFiles

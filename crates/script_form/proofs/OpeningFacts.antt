@@ -3,7 +3,7 @@ use Rattle.std.proofs.Common.{◌≡◌, List, [], map, Some, Result, Ok, Err, r
 use Rattle.std.specs.Prelude.{IfOk}
 use Rattle.std.specs.List.{IsDistinct}
 use Rattle.portal_base.specs.declared.limits.Limits.{Limits}
-use Rattle.portal_model.specs.Opening.{SoundOpening, ValidOpening, file_of}
+use Rattle.portal_model.specs.Opening.{SoundOpening, ValidOpening, file_of, held_items}
 use Rattle.portal_model.specs.Store.{Entries}
 use Rattle.portal_model.specs.declared.opening.OpeningState.{OpeningState}
 use Rattle.portal_model.proofs.OpeningLaws.{sound-ValidOpening}
@@ -47,14 +47,14 @@ sound limits lines entries good holds kept =
     }
 
 opening_valid : (limits : Limits) (lines : List ScriptLine) (state : OpeningState) → IsScript lines → IsOpening limits lines state → HoldsScripts limits
-    → ValidOpening (Some (map file_of state.files)) state
+    → ValidOpening (Some (held_items state.files)) state
 opening_valid limits lines state good is holds =
     let opened : OpeningState = opening_with state.entries limits lines in
-    subst (λ (s : OpeningState). ValidOpening (Some (map file_of s.files)) s) (sym is.whole) (sound-ValidOpening opened (sound limits lines state.entries good holds is.entries))
+    subst (λ (s : OpeningState). ValidOpening (Some (held_items s.files)) s) (sym is.whole) (sound-ValidOpening opened (sound limits lines state.entries good holds is.entries))
 
 pub valid_result : {E : Type 0} (limits : Limits) (lines : List ScriptLine) (result : Result OpeningState E) → IsScript lines
     → IfOk result (IsOpening limits lines) → HoldsScripts limits
-    → IfOk result (λ state. ValidOpening (Some (map file_of state.files)) state)
+    → IfOk result (λ state. ValidOpening (Some (held_items state.files)) state)
 valid_result limits lines (Ok state) good is holds = opening_valid limits lines state good is holds
 valid_result limits lines (Err error) good is holds = tt
 

@@ -1,7 +1,7 @@
 -- The devices of a script, before their first use.
 use Rattle.std.specs.Prelude.{ℕ, List, [], ◌∷◌}
 use Rattle.host_tree.specs.Devices.{TreeState}
-use Rattle.host_tree.specs.Trees.{held_with, put_file, unnoted}
+use Rattle.host_tree.specs.Trees.{Held, held_with, put_file, unnoted}
 use Rattle.portal_base.specs.Calls.{uncalled}
 use Rattle.portal_base.specs.declared.files.File.{File}
 use Rattle.portal_model.specs.Opening.{each, file_of}
@@ -24,6 +24,10 @@ with_files files (item ∷ items) = with_files (put_file (file_of item) files) i
 -- the files of a script, as a tree has them
 abbrev pub tree_files : List ScriptLine → List File
 tree_files lines = with_files [] (files_of lines)
+
+-- and none beside them
+abbrev pub held_files : List ScriptLine → Held
+held_files lines = held_with (tree_files lines) []
 
 -- a tree with these files, all of them present, before its first call, and with the numbers of the
 -- calls that fail

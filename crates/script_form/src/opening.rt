@@ -2,7 +2,7 @@
 
 ghost use Rattle.std.specs.Prelude.{◌≡◌, ◌++◌, IfOk, OnOk, Some, fold, map};
 ghost use Rattle.std.specs.List.{All};
-ghost use Rattle.portal_model.specs.Opening.{each, names_kept, id_of, file_of, ValidOpening};
+ghost use Rattle.portal_model.specs.Opening.{each, held_items, names_kept, id_of, ValidOpening};
 ghost use Rattle.script_lines.specs.Lines.{KeepsRules};
 ghost use Rattle.record_keeper.specs.Naming.{also_named};
 ghost use Rattle.script_form.specs.Opening.{IsOpening, document_in, documents_of, entry_in, entries_of, file_in, files_of, time_behind as time_after, applications_of, HoldsScripts};
@@ -33,7 +33,7 @@ pub fn opening_of(
     requires { IsScript script.now.lines }
     ensures state { IfOk result (IsOpening limits script.now.lines) }
     ensures valid { HoldsScripts limits
-        → IfOk result (λ state. ValidOpening (Some (map file_of state.files)) state) }
+        → IfOk result (λ state. ValidOpening (Some (held_items state.files)) state) }
 {
     state_of(alloc, script, limits)
 }

@@ -1,9 +1,10 @@
 -- The portal that a script opens.
 use Rattle.std.proofs.Common.{◌≡◌, ℕ, ◌≤◌, ◌==◌, List, [], ◌∷◌, ◌++◌, map, Option, Some, None, true, false, inl, inr, refl, sym, ap, ◌∙◌, subst, arith}
+use Rattle.file_generations.specs.Generations.{Held}
 use Rattle.host_tree.specs.Devices.{TreeState, tree_of}
 use Rattle.portal_base.specs.Calls.{Calls, FailsAsTold, next_call}
 use Rattle.portal_base.specs.declared.limits.Limits.{Limits}
-use Rattle.portal_start.specs.Loading.{LoadsBadly}
+use Rattle.portal_start.specs.Loading.{BeganFirst, LoadsBadly}
 use Rattle.portal_core.specs.Started.{Starts}
 use Rattle.portal_start.specs.declared.start.StartError.{StartError}
 use Rattle.portal_start.specs.declared.start.StartError.TheVariants as start_error
@@ -19,8 +20,9 @@ use Rattle.record_keeper.specs.declared.fault.RecordsFault.{RecordsFault}
 use Rattle.record_keeper.specs.declared.fault.RecordsFault.TheVariants as wrong
 use Rattle.record_keeper.specs.declared.keeper.KeeperLoad.TheVariants as load
 use Rattle.record_keeper.proofs.OneIsWrong.{one_is_wrong}
-use Rattle.script_form.specs.Devices.{script_keeper, script_tree, script_words, tree_files}
+use Rattle.script_form.specs.Devices.{held_files, script_keeper, script_tree, script_words}
 use Rattle.script_form.specs.Opening.{HoldsScripts}
+use Rattle.script_form.proofs.FirstFiles.{first_alone, none_beside}
 use Rattle.script_form.specs.Order.{IsScript}
 use Rattle.script_form.proofs.RecordsFacts.{never_bad}
 use Rattle.script_form.specs.Outside.{Outside, after_keeper_call, outside_of}
@@ -34,7 +36,6 @@ use Rattle.portal_model.specs.Store.{Entries}
 use Rattle.portal_model.specs.declared.opening.OpeningDocument.{OpeningDocument}
 use Rattle.portal_model.specs.declared.records.DocRecord.{DocRecord}
 use Rattle.portal_start.specs.Loading.{document_loaded, opening_loaded}
-use Rattle.portal_base.specs.declared.files.File.{File}
 use Rattle.portal_base.specs.declared.names.doc_id.DocId.{DocId}
 use Rattle.record_keeper.specs.BadRecords.{names_granted}
 use Rattle.script_form.specs.Opening.{document_in, documents_of, entries_of, opening_with, records_of}
@@ -68,7 +69,7 @@ loaded_names : (ds : List OpeningDocument) → each names_granted (map (λ (d : 
 loaded_names [] = refl
 loaded_names (d ∷ ds) = ap (λ (z : List (List ℕ)). names_kept d ++ z) (loaded_names ds)
 
-abbrev over : Option (List File) → List OpeningDocument → List DocId → List (List ℕ) → Entries → State
+abbrev over : Option Held → List OpeningDocument → List DocId → List (List ℕ) → Entries → State
 over files documents made applications entries = opened_over files (record {
   limits = run_limits;
   documents = documents;
@@ -80,7 +81,7 @@ over files documents made applications entries = opened_over files (record {
 })
 
 -- the state that stands for the records of a script is the one that the script opens with
-pub loaded_state : (entries : Entries) (files : Option (List File)) (lines : List ScriptLine) → opened_over files (opening_loaded entries run_limits (records_of lines)) ≡ opened_over files (opening_with entries run_limits lines)
+pub loaded_state : (entries : Entries) (files : Option Held) (lines : List ScriptLine) → opened_over files (opening_loaded entries run_limits (records_of lines)) ≡ opened_over files (opening_with entries run_limits lines)
 loaded_state entries files lines =
     let ds = documents_of lines in
     let kept = map (λ (d : OpeningDocument). d.kept) ds in
@@ -104,6 +105,9 @@ module _ (lines : List ScriptLine) (tree : TreeState) (keeper : KeeperState) (wo
   pub told_began : (tree_of tree).told ≡ (tree_of tree).began
   told_began = ap (λ (x : TreeState). Some x.files) t ∙ sym (ap (λ (x : TreeState). Some x.began) t)
 
+  pub began_first : BeganFirst (tree_of tree).began
+  began_first = record { none_hidden = none_beside lines tree t; first = first_alone lines tree t }
+
   module _ (p : ScriptPortal) (s : Starts tree_of keeper_of tree keeper clock words limits p) where
     -- the entries that its records keep
     abbrev entries : Entries
@@ -118,8 +122,8 @@ module _ (lines : List ScriptLine) (tree : TreeState) (keeper : KeeperState) (wo
     state : state_first p.story ≡ opening_state entries lines
     state =
         let opened = s.loaded.opening_is.whole ∙ (ap (λ (x : Limits). opening_loaded entries x s.loaded.records) l ∙ ap (opening_loaded entries run_limits) records_are) in
-        ap (λ (x : Option (List File)). opened_over x p.story.opening) (s.began ∙ ap (λ (x : TreeState). Some x.began) t)
-        ∙ (ap (opened_over (Some (tree_files lines))) opened ∙ loaded_state entries (Some (tree_files lines)) lines)
+        ap (λ (x : Option Held). opened_over x p.story.opening) (s.began ∙ ap (λ (x : TreeState). Some x.began) t)
+        ∙ (ap (opened_over (Some (held_files lines))) opened ∙ loaded_state entries (Some (held_files lines)) lines)
 
     -- the records are this version's, so the keeper was not asked to change them
     stayed : keeper_of p.keeper ≡ s.loaded.loaded

@@ -10,7 +10,7 @@ use Rattle.portal_model.specs.State.{State}
 use Rattle.portal_model.specs.Store.{Entries}
 use Rattle.script_lines.specs.declared.script.ScriptLine.{ScriptLine}
 use Rattle.record_keeper.specs.Devices.{KeeperState}
-use Rattle.script_form.specs.Devices.{tree_files}
+use Rattle.script_form.specs.Devices.{held_files}
 use Rattle.script_lines.specs.Lines.{last_seat}
 use Rattle.script_form.specs.Opening.{opening_with}
 use Rattle.script_form.specs.Outside.{Outside, after_keeper_call, outside_of}
@@ -84,7 +84,7 @@ sessions_of table n = slice_index_or table n None
 -- the state that a script opens with, over the tree of its files, where it keeps these entries
 abbrev pub opening_state : Entries → List ScriptLine → State
 opening_state entries lines =
-    opened_over (Some (tree_files lines)) (opening_with entries run_limits lines)
+    opened_over (Some (held_files lines)) (opening_with entries run_limits lines)
 
 -- and before its first line the keeper was called once, to load the records, and no connection is
 -- open

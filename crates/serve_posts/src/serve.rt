@@ -1,6 +1,7 @@
 //! Serving posts over a portal.
 
 ghost use Rattle.std.specs.Prelude.{◌≡◌, ◌<◌, ◌≤◌, ◌^◌, length};
+ghost use Rattle.portal_start.specs.Loading.{BeganFirst};
 ghost use Rattle.worker_gate.specs.Working.{sides};
 ghost use Rattle.serve_posts.specs.Posts.{halls};
 ghost use Rattle.serve_posts.specs.Statuses.{ServesAs};
@@ -59,6 +60,7 @@ where
     requires made { settings.now.limits.made < 2 ^ 32 }
     requires queued { settings.now.limits.queued < 2 ^ 32 }
     requires told { (T.is tree).told ≡ (T.is tree).began }
+    requires first { BeganFirst (T.is tree).began }
     ensures { ServesAs (sides L.In.left L.In.faults L.Out.told L.Out.faults)
         (halls L.links L.ends L.faults) T.is K.is posts tree keeper clock words settings.now result }
 {

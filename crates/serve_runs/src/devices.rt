@@ -1,6 +1,7 @@
 //! What the runs stand over.
 
 ghost use Rattle.std.specs.Prelude.{◌≡◌, ◌<◌, ◌^◌, IfOk};
+ghost use Rattle.portal_start.specs.Loading.{AreFirst};
 
 use crate::held_tree::{HeldTree, Meeting};
 use host_tree::MemoryTree;
@@ -26,9 +27,10 @@ pub type RunTree<'a, R> = HeldTree<'a, R, MemoryTree>;
 /// A portal over devices in memory, but that a look at its tree may be held.
 pub type HeldPortal<'a, R> = Portal<RunTree<'a, R>, MemoryKeeper, SetClock, ListWords>;
 
-/// The devices of a script.
+/// The devices of a script, whose tree begins with first files alone.
 pub fn devices(alloc: Global, script: &[u8]) -> Result<ScriptDevices, VectorError>
-    ensures { IfOk result (λ devices. devices.tree.files ≡ devices.tree.began) }
+    ensures told { IfOk result (λ devices. devices.tree.files ≡ devices.tree.began) }
+    ensures first { IfOk result (λ devices. AreFirst devices.tree.began) }
 {
     let script = given(alloc, read_script(alloc, script))?;
     let devices = devices_of(alloc, &script);

@@ -1,6 +1,7 @@
 //! Services in memory, whose workers are held.
 
 ghost use Rattle.std.specs.Prelude.{◌≡◌, ◌≤◌, ◌<◌, ◌^◌, length};
+ghost use Rattle.portal_start.specs.Loading.{AreFirst};
 
 use crate::devices::{SCRIPT, devices, settings};
 use crate::held_tree::{HeldTree, Meeting};
@@ -86,6 +87,7 @@ fn served_over<R: Threads + Wait + Clock + Sync>(
     requires made { settings.now.limits.made < 2 ^ 32 }
     requires queued { settings.now.limits.queued < 2 ^ 32 }
     requires told { devices.tree.files ≡ devices.tree.began }
+    requires first { AreFirst devices.tree.began }
 {
     let ScriptDevices {
         tree,

@@ -3,6 +3,7 @@
 ghost use Rattle.std.specs.Prelude.{◌≡◌, false, true};
 ghost use Rattle.std.specs.Option.{ForSome};
 ghost use Rattle.portal_base.specs.Outside.{HasRisen};
+ghost use Rattle.portal_start.specs.Loading.{BeganFirst};
 
 use crate::end::ServeEnd;
 use crate::openers::Openers;
@@ -82,6 +83,7 @@ pub struct MemoryOpeners<L, T: HostTree, K, W> {
     listeners: vec::IntoIter<L>,
     faults: u64,
     ghost fresh: { ForSome tree (λ t. (T.is t).told ≡ (T.is t).began) },
+    ghost first: { ForSome tree (λ t. BeganFirst (T.is t).began) },
 }
 
 impl<L, T: HostTree, K, W> MemoryOpeners<L, T, K, W> {
@@ -94,7 +96,8 @@ impl<L, T: HostTree, K, W> MemoryOpeners<L, T, K, W> {
         words: W,
         listeners: List<L>,
     ) -> MemoryOpeners<L, T, K, W>
-        requires { (T.is tree).told ≡ (T.is tree).began }
+        requires fresh { (T.is tree).told ≡ (T.is tree).began }
+        requires first { BeganFirst (T.is tree).began }
         ensures { result.faults ≡ 0 }
     {
         MemoryOpeners {

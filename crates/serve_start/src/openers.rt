@@ -1,6 +1,7 @@
 //! What a service is opened from.
 
 ghost use Rattle.std.specs.Prelude.{◌≡◌, ◌≤◌, ℕ, List, IfErr, IfOk};
+ghost use Rattle.portal_start.specs.Loading.{BeganFirst};
 ghost use Rattle.serve_start.specs.Openings.{IsFewFiles, IsOfRoot, IsOfSeed, IsOfSocket, IsOfStore, IsOfThreads, Opens};
 
 use crate::end::ServeEnd;
@@ -37,11 +38,13 @@ pub trait Openers<L, T: HostTree, K, C, W> {
         ensures end { IfErr result IsOfThreads };
 
     /// The tree of the files below a folder, which leaves room for so many files that are open
-    /// beside it.
+    /// beside it. One that tells its files has those that it began with, each the first of its
+    /// path and present.
     fn open_root(&mut self, root: &Text, beside: u64) -> Result<T, ServeEnd>
         ensures opens { Opens (faults self.old) result (faults self.new) }
         ensures end { IfErr result IsOfRoot }
-        ensures began { IfOk result (λ tree. (T.is tree).told ≡ (T.is tree).began) };
+        ensures began { IfOk result (λ tree. (T.is tree).told ≡ (T.is tree).began) }
+        ensures first { IfOk result (λ tree. BeganFirst (T.is tree).began) };
 
     /// Words that nobody can foresee.
     fn open_words(&mut self) -> Result<W, ServeEnd>

@@ -1,6 +1,7 @@
 //! What a service stands on, opened.
 
 ghost use Rattle.std.specs.Prelude.{◌≡◌, ◌≤◌, ◌*◌, ◌+◌, ◌++◌, ℕ, List, IfOk, OnOk, length, map, replicate};
+ghost use Rattle.portal_start.specs.Loading.{BeganFirst};
 ghost use Rattle.serve_start.specs.Guids.{DrawsGuid};
 ghost use Rattle.serve_start.specs.Openings.{Opens};
 ghost use Rattle.serve_start.specs.Posts.{ListenAt, bound_at, bound_of, paths_of, posts_of};
@@ -85,6 +86,7 @@ where
     requires sockets { sockets ≤ 130 }
     ensures opens { Opens (O.faults openers.old) result (O.faults openers.new) }
     ensures began { IfOk result (λ tree. (T.is tree).told ≡ (T.is tree).began) }
+    ensures first { IfOk result (λ tree. BeganFirst (T.is tree).began) }
 {
     let posts = sockets * words.workers as usize;
     let wanted = files_wanted(openers.files_open(), sockets as u64, posts as u64);

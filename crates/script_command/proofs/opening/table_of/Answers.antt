@@ -18,5 +18,6 @@ loop-line-preserved c =
     record {
       files = c.in-Ok.ensures.files ∙ next_files lines index line c.loop-line.time files inside c.line-item.is c.loop-line.invariant.files c.loop-line.invariant.time;
       keyed = c.in-Ok.ensures.keyed;
+      first = c.in-Ok.ensures.first;
       time = c.in-Ok.ensures.time ∙ next_time lines index line c.loop-line.time files inside c.line-item.is c.loop-line.invariant.files c.loop-line.invariant.time;
     }

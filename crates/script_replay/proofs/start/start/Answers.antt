@@ -1,6 +1,6 @@
 use Rattle.std.proofs.Common.{subst, sym}
 use Rattle.script_replay.specs.Started.{StartsScript}
-use Rattle.script_replay.proofs.StartedScript.{only_memory, starts_script, told_began}
+use Rattle.script_replay.proofs.StartedScript.{began_first, only_memory, starts_script, told_began}
 use Rattle.script_replay.proofs.start.start.Goals as goal
 
 pub unreachable-requires : goal.unreachable-requires
@@ -39,3 +39,9 @@ start-requires-clause-told c =
     let d = c.in_ok-tree.field-0 in
     let e = c.in_ok-tree.ensures in
     told_began c.args.script.now.lines d.tree d.keeper d.words c.new-clock.result c.limits.result c.requires e.tree e.keeper e.words c.new-clock.ensures c.limits.ensures
+
+pub start-requires-clause-first : goal.start-requires-clause-first
+start-requires-clause-first c =
+    let d = c.in_ok-tree.field-0 in
+    let e = c.in_ok-tree.ensures in
+    began_first c.args.script.now.lines d.tree d.keeper d.words c.new-clock.result c.limits.result c.requires e.tree e.keeper e.words c.new-clock.ensures c.limits.ensures
