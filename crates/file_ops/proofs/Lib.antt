@@ -21,4 +21,4 @@ mod Moves
 mod Removals
 mod EntryOrder
 mod OwnSeats
-mod Beside
+mod MadeBeside

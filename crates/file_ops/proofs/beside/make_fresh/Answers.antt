@@ -1,6 +1,6 @@
 use Rattle.std.proofs.Common.{ap, ◌∙◌}
 use Rattle.file_ops.specs.Tries.{ended_of, freshened_at, tree_done}
-use Rattle.file_ops.proofs.Beside.{fresh-done, fresh-failed, fresh-missing}
+use Rattle.file_ops.proofs.MadeBeside.{fresh-done, fresh-failed, fresh-missing}
 use Rattle.portal_model.specs.declared.reply.NodeAnswer.TheVariants as NodeAnswer
 use Rattle.file_ops.proofs.Tries.{on-err, wanted-memory}
 use Rattle.file_ops.proofs.beside.make_fresh.Goals as goal

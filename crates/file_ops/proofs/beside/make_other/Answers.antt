@@ -6,7 +6,7 @@ use Rattle.node_looks.proofs.DoneLemmas.{handles-stay}
 use Rattle.file_ops.specs.Creates.{other_made}
 use Rattle.file_ops.specs.SeatTemps.{seat_temps}
 use Rattle.file_ops.specs.Tries.{done_of_tried}
-use Rattle.file_ops.proofs.Beside.{full-either, full-first, other-denied, other-exists, other-full, other-made, told-some}
+use Rattle.file_ops.proofs.MadeBeside.{full-either, full-first, other-denied, other-exists, other-full, other-made, told-some}
 use Rattle.file_ops.proofs.Savings.{kept-same, refused-done, refused-with}
 use Rattle.file_ops.proofs.Tries.{on-err}
 use Rattle.file_ops.proofs.beside.make_other.Goals as goal
