@@ -88,6 +88,10 @@ home-seen (Some told) folder t e = (folder, sym e, record { look = refl; tree = 
 
 -- ---- by the place
 
+-- behind a look
+abbrev pub node_looked : LookAnswer → What → SeenNode
+node_looked a what = record { look = Some a; what = what }
+
 module _ (b : ViewBook) (who : Who) (place : Option SeenPlace) (node : SeenNode) where
   seen-so : (old new : TreeIs) (p : Option SeenPlace) (shown : Option LookAnswer) (what : What) → place ≡ p → node ≡ record { look = shown; what = what } → IsSeenAs (option_map (sight_of b who) p) old shown what new → IsSeenAs (option_map (sight_of b who) place) old node.look node.what new
   seen-so old new p shown what e n h =

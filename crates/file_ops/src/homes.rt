@@ -57,9 +57,27 @@ pub(crate) fn see<'a, T: HostTree>(tree: &mut T, place: Option<SeenPlace<'a>>) -
 {
     match place {
         None => unlooked(What::Nothing(ENOENT)),
-        Some(SeenPlace::File { seen, .. }) => file_shown(tree.look(&seen.document.path)),
-        Some(SeenPlace::Temporary { temp, .. }) => file_shown(look_named(tree, temp.file)),
-        Some(SeenPlace::Below { below, .. }) => any_shown(tree.look(below.path)),
+        Some(SeenPlace::File { seen, .. }) => {
+            let look = tree.look(&seen.document.path);
+            SeenNode {
+                look: Some(look),
+                what: file_in(look),
+            }
+        }
+        Some(SeenPlace::Temporary { temp, .. }) => {
+            let look = look_named(tree, temp.file);
+            SeenNode {
+                look: Some(look),
+                what: file_in(look),
+            }
+        }
+        Some(SeenPlace::Below { below, .. }) => {
+            let look = tree.look(below.path);
+            SeenNode {
+                look: Some(look),
+                what: any_in(look),
+            }
+        }
         Some(SeenPlace::Folder { view, seen }) => unlooked(What::Folder(home_in(view, seen))),
         Some(SeenPlace::Root { .. }) => unlooked(What::Folder(None)),
         Some(SeenPlace::Views) => unlooked(What::Folder(None)),
@@ -73,16 +91,6 @@ fn unlooked<'a>(what: What<'a>) -> SeenNode<'a>
     SeenNode { look: None, what }
 }
 
-/// What a look for a file shows.
-fn file_shown<'a>(look: LookAnswer) -> SeenNode<'a>
-    ensures { result ≡ record { look = Some look; what = file_shown look } }
-{
-    SeenNode {
-        look: Some(look),
-        what: file_in(look),
-    }
-}
-
 /// The file that a look shows, where nothing else is seen.
 fn file_in<'a>(look: LookAnswer) -> What<'a>
     ensures { result ≡ file_shown look }
@@ -91,16 +99,6 @@ fn file_in<'a>(look: LookAnswer) -> What<'a>
         LookAnswer::Is(Look::File { .. }) => What::File,
         LookAnswer::Is(Look::Folder | Look::Missing) => What::Nothing(ENOENT),
         LookAnswer::Failed => What::Nothing(EIO),
-    }
-}
-
-/// What a look at or below a document that is a folder shows.
-fn any_shown<'a>(look: LookAnswer) -> SeenNode<'a>
-    ensures { result ≡ record { look = Some look; what = any_shown look } }
-{
-    SeenNode {
-        look: Some(look),
-        what: any_in(look),
     }
 }
 

@@ -1,31 +1,31 @@
 use Rattle.std.proofs.Common.{◌∙◌, Some, ap}
 use Rattle.portal_model.specs.Place.{FolderOf}
 use Rattle.node_looks.specs.Sights.{sight_of}
-use Rattle.file_ops.proofs.SeenHomes.{any-no-home, below-at, file-at, file-no-home, folder-at, nothing-at, root-at, temp-at, views-at}
+use Rattle.file_ops.proofs.SeenHomes.{any-no-home, below-at, file-at, file-no-home, folder-at, node_looked, nothing-at, root-at, temp-at, views-at}
 use Rattle.file_ops.proofs.homes.see.Goals as goal
 
 pub returns-in-None-clause-seen : goal.returns-in-None-clause-seen
 returns-in-None-clause-seen g c = λ b who. nothing-at b who c.args.place c.unlooked.result _ c.in-None.is c.unlooked.ensures
 
 pub returns-in-Some-File-clause-seen : goal.returns-in-Some-File-clause-seen
-returns-in-Some-File-clause-seen g c = λ b who. file-at b who c.args.place c.file_shown.result _ c.in-Some-File.seen c.look.result _ _ (c.in-Some-File.is ∙ ap Some c.in-Some-File.field-0-is) c.file_shown.ensures c.look.ensures.asks c.look.ensures.looks
+returns-in-Some-File-clause-seen g c = λ b who. file-at b who c.args.place (node_looked c.look-look.result c.file_in.result) _ c.in-Some-File.seen c.look-look.result _ _ (c.in-Some-File.is ∙ ap Some c.in-Some-File.field-0-is) (ap (node_looked c.look-look.result) c.file_in.ensures) c.look-look.ensures.asks c.look-look.ensures.looks
 
 pub returns-in-Some-File-clause-still : goal.returns-in-Some-File-clause-still
-returns-in-Some-File-clause-still g c = λ h. absurd (file-no-home c.look.result c.file_shown.result c.file_shown.ensures h)
+returns-in-Some-File-clause-still g c = λ h. absurd (file-no-home c.look-look.result (node_looked c.look-look.result c.file_in.result) (ap (node_looked c.look-look.result) c.file_in.ensures) h)
 
 pub returns-in-Some-Temporary-clause-seen : goal.returns-in-Some-Temporary-clause-seen
 returns-in-Some-Temporary-clause-seen g c = λ b who.
-    temp-at b who c.args.place c.file_shown-in-Some-Temporary.result _ c.in-Some-Temporary.temp c.look_named.result _ _ (c.in-Some-Temporary.is ∙ ap Some c.in-Some-Temporary.field-0-is) c.file_shown-in-Some-Temporary.ensures c.look_named.ensures.asks c.look_named.ensures.shows
+    temp-at b who c.args.place (node_looked c.look_named-look.result c.file_in-in-Some-Temporary.result) _ c.in-Some-Temporary.temp c.look_named-look.result _ _ (c.in-Some-Temporary.is ∙ ap Some c.in-Some-Temporary.field-0-is) (ap (node_looked c.look_named-look.result) c.file_in-in-Some-Temporary.ensures) c.look_named-look.ensures.asks c.look_named-look.ensures.shows
 
 pub returns-in-Some-Temporary-clause-still : goal.returns-in-Some-Temporary-clause-still
-returns-in-Some-Temporary-clause-still g c = λ h. absurd (file-no-home c.look_named.result c.file_shown-in-Some-Temporary.result c.file_shown-in-Some-Temporary.ensures h)
+returns-in-Some-Temporary-clause-still g c = λ h. absurd (file-no-home c.look_named-look.result (node_looked c.look_named-look.result c.file_in-in-Some-Temporary.result) (ap (node_looked c.look_named-look.result) c.file_in-in-Some-Temporary.ensures) h)
 
 pub returns-in-Some-Below-clause-seen : goal.returns-in-Some-Below-clause-seen
 returns-in-Some-Below-clause-seen g c = λ b who.
-    below-at b who c.args.place c.any_shown.result _ c.in-Some-Below.below c.look-in-Some-Below.result _ _ (c.in-Some-Below.is ∙ ap Some c.in-Some-Below.field-0-is) c.any_shown.ensures c.look-in-Some-Below.ensures.asks c.look-in-Some-Below.ensures.looks
+    below-at b who c.args.place (node_looked c.look-look-in-Some-Below.result c.any_in.result) _ c.in-Some-Below.below c.look-look-in-Some-Below.result _ _ (c.in-Some-Below.is ∙ ap Some c.in-Some-Below.field-0-is) (ap (node_looked c.look-look-in-Some-Below.result) c.any_in.ensures) c.look-look-in-Some-Below.ensures.asks c.look-look-in-Some-Below.ensures.looks
 
 pub returns-in-Some-Below-clause-still : goal.returns-in-Some-Below-clause-still
-returns-in-Some-Below-clause-still g c = λ h. absurd (any-no-home c.look-in-Some-Below.result c.any_shown.result c.any_shown.ensures h)
+returns-in-Some-Below-clause-still g c = λ h. absurd (any-no-home c.look-look-in-Some-Below.result (node_looked c.look-look-in-Some-Below.result c.any_in.result) (ap (node_looked c.look-look-in-Some-Below.result) c.any_in.ensures) h)
 
 pub returns-in-Some-Folder-clause-seen : goal.returns-in-Some-Folder-clause-seen
 returns-in-Some-Folder-clause-seen g c = λ b who.
