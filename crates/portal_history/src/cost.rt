@@ -138,7 +138,12 @@ fn node_bytes(op: &NodeOp) -> u64
     ensures { result ≡ min (bytes_of_node op.now) (2 ^ 64 - 1) }
 {
     match op {
-        NodeOp::Lookup { name } | NodeOp::Create { name, .. } => name.len() as u64,
+        NodeOp::Lookup { name } | NodeOp::Create { name, .. } | NodeOp::Unlink { name } => {
+            name.len() as u64
+        }
+        NodeOp::Rename {
+            old_name, new_name, ..
+        } => (old_name.len() as u64).saturating_add(new_name.len() as u64),
         NodeOp::Write { content, .. } => content.len() as u64,
         NodeOp::BatchForget { nodes } => FORGET_COST.saturating_mul(nodes.len() as u64),
         // It carries no bytes, and the one node that it forgets is the node of the request.
