@@ -206,7 +206,7 @@ fn take_others(temps: &mut IndexMap<u32, Temp>, k: u32, view: u32, document: Doc
 {
     temps.retain(
         |number: &u32, temp: &mut Temp| -> bool
-            ensures { (result ≡ not (is_called view document.number name.now
+            ensures { (result ≡ not (is_called view document.number name.entry.now
                 (number.now, temp.old) && not (number.now == k))) × (temp.new ≡ temp.old) }
         { !(has_name(temp, view, document, name) && *number != k) },
     );

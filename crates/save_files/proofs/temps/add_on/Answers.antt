@@ -7,7 +7,7 @@ pub take-requires-clause-room : goal.take-requires-clause-room
 take-requires-clause-room c = c.in_ok-reserve_on.ensures.ok.1
 
 pub take-requires-clause-path : goal.take-requires-clause-path
-take-requires-clause-path c = rw c.as_bytes.ensures.bytes at (path-fits c.args.temp.file.path c.as_bytes.ensures.rule)
+take-requires-clause-path c = rw (← c.as_bytes.ensures.bytes) at (path-fits c.args.temp.file.path c.as_bytes.ensures.rule)
 
 pub put_on-requires : goal.put_on-requires
 put_on-requires c = c.in_ok-reserve_on.ensures.ok.0
