@@ -76,9 +76,9 @@ pub record AreOwn (s : State) (own : OwnTables) : Type 0 where
 -- It is done in every state in which it may be asked, and what connections have named then, and
 -- as temporaries, is what the state has.
 pub record DoneNaming (s : State) (c : Connection) (call : NodeCall) (old : TreeIs)
-    (came : NodeDone) (after : HandleTable) (own : OwnTables) (new : TreeIs) : Type 0 where
+    (came : NodeDone) (after : HandleTable) (tables : OwnTables) (new : TreeIs) : Type 0 where
   pub done : DoneIn s c call.request.now old came after new
-  pub own : AreOwn (node_answer s c call.request.now (given_to came)).0 own
+  pub own : AreOwn (node_answer s c call.request.now (given_to came)).0 tables
 
 abbrev pub DoesNaming : FileBook → NodeCall → HandleTable → OwnTables → TreeIs → NodeDone
     → HandleTable → OwnTables → TreeIs → Type 0
