@@ -538,6 +538,12 @@ module _ (tree : Held) (t : SoundTree tree) (name : FileName) (f : File) (here :
   turns-to : TurnsTo tree.present (turned name tree).present name.path f
   turns-to = turns-by (file_named tree.hidden name) (file_at tree.present name.path) refl refl
 
+  -- what it was it is there
+  pub turned-there : content_at (turned name tree).present name.path ≡ OfFile f.generation f.bytes f.moment
+  turned-there =
+      ap (λ (o : Option File). content_of o (is_folder (turned name tree).present name.path) (has_room (turned name tree).present name.path))
+      (turns-to.found name.path ∙ ap (λ (b : Bool). cond b (Some f) (file_at tree.present name.path)) (is_same-refl name.path))
+
 -- ---- each change
 
 some-is : {X : Type 0} (o : Option X) → is_some o ≡ true → (x : X) × (o ≡ Some x)

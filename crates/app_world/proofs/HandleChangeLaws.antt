@@ -511,11 +511,11 @@ module _ (limits : Limits) (tree : Held) (held : ℕ → RightSet) (documents : 
   abbrev AreNamed : (FileName → Bool) → Type 0
   AreNamed opened = (n : FileName) → AmongNames (names_held more) n → (is_held_name new n || (opened n || is_held_name names_before n)) ≡ true
 
-  swapped : (a b : Bool) {c : Bool} → (a || (b || c)) ≡ true → (b || (a || c)) ≡ true
-  swapped true true h = refl
-  swapped true false h = refl
-  swapped false true h = refl
-  swapped false false h = h
+  swapped : (a b c : Bool) → (a || (b || c)) ≡ true → (b || (a || c)) ≡ true
+  swapped true true c h = refl
+  swapped true false c h = refl
+  swapped false true c h = refl
+  swapped false false c h = h
 
   files-fewer : AreNamed (λ n. false) → filter (λ (f : NamedFile). is_held_name (names_held more) (named_as f)) (files_at (all_held tree) names_before) ≡ files_at (all_held tree) (names_held more)
   files-fewer e =
@@ -527,7 +527,7 @@ module _ (limits : Limits) (tree : Held) (held : ℕ → RightSet) (documents : 
   files-joined name c k e =
       ap (λ (fs : List NamedFile). filter (λ (f : NamedFile). is_held_name (names_held more) (named_as f)) (with_named name c fs)) named-more
       ∙ named-joined (all_held tree) name c (new ++ names_before) (names_held more) k
-      (λ n h. ap (λ (b : Bool). same_name name n || b) (held-joined new names_before n) ∙ swapped (is_held_name new n) (same_name name n) (e n h))
+      (λ n h. ap (λ (b : Bool). same_name name n || b) (held-joined new names_before n) ∙ swapped (is_held_name new n) (same_name name n) (is_held_name names_before n) (e n h))
 
   -- pruning leaves what is named
   pub prune-named : ((path : List ℕ) → Among (named_paths held_ones more) path → Among (named_paths held_ones cs) path) → AreNamed (λ n. false) → prune (record old { connections = more }) ≡ view_over limits tree held_ones more

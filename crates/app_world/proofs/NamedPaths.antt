@@ -214,7 +214,7 @@ module _ (v : AppView) where
       step false e =
           named-told d.path
           (among-joined (paths_where is_plain_document v.documents) (flat_map paths_of_connection v.connections) d.path
-          ∙ or-first (is_among (paths_where is_plain_document v.documents) d.path) (is_among (flat_map paths_of_connection v.connections) d.path) (h.1.0 (ap not e)))
+          ∙ or-first (is_among (paths_where is_plain_document v.documents) d.path) (is_among (flat_map paths_of_connection v.connections) d.path) (h.1 (ap not e)))
 
   -- what is seen at a node, where that is sound
   module _ (Known : FileName → Type 0) (Of : Document → Type 0) (temps : (d : Document) → HeldIn v d → Of d) where

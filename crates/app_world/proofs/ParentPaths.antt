@@ -23,11 +23,11 @@ cut-first [] = inl refl
 cut-first (x ∷ xs) = step (is_slash x) refl (cut-first xs)
   where
     step : (b : Bool) → is_slash x ≡ b → Cut xs (prefix_len in-part xs) → Cut (x ∷ xs) (cond (not b) (1 + prefix_len in-part xs) 0)
-    step true e h = inr ([], (xs, (ap (λ (y : ℕ). y ∷ xs) (nat_is x 47 e), refl)))
+    step true e h = inr ([], xs, ap (λ (y : ℕ). y ∷ xs) (nat_is x 47 e), refl)
     step false e (inl h) = inl (omega arith)
     step false e (inr r) =
         let n : prefix_len in-part xs ≡ length r.0 = r.3 in
-        inr (x ∷ r.0, (r.1, (ap (λ (ys : List ℕ). x ∷ ys) r.2, omega arith)))
+        inr (x ∷ r.0, r.1, ap (λ (ys : List ℕ). x ∷ ys) r.2, omega arith)
 
 above-rest : (front rest : List ℕ) → is_above front (front ++ 47 ∷ rest) ≡ true
 above-rest [] rest = slash-is 47 rest refl
