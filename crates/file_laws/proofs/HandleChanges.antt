@@ -1,9 +1,9 @@
 -- What a request on a node does to open handles: it opens one where it is answered a number, and
 -- closes one only where it is a release of it.
-use Rattle.std.proofs.Common.{◌≡◌, ℕ, ◌+◌, ◌==◌, nat_lt, List, [], ◌∷◌, length, Bool, true, false, not, ◌&&◌, ◌||◌, cond, Option, Some, None, refl, arith}
+use Rattle.std.proofs.Common.{◌≡◌, ℕ, ◌+◌, ◌==◌, nat_lt, List, [], ◌∷◌, length, Bool, true, false, not, ◌&&◌, ◌||◌, cond, Option, Some, None, is_some, refl, arith}
 use Rattle.std.proofs.lemmas.Bool.Decides.{nat_tests}
+use Rattle.file_generations.specs.Generations.{Held}
 use Rattle.portal_base.specs.Names.{is_same, name_of, named_child}
-use Rattle.portal_base.specs.declared.files.File.{File}
 use Rattle.portal_base.specs.declared.files.FileName.{FileName}
 use Rattle.portal_base.specs.declared.files.Look.{Look}
 use Rattle.portal_model.specs.declared.handle.Handle.{Handle}
@@ -12,25 +12,28 @@ use Rattle.portal_model.specs.declared.reply.NodeAnswer.{NodeAnswer}
 use Rattle.portal_model.specs.declared.request.NodeOp.{NodeOp}
 use Rattle.portal_model.specs.declared.request.NodeRequest.{NodeRequest}
 use Rattle.portal_model.specs.declared.state.Document.{Document}
+use Rattle.portal_model.specs.declared.temporary.OwnTemp.{OwnTemp}
 use Rattle.portal_model.specs.Access.{access, access_file, access_folder, executes, writes_to}
 use Rattle.portal_model.specs.Attributes.{attr_of_file, attr_of_folder, on_node, is_writable}
-use Rattle.portal_model.specs.Create.{create, create_in, create_there, Made, child_made, create_at, create_child, own_made}
-use Rattle.portal_model.specs.Errno.{eacces, ebadf, efbig, einval, eisdir, emfile, enametoolong, enoent, enotdir, eperm}
+use Rattle.portal_model.specs.Create.{add_temp, create, create_in, create_other, create_own, create_temp, create_there, Made, child_made, create_at, create_child, next_file, next_temp_node, own_made, temp_made}
+use Rattle.portal_model.specs.Errno.{eacces, ebadf, eexist, efbig, einval, eisdir, emfile, enametoolong, enoent, enotdir, eperm, exdev}
 use Rattle.portal_model.specs.Fsync.{fsync_open}
 use Rattle.portal_model.specs.GetAttr.{get_attr_by_handle, get_attr_by_place, get_attr_open, names_handle, tells_file, tells_folder}
-use Rattle.portal_model.specs.Lookup.{found_folder, lookup_in, named_in_root, named_in_views, found_child, found_document, lookup_child, naming_in}
+use Rattle.portal_model.specs.Lookup.{entry_of_file, found_folder, found_own, lookup_in, named_in_root, named_in_views, found_child, found_document, lookup_child, naming_in}
 use Rattle.portal_model.specs.Node.{NodeFacts, node_walk}
-use Rattle.portal_model.specs.NodeVerdict.{NodeDoing, NodeVerdict, FilesStay, Resizes, HandleChange, HandlesStay, Opens, Closes, Errs, at_name, by_file_handle, by_place, errs, errs_if, is_too_long, next_handle, no_file, told, name_at}
+use Rattle.portal_model.specs.NodeVerdict.{NodeDoing, NodeVerdict, FilesStay, Resizes, HandleChange, HandlesStay, Opens, Closes, Errs, at_name, by_file_handle, by_place, changes_temps, errs, errs_if, is_dots, is_too_long, next_handle, no_file, told, name_at}
 use Rattle.portal_model.specs.Open.{file_handle, has_no_mode, open_file, open_folder, open_name, open_node, opened_file, opens_to_write, truncates}
 use Rattle.portal_model.specs.OpenDir.{open_dir, open_dir_in, open_found}
-use Rattle.portal_model.specs.Place.{Folder, RootOf, Views, FolderOf, file_node, Sight, Exported}
+use Rattle.portal_model.specs.Place.{Folder, RootOf, Views, FolderOf, file_node, Sight, Exported, temp_node}
 use Rattle.portal_model.specs.Reach.{OpenFile, may_read_now, may_write_now, open_file_of, reaches}
 use Rattle.portal_model.specs.Read.{read, read_limit, read_open}
 use Rattle.portal_model.specs.ReadDir.{read_names}
 use Rattle.portal_model.specs.ReleaseDir.{release_dir}
-use Rattle.portal_model.specs.SeatNames.{lacks_number}
+use Rattle.portal_model.specs.Rename.{AFile, AFolder, Home, RenameCall, are_too_long, home_of, is_own_name, rename, rename_at, rename_call, rename_homes, rename_in, rename_temp, same_home, saved, temp_at, with_seen}
+use Rattle.portal_model.specs.SeatNames.{Renames, found_temp, lacks_number, lacks_temp}
 use Rattle.portal_model.specs.SetAttr.{SetsAttr, resize, set_attr, set_attr_at, set_attr_of, set_attr_of_folder, set_attr_of_open, set_attr_open, sets_by_handle, sets_owner_or_mode, sets_size}
-use Rattle.portal_model.specs.Walk.{Walk, Answers, Looks, Ends, AtPath, Changes}
+use Rattle.portal_model.specs.Unlink.{unlink, unlink_at, unlink_in, unlink_temp}
+use Rattle.portal_model.specs.Walk.{Walk, Answers, Looks, Ends, AtPath, Changes, Turns}
 use Rattle.portal_model.specs.Write.{write, write_content, write_limit, write_open}
 use Rattle.portal_model.proofs.NodeWalks.{OnNode, at_name-on, by_file_handle-on, by_place-on, errs_if-on}
 use Rattle.file_laws.specs.KeptHandles.{number_told, releases}
@@ -49,7 +52,7 @@ MayClose op (Closes fh) = releases fh op ≡ true
 abbrev pub Fits : ℕ → NodeOp → NodeDoing → Type 0
 Fits next op d = (number_told d.answer ≡ number_opened next d.handle) × MayClose op d.handle
 
-module _ (tree : Option (List File)) (f : NodeFacts) (r : NodeRequest) (op : NodeOp) where
+module _ (tree : Option Held) (f : NodeFacts) (r : NodeRequest) (op : NodeOp) where
   abbrev P : NodeDoing → Type 0
   P = Fits (next_handle f.room) op
 
@@ -74,12 +77,16 @@ module _ (tree : Option (List File)) (f : NodeFacts) (r : NodeRequest) (op : Nod
   below-fits namings view d may_write None = tt
   below-fits namings view d may_write (Some path) = λ look shown. child-fits namings (naming_in view d path) may_write look
 
-  lookup-fits : (name : List ℕ) (folder : Folder) → On (lookup_in r f.namings name folder)
+  temp-fits : (view : ℕ) (may_write : Bool) (o : Option OwnTemp) → On (found_own r view may_write o)
+  temp-fits view may_write None = tt
+  temp-fits view may_write (Some t) = at_name-on tree P t.temp.file (entry_of_file r (temp_node view t.k) may_write) (λ g s m. (refl, tt))
+
+  lookup-fits : (name : List ℕ) (folder : Folder) → On (lookup_in r f.namings f.temps.temps name folder)
   lookup-fits name (RootOf view numbers has_views) = found-fits (named_in_root view numbers has_views name)
   lookup-fits name (Views applications) = found-fits (named_in_views applications name)
-  lookup-fits name (FolderOf view d may_write) = elim (is_same name (name_of d.path)) as (λ b. On (cond b (Looks (AtPath d.path) (found_document r (file_node view d.id.number) d may_write)) (errs enoent))) [
+  lookup-fits name (FolderOf view d may_write) = elim (is_same name (name_of d.path)) as (λ b. On (cond b (Looks (AtPath d.path) (found_document r (file_node view d.id.number) d may_write)) (found_own r view may_write (found_temp f.temps.temps view d.id name)))) [
     | true ↦ λ look shown. own-fits (file_node view d.id.number) d may_write look
-    | false ↦ tt
+    | false ↦ temp-fits view may_write (found_temp f.temps.temps view d.id name)
   ]
   lookup-fits name (Exported view d path may_write) = below-fits f.namings view d may_write (named_child path name)
 
@@ -150,32 +157,48 @@ module _ (tree : Option (List File)) (f : NodeFacts) (r : NodeRequest) (op : Nod
       errs_if-on tree P (not may_write) eacces (errs_if (f.room.full || lacks_number f.namings naming) emfile there) (λ a.
       errs_if-on tree P (f.room.full || lacks_number f.namings naming) emfile there (λ b. λ look shown. there-fits flags (child_made f.namings d naming) look))
 
-  create-in-fits : (name : List ℕ) (flags : ℕ) (folder : Folder) → On (create_in r name flags f.room f.namings folder)
+  create-own-fits : (flags view : ℕ) (d : Document) (may_write : Bool) → On (create_own r flags f.room view d may_write)
+  create-own-fits flags view d may_write =
+      let there = create_at r flags f.room (own_made view d) in
+      errs_if-on tree P (not may_write) eacces (errs_if f.room.full emfile there) (λ b.
+      errs_if-on tree P f.room.full emfile there (λ e. λ look shown. there-fits flags (own_made view d) look))
+
+  create-temp-fits : (name : List ℕ) (flags view : ℕ) (d : Document) (may_write : Bool) → On (create_temp r name flags f.room f.temps view d may_write)
+  create-temp-fits name flags view d may_write =
+      let last = add_temp r flags f.room (next_temp_node f.temps view) d (temp_made view d name (next_file f.temps d)) in
+      let third = errs_if (f.room.full || lacks_temp f.temps) emfile last in
+      let second = errs_if (is_some (found_temp f.temps.temps view d.id name)) eexist third in
+      let first = errs_if (not may_write) eacces second in
+      errs_if-on tree P (is_dots name) eacces first (λ a.
+      errs_if-on tree P (not may_write) eacces second (λ b.
+      errs_if-on tree P (is_some (found_temp f.temps.temps view d.id name)) eexist third (λ c.
+      errs_if-on tree P (f.room.full || lacks_temp f.temps) emfile last (λ e. ((λ now found. (refl, tt)), tt)))))
+
+  create-in-fits : (name : List ℕ) (flags : ℕ) (folder : Folder) → On (create_in r name flags f.room f.namings f.temps folder)
   create-in-fits name flags (RootOf view numbers has_views) = tt
   create-in-fits name flags (Views applications) = tt
-  create-in-fits name flags (FolderOf view d may_write) =
-      let there = create_at r flags f.room (own_made view d) in
-      errs_if-on tree P (not (is_same name (name_of d.path))) eacces (errs_if (not may_write) eacces (errs_if f.room.full emfile there)) (λ a.
-      errs_if-on tree P (not may_write) eacces (errs_if f.room.full emfile there) (λ b.
-      errs_if-on tree P f.room.full emfile there (λ e. λ look shown. there-fits flags (own_made view d) look)))
+  create-in-fits name flags (FolderOf view d may_write) = elim (is_same name (name_of d.path)) as (λ b. On (cond b (create_own r flags f.room view d may_write) (create_other r name flags f.room f.temps view d may_write))) [
+    | true ↦ create-own-fits flags view d may_write
+    | false ↦ errs_if-on tree P d.folder eacces (create_temp r name flags f.room f.temps view d may_write) (λ e. create-temp-fits name flags view d may_write)
+  ]
   create-in-fits name flags (Exported view d path may_write) = create-child-fits flags view d may_write (named_child path name)
 
-  create-fits : (name : List ℕ) (flags : ℕ) (sight : Option Sight) → On (create r name flags sight f.room f.namings)
+  create-fits : (name : List ℕ) (flags : ℕ) (sight : Option Sight) → On (create r name flags sight f.room f.namings f.temps)
   create-fits name flags sight =
-      let place = by_place sight (no_file enotdir) (create_in r name flags f.room f.namings) in
+      let place = by_place sight (no_file enotdir) (create_in r name flags f.room f.namings f.temps) in
       errs_if-on tree P (has_no_mode flags) einval (errs_if (is_too_long name) enametoolong place) (λ a.
       errs_if-on tree P (is_too_long name) enametoolong place (λ b.
-      by_place-on tree P sight (no_file enotdir) (create_in r name flags f.room f.namings) (λ at g s m. tt) (λ folder e. create-in-fits name flags folder)))
+      by_place-on tree P sight (no_file enotdir) (create_in r name flags f.room f.namings f.temps) (λ at g s m. tt) (λ folder e. create-in-fits name flags folder)))
 
-  found-dir-fits : (folder : Folder) → On (open_found r f.room folder)
+  found-dir-fits : (folder : Folder) → On (open_found r f.room f.temps.temps folder)
   found-dir-fits (RootOf view numbers has_views) = (refl, tt)
   found-dir-fits (Views applications) = (refl, tt)
   found-dir-fits (FolderOf view d may_write) = λ look shown. (refl, tt)
   found-dir-fits (Exported view d path may_write) = ((λ names. (refl, tt)), tt)
 
-  open_dir-fits : (sight : Option Sight) → On (open_dir r sight f.room)
-  open_dir-fits sight = by_place-on tree P sight (no_file enotdir) (open_dir_in r f.room) (λ at g s m. tt)
-      (λ folder k. errs_if-on tree P f.room.full emfile (open_found r f.room folder) (λ e. found-dir-fits folder))
+  open_dir-fits : (sight : Option Sight) → On (open_dir r sight f.room f.temps.temps)
+  open_dir-fits sight = by_place-on tree P sight (no_file enotdir) (open_dir_in r f.room f.temps.temps) (λ at g s m. tt)
+      (λ folder k. errs_if-on tree P f.room.full emfile (open_found r f.room f.temps.temps folder) (λ e. found-dir-fits folder))
 
   read-fits : (offset size : ℕ) (handle : Option Handle) → On (read f.reach f.bytes offset size handle)
   read-fits offset size handle =
@@ -212,13 +235,64 @@ module _ (tree : Option (List File)) (f : NodeFacts) (r : NodeRequest) (op : Nod
       (λ at g s m. errs_if-on tree P (executes mask || writes_to mask && not at.may_write) eacces (told NodeAnswer.Empty) (λ k. (refl, tt)))
       (λ folder h. errs_if-on tree P (writes_to mask && not (is_writable folder)) eacces (told NodeAnswer.Empty) (λ k. (refl, tt))))
 
+  -- ---- temporaries get other names, and are gone
+
+  module _ (call : RenameCall) where
+    temp-renamed : (h : Home) (o : Option OwnTemp) → On (rename_temp h call.new_name o)
+    temp-renamed h None = tt
+    temp-renamed h (Some t) =
+        errs_if-on tree P (not h.may_write) eacces _ (λ a.
+        errs_if-on tree P (is_dots call.new_name) eacces _ (λ b.
+        elim (is_own_name h call.new_name) as (λ c. On (cond c (Ends (Turns t.temp.file) (λ now. saved t) (Errs enoent)) (Answers (changes_temps (Renames t.k t.temp call.new_name) NodeAnswer.Empty)))) [
+          | true ↦ ((λ now found. (refl, tt)), tt)
+          | false ↦ (refl, tt)
+        ]))
+
+    homes-renamed : (first second : Option Home) → On (rename_homes call f.temps.temps first second)
+    homes-renamed None second = tt
+    homes-renamed (Some first) None = tt
+    homes-renamed (Some first) (Some second) =
+        errs_if-on tree P (not (same_home first second)) exdev (rename_at call f.temps.temps first) (λ a.
+        errs_if-on tree P (is_own_name first call.old_name) eperm (rename_temp first call.new_name (temp_at f.temps.temps first call.old_name)) (λ b.
+        temp-renamed first (temp_at f.temps.temps first call.old_name)))
+
+    file-first : (new_sight : Option Sight) → On (with_seen new_sight (rename_in call f.temps.temps AFile))
+    file-first new_sight =
+        by_place-on tree P new_sight (λ at g s m. rename_in call f.temps.temps AFile AFile) (λ second. rename_in call f.temps.temps AFile (AFolder second)) (λ at g s m. tt) (λ second e. tt)
+
+    folder-first : (first : Folder) (new_sight : Option Sight) → On (with_seen new_sight (rename_in call f.temps.temps (AFolder first)))
+    folder-first first new_sight =
+        by_place-on tree P new_sight (λ at g s m. rename_in call f.temps.temps (AFolder first) AFile) (λ second. rename_in call f.temps.temps (AFolder first) (AFolder second)) (λ at g s m. tt)
+        (λ second e. homes-renamed (home_of first) (home_of second))
+
+    rename-fits : (sight new_sight : Option Sight) → On (rename call f.temps.temps sight new_sight)
+    rename-fits sight new_sight =
+        let place = with_seen sight (λ first. with_seen new_sight (rename_in call f.temps.temps first)) in
+        errs_if-on tree P (not (call.flags == 0)) einval (errs_if (are_too_long call) enametoolong place) (λ a.
+        errs_if-on tree P (are_too_long call) enametoolong place (λ b.
+        by_place-on tree P sight (λ at g s m. with_seen new_sight (rename_in call f.temps.temps AFile)) (λ first. with_seen new_sight (rename_in call f.temps.temps (AFolder first)))
+        (λ at g s m. file-first new_sight) (λ first e. folder-first first new_sight)))
+
+  temp-unlinked : (h : Home) (o : Option OwnTemp) → On (unlink_temp h o)
+  temp-unlinked h None = tt
+  temp-unlinked h (Some t) = errs_if-on tree P (not h.may_write) eacces _ (λ e. (refl, tt))
+
+  home-unlinked : (name : List ℕ) (o : Option Home) → On (unlink_at name f.temps.temps o)
+  home-unlinked name None = tt
+  home-unlinked name (Some h) = errs_if-on tree P (is_own_name h name) eperm (unlink_temp h (temp_at f.temps.temps h name)) (λ e. temp-unlinked h (temp_at f.temps.temps h name))
+
+  unlink-fits : (name : List ℕ) (sight : Option Sight) → On (unlink name f.temps.temps sight)
+  unlink-fits name sight =
+      errs_if-on tree P (is_too_long name) enametoolong (by_place sight (no_file enotdir) (unlink_in name f.temps.temps)) (λ e.
+      by_place-on tree P sight (no_file enotdir) (unlink_in name f.temps.temps) (λ at g s m. tt) (λ folder k. home-unlinked name (home_of folder)))
+
 same-number : (n : ℕ) → (n == n) ≡ true
 same-number n = grind (arith, nat_tests)
 
-pub walk-fits : (tree : Option (List File)) (f : NodeFacts) (r : NodeRequest) (op : NodeOp) → OnNode tree (Fits (next_handle f.room) op) (node_walk f r op)
+pub walk-fits : (tree : Option Held) (f : NodeFacts) (r : NodeRequest) (op : NodeOp) → OnNode tree (Fits (next_handle f.room) op) (node_walk f r op)
 walk-fits t f r (NodeOp.Lookup name) =
-    errs_if-on t (Fits (next_handle f.room) (NodeOp.Lookup name)) (is_too_long name) enametoolong (by_place f.sight (no_file enotdir) (lookup_in r f.namings name)) (λ e.
-    by_place-on t (Fits (next_handle f.room) (NodeOp.Lookup name)) f.sight (no_file enotdir) (lookup_in r f.namings name) (λ at g s m. tt) (λ folder k. lookup-fits t f r (NodeOp.Lookup name) name folder))
+    errs_if-on t (Fits (next_handle f.room) (NodeOp.Lookup name)) (is_too_long name) enametoolong (by_place f.sight (no_file enotdir) (lookup_in r f.namings f.temps.temps name)) (λ e.
+    by_place-on t (Fits (next_handle f.room) (NodeOp.Lookup name)) f.sight (no_file enotdir) (lookup_in r f.namings f.temps.temps name) (λ at g s m. tt) (λ folder k. lookup-fits t f r (NodeOp.Lookup name) name folder))
 walk-fits t f r (NodeOp.Forget count) = (refl, tt)
 walk-fits t f r (NodeOp.BatchForget nodes) = (refl, tt)
 walk-fits t f r (NodeOp.GetAttr flags fh) = get_attr-fits t f r (NodeOp.GetAttr flags fh) (names_handle flags) f.sight (f.handle fh)
@@ -235,3 +309,5 @@ walk-fits t f r (NodeOp.ReadDir fh offset size) =
     errs_if-on t (Fits (next_handle f.room) (NodeOp.ReadDir fh offset size)) (nat_lt read_limit size) einval (read_names offset size (f.handle fh)) (λ e. names-fits t f r (NodeOp.ReadDir fh offset size) offset size (f.handle fh))
 walk-fits t f r (NodeOp.ReleaseDir fh) = release_dir-fits t f r (NodeOp.ReleaseDir fh) fh (same-number fh) (f.handle fh)
 walk-fits t f r (NodeOp.Access mask) = access-fits t f r (NodeOp.Access mask) mask f.sight
+walk-fits t f r (NodeOp.Rename new_parent flags old_name new_name) = rename-fits t f r (NodeOp.Rename new_parent flags old_name new_name) (rename_call flags old_name new_name) f.sight (f.sight_of new_parent)
+walk-fits t f r (NodeOp.Unlink name) = unlink-fits t f r (NodeOp.Unlink name) name f.sight
