@@ -1,5 +1,5 @@
 -- The entries of a map by path, and the files that they are.
-use Rattle.std.proofs.Common.{◌≡◌, ℕ, ◌==◌, List, [], ◌∷◌, Bool, true, false, ◌&&◌, cond, Option, Some, None, option_map, Result, Ok, Err, OnOk, OnErr, refl, sym, ap, subst, ◌∙◌}
+use Rattle.std.proofs.Common.{◌≡◌, ℕ, ◌==◌, List, [], ◌∷◌, Bool, true, false, ◌&&◌, cond, Option, Some, None, is_some, option_map, Result, Ok, Err, OnOk, OnErr, refl, sym, ap, subst, ◌∙◌}
 use Rattle.std.proofs.lemmas.Map.Steps.{set_value_same}
 use Rattle.std.specs.BTreeMap.{is_at, insert_entry}
 use Rattle.std.specs.List.{AllByRecursion}
@@ -39,6 +39,22 @@ found-at p [] = refl
 found-at p (e ∷ es) =
     found-one p e (is_same e.0 p) (is_at (path_order p) e.0) (file_at (files_of es) p)
     (lookup (is_at (path_order p)) es) refl (same-key p e.0) (found-at p es)
+
+some-kept : (p : List ℕ) (o : Option KeptFile) → is_some (option_map (file_kept p) o) ≡ is_some o
+some-kept p None = refl
+some-kept p (Some k) = refl
+
+pub has-at : (p : List ℕ) (es : Entries) →
+    is_some (file_at (files_of es) p) ≡ is_some (lookup (is_at (path_order p)) es)
+has-at p es = ap is_some (found-at p es) ∙ some-kept p (lookup (is_at (path_order p)) es)
+
+none-is : (o : Option File) → is_some o ≡ false → o ≡ None
+none-is None e = refl
+none-is (Some f) e = absurd (cc)
+
+pub has-none : (p : List ℕ) (es : Entries) → is_some (lookup (is_at (path_order p)) es) ≡ false →
+    file_at (files_of es) p ≡ None
+has-none p es e = none-is (file_at (files_of es) p) (has-at p es ∙ e)
 
 -- ---- the file of a name, where each path has one
 

@@ -18,7 +18,7 @@ pub returns-in-Some : goal.returns-in-Some
 returns-in-Some c =
     let name = c.args.name.now in
     let hs = c.self.inside.hidden.items in
-    let v = c.index-hidden-at.result.now in
+    let v = c.index-hidden-at.result in
     let at : Some c.in-Some.at ≡ position (has_name name) hs = c.in-Some.ensures ∙ ap (λ (xs : List HiddenFile). position (has_name name) xs) c.as_slice-hidden.ensures.value in
     let here : v ≡ get_or hs c.in-Some.at v = c.index-hidden-at.is ∙ ap (λ (xs : List HiddenFile). get_or xs c.in-Some.at v) c.as_slice-hidden.ensures.value in
     ap (λ (h : Held). file_named (all_held h) name) (sym c.self.view_is)

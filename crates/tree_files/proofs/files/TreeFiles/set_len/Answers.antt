@@ -10,8 +10,8 @@ use Rattle.tree_files.proofs.Entries.{err-then, ok-then}
 use Rattle.tree_files.proofs.HiddenNames.{has_name, hidden-changed, is-within, none-changed, present-stays, put-back}
 use Rattle.tree_files.proofs.files.TreeFiles.set_len.Goals as goal
 
-pub index_mut-requires : goal.index_mut-requires
-index_mut-requires c =
+pub index_mut-file-requires : goal.index_mut-file-requires
+index_mut-file-requires c =
     let name = c.args.name.now in
     let hs = c.self.inside.hidden.items in
     let at : Some c.in-Some.at ≡ position (has_name name) hs = c.in-Some.ensures ∙ ap (λ (xs : List HiddenFile). position (has_name name) xs) c.as_slice.ensures.value in

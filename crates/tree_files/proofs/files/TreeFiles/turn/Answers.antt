@@ -33,4 +33,4 @@ returns-in-None-clause-ok c =
     let name = c.args.name.now in
     let hs = c.self.inside.hidden.items in
     let none : None ≡ position (has_name name) hs = c.in-None.ensures ∙ ap (λ (xs : List HiddenFile). position (has_name name) xs) c.as_slice.ensures.value in
-    turned-nothing name (files_of c.self.inside.map.entries) hs none ∙ ap (turned name) c.self.view_is
+    sym c.self.view_is ∙ (turned-nothing name (files_of c.self.inside.map.entries) hs none ∙ ap (turned name) c.self.view_is)
