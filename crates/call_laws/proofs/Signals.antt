@@ -14,6 +14,7 @@ use Rattle.portal_model.specs.Valid.{Valid, is_caller, is_host_bus, is_none, is_
 use Rattle.portal_model.proofs.DocumentChanges.{first_of_both, second_of_both}
 use Rattle.portal_model.proofs.ListLookups.{found_in_all}
 use Rattle.portal_model.proofs.Queues.{is_sound_queue}
+
 abbrev AreSound : List Change → Type 0
 AreSound changes = list_all is_sound_change changes ≡ true
 

@@ -142,7 +142,9 @@ fn node_bytes(op: &NodeOp) -> u64
             name.len() as u64
         }
         NodeOp::Rename {
-            old_name, new_name, ..
+            old_name,
+            new_name,
+            ..
         } => (old_name.len() as u64).saturating_add(new_name.len() as u64),
         NodeOp::Write { content, .. } => content.len() as u64,
         NodeOp::BatchForget { nodes } => FORGET_COST.saturating_mul(nodes.len() as u64),
