@@ -40,13 +40,13 @@ unnamed c = record c { namings = []; temps = []; added = 0 }
 -- A valid state has the lists and the limit of the book, these connections, and the open handles,
 -- the names and the temporaries of the tables, and the tree tells what it has.
 pub record IsServedIn (s : State) (book : FileBook) (connections : List Connection)
-    (table : HandleTable) (own : OwnTables) (told : Option Held) : Type 0 where
+    (table : HandleTable) (tables : OwnTables) (told : Option Held) : Type 0 where
   pub valid : Valid s
   pub lists : Lends book.view s
   pub limit : s.limits.file_bytes ≡ book.file_limit
   pub connected : map unnamed s.connections ≡ connections
   pub handles : AreOpen s table
-  pub own : AreOwn s own
+  pub own : AreOwn s tables
   pub files : files_told s ≡ told
 
 -- each connection stands in all three tables, and no other seat does
@@ -88,7 +88,7 @@ seat_calls s seat r given = calls_on s r given (mount_of (connection_of s.connec
 -- tree got just the calls of the request. EIO tells of a call that failed, and Failed is no answer
 -- to such a request.
 pub record ServesSeat (s : State) (seat : ℕ) (r : NodeRequest) (old : TreeIs) (done : NodeDone)
-    (connections : List Connection) (table : HandleTable) (own : OwnTables)
+    (connections : List Connection) (table : HandleTable) (tables : OwnTables)
     (new : TreeIs) : Type 0 where
   pub lawful : LawfulOnNode s r (given_to done) (mount_of (connection_of s.connections seat))
   pub reply : Alike s.told (Request.Node r) (seat_step s seat r (given_to done)).1
@@ -103,7 +103,7 @@ pub record ServesSeat (s : State) (seat : ℕ) (r : NodeRequest) (old : TreeIs) 
   pub connected :
       map unnamed (seat_step s seat r (given_to done)).0.connections ≡ connections
   pub handles : AreOpen (seat_step s seat r (given_to done)).0 table
-  pub own : AreOwn (seat_step s seat r (given_to done)).0 own
+  pub own : AreOwn (seat_step s seat r (given_to done)).0 tables
   pub files : files_told (seat_step s seat r (given_to done)).0 ≡ new.told
   pub calls : Calling old (seat_calls s seat r (given_to done)) new.told new
   pub fault : done.answer ≡ Answer.Refused (Code.Errno eio) → HasRisen old.faults new.faults
