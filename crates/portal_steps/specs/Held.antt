@@ -23,11 +23,11 @@ told_files s = cond s.told (Some (held_in s)) None
 -- tables, and the files told
 pub record Holds (s : State) (limits : Limits) (documents : DocumentList) (rights : List Triple)
     (applications : List (List ℕ)) (connections : List Connection) (table : HandleTable)
-    (own : OwnTables) (told : Option Held) : Type 0 where
+    (tables : OwnTables) (told : Option Held) : Type 0 where
   pub limits_are : s.limits ≡ limits
   pub lists : HasLists s documents rights applications connections
   pub handles : AreOpen s table
-  pub own : AreOwn s own
+  pub own : AreOwn s tables
   pub files : told_files s ≡ told
 
 -- the history is legal and within its limit, and the state after it holds this
