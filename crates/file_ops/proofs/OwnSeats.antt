@@ -1,5 +1,5 @@
 -- What the table of temporaries has of a seat is what a connection has, and how it changes.
-use Rattle.std.proofs.Common.{◌≡◌, ◌==◌, ◌&&◌, ◌||◌, ◌+◌, suc, ◌<◌, ◌≤◌, ℕ, nat_eq, nat_lt, List, [], ◌∷◌, ◌++◌, length, map, find, Bool, true, false, not, cond, Option, Some, None, IfSome, IsSomeAnd, slice_get, refl, sym, ap, subst, arith, ◌∙◌}
+use Rattle.std.proofs.Common.{◌≡◌, ◌==◌, ◌&&◌, ◌||◌, ◌+◌, zero, suc, ◌<◌, ◌≤◌, ℕ, nat_eq, nat_lt, List, [], ◌∷◌, ◌++◌, length, map, find, Bool, true, false, not, cond, Option, Some, None, IfSome, IsSomeAnd, slice_get, refl, sym, ap, subst, arith, ◌∙◌}
 use Rattle.std.specs.Option.{option_map}
 use Rattle.std.specs.List.{AllByRecursion, IsDistinct, filter}
 use Rattle.std.specs.Map.{keys_of, lookup}
@@ -75,16 +75,16 @@ module _ (view : ℕ) (id : DocId) (name : List ℕ) where
   -- one that was found has its number
   found-there : (k : ℕ) (es : List (ℕ × Temp)) → number_in (find called es) ≡ Some k → lookup (λ n. k == n) es ≡ None → ⊥
   found-there k [] e l = cc
-  found-there k (x ∷ es) e l = by (called x) e (k == x.0) refl l
+  found-there k (x ∷ es) e l = by (called x) e (k == x.0) refl l (λ f n. found-there k es f n)
     where
-      by : (b : Bool) → number_in (cond b (Some x) (find called es)) ≡ Some k → (c : Bool) → (k == x.0) ≡ c → cond c (Some x.1) (lookup (λ n. k == n) es) ≡ None → ⊥
-      by true f true h n = cc
-      by true f false h n =
+      by : (b : Bool) → number_in (cond b (Some x) (find called es)) ≡ Some k → (c : Bool) → (k == x.0) ≡ c → cond c (Some x.1) (lookup (λ n. k == n) es) ≡ None → (number_in (find called es) ≡ Some k → lookup (λ n. k == n) es ≡ None → ⊥) → ⊥
+      by true f true h n more = cc
+      by true f false h n more =
           let same : x.0 ≡ k = cc in
           let no : true ≡ false = sym (itself k) ∙ (ap (λ (n : ℕ). k == n) (sym same) ∙ h) in
           cc
-      by false f true h n = cc
-      by false f false h n = found-there k es f n
+      by false f true h n more = cc
+      by false f false h n more = more f n
 
   none-found : (o : Option OwnTemp) → option_map (λ (t : OwnTemp). t.k) o ≡ None → o ≡ None
   none-found None e = refl
@@ -110,18 +110,18 @@ module _ (view : ℕ) (id : DocId) (name : List ℕ) where
 
 place-none : (place : ℕ) (es : List (ℕ × Temp)) → number_in (slice_get es place) ≡ None → slice_get (owned es) place ≡ None
 place-none place [] e = refl
-place-none 0 (x ∷ es) e = cc
+place-none zero (x ∷ es) e = cc
 place-none (suc place) (x ∷ es) e = place-none place es e
 
 place-apart : (a k place : ℕ) (es : List (ℕ × Temp)) → number_in (slice_get es place) ≡ Some k → AllByRecursion (λ n. nat_eq a n ≡ false) (keys_of es) → nat_eq a k ≡ false
 place-apart a k place [] e h = cc
-place-apart a k 0 (x ∷ es) e h = let same : x.0 ≡ k = cc in subst (λ (n : ℕ). nat_eq a n ≡ false) same h.0
+place-apart a k zero (x ∷ es) e h = let same : x.0 ≡ k = cc in subst (λ (n : ℕ). nat_eq a n ≡ false) same h.0
 place-apart a k (suc place) (x ∷ es) e h = place-apart a k place es e h.1
 
 place-is : (k : ℕ) (temp : Temp) (place : ℕ) (es : List (ℕ × Temp)) → IsDistinct nat_eq (keys_of es) → number_in (slice_get es place) ≡ Some k → lookup (λ n. k == n) es ≡ Some temp → slice_get (owned es) place ≡ Some (own_temp k temp)
 unfolding IsDistinct
 place-is k temp place [] d e l = cc
-place-is k temp 0 (x ∷ es) d e l =
+place-is k temp zero (x ∷ es) d e l =
     let same : x.0 ≡ k = cc in
     let here : Some x.1 ≡ Some temp = sym (ap (λ (b : Bool). cond b (Some x.1) (lookup (λ n. k == n) es)) (ap (λ (n : ℕ). k == n) same ∙ itself k)) ∙ l in
     let is : x.1 ≡ temp = cc in
@@ -132,15 +132,15 @@ place-is k temp (suc place) (x ∷ es) d e l =
 
 place-there : (k place : ℕ) (es : List (ℕ × Temp)) → number_in (slice_get es place) ≡ Some k → lookup (λ n. k == n) es ≡ None → ⊥
 place-there k place [] e l = cc
-place-there k 0 (x ∷ es) e l =
+place-there k zero (x ∷ es) e l =
     let same : x.0 ≡ k = cc in
     let no : Some x.1 ≡ None = sym (ap (λ (b : Bool). cond b (Some x.1) (lookup (λ n. k == n) es)) (ap (λ (n : ℕ). k == n) same ∙ itself k)) ∙ l in
     cc
-place-there k (suc place) (x ∷ es) e l = by (k == x.0) l
+place-there k (suc place) (x ∷ es) e l = by (k == x.0) l (λ h. place-there k place es e h)
   where
-    by : (b : Bool) → cond b (Some x.1) (lookup (λ n. k == n) es) ≡ None → ⊥
-    by true h = cc
-    by false h = place-there k place es e h
+    by : (b : Bool) → cond b (Some x.1) (lookup (λ n. k == n) es) ≡ None → (lookup (λ n. k == n) es ≡ None → ⊥) → ⊥
+    by true h more = cc
+    by false h more = more h
 
 pub at-none : (place : ℕ) (o : Option Own) (has : HeldTemps) → option_map held_by o ≡ Some has → number_at o place ≡ None → None ≡ slice_get has.temps place
 at-none place None has e f = cc

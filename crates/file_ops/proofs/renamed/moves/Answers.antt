@@ -8,6 +8,7 @@ use Rattle.save_files.specs.Own.{own_on}
 use Rattle.node_looks.specs.Sights.{sight_of}
 use Rattle.file_ops.specs.Renames.{call_told, number_left, rename_seen}
 use Rattle.file_ops.specs.SeatNames.{seat_sight}
+use Rattle.file_ops.specs.declared.renamed.Moving.TheVariants as Moving
 use Rattle.file_ops.proofs.Moves.{behind-checks, flags-refused, moved-along, new-too-long, nothing-moving, old-too-long, refused-moving}
 use Rattle.file_ops.proofs.SeenHomes.{seat-seen}
 use Rattle.file_ops.proofs.renamed.moves.Goals as goal
@@ -17,21 +18,21 @@ returns-then-asked-ne0-clause-moved g c = λ names has e f s l.
     let call = call_told c.args.asked in
     let sight = seat_sight s c.args.call.now.who.now names has.temps c.args.call.now.request.now.node in
     let new_sight = seat_sight s c.args.call.now.who.now names has.temps c.args.new_parent in
-    refused-moving (rename call has.temps sight new_sight) einval _ _ _ c.refused.result (flags-refused call has.temps sight new_sight c.if-asked-ne0.true) c.refused.ensures
+    refused-moving (rename call has.temps sight new_sight) einval c.args.asked.new_name.now (own_on c.args.temps.now.seats c.args.call.now.seat) (g.T.HostTree.is c.args.tree.now) c.refused.result (flags-refused call has.temps sight new_sight c.if-asked-ne0.true) c.refused.ensures
 
 pub returns-then-is_too_long-clause-moved : goal.returns-then-is_too_long-clause-moved
 returns-then-is_too_long-clause-moved g c = λ names has e f s l.
     let call = call_told c.args.asked in
     let sight = seat_sight s c.args.call.now.who.now names has.temps c.args.call.now.request.now.node in
     let new_sight = seat_sight s c.args.call.now.who.now names has.temps c.args.new_parent in
-    refused-moving (rename call has.temps sight new_sight) enametoolong _ _ _ c.refused-then-is_too_long.result (old-too-long call has.temps sight new_sight c.if-asked-ne0.false c.is_too_long.result c.is_too_long.ensures c.if-is_too_long.true) c.refused-then-is_too_long.ensures
+    refused-moving (rename call has.temps sight new_sight) enametoolong c.args.asked.new_name.now (own_on c.args.temps.now.seats c.args.call.now.seat) (g.T.HostTree.is c.args.tree.now) c.refused-then-is_too_long.result (old-too-long call has.temps sight new_sight c.if-asked-ne0.false c.is_too_long.result c.is_too_long.ensures c.if-is_too_long.true) c.refused-then-is_too_long.ensures
 
 pub returns-then-is_too_long-2-clause-moved : goal.returns-then-is_too_long-2-clause-moved
 returns-then-is_too_long-2-clause-moved g c = λ names has e f s l.
     let call = call_told c.args.asked in
     let sight = seat_sight s c.args.call.now.who.now names has.temps c.args.call.now.request.now.node in
     let new_sight = seat_sight s c.args.call.now.who.now names has.temps c.args.new_parent in
-    refused-moving (rename call has.temps sight new_sight) enametoolong _ _ _ c.refused-then-is_too_long-2.result
+    refused-moving (rename call has.temps sight new_sight) enametoolong c.args.asked.new_name.now (own_on c.args.temps.now.seats c.args.call.now.seat) (g.T.HostTree.is c.args.tree.now) c.refused-then-is_too_long-2.result
     (new-too-long call has.temps sight new_sight c.if-asked-ne0.false c.is_too_long.result c.is_too_long-2.result c.is_too_long.ensures c.if-is_too_long.false c.is_too_long-2.ensures c.if-is_too_long-2.true) c.refused-then-is_too_long-2.ensures
 
 pub returns-in-Nothing-clause-moved : goal.returns-in-Nothing-clause-moved
@@ -42,7 +43,7 @@ returns-in-Nothing-clause-moved g c = λ names has e f s l.
     let sight = seat_sight s who names has.temps node in
     let new_sight = seat_sight s who names has.temps c.args.new_parent in
     let seen = option_map (sight_of c.args.book.now who) c.seen_place.result in
-    moved-along (rename call has.temps sight new_sight) (rename_seen call has.temps seen new_sight) c.args.asked.new_name.now (own_on c.args.temps.now.seats c.args.call.now.seat) _ _ _
+    moved-along (rename call has.temps sight new_sight) (rename_seen call has.temps seen new_sight) c.args.asked.new_name.now (own_on c.args.temps.now.seats c.args.call.now.seat) (g.T.HostTree.is c.args.tree.now) (g.T.HostTree.is c.see-first.new.tree) (Moving.Refused c.at_once.result)
     (behind-checks call has.temps sight new_sight c.if-asked-ne0.false c.is_too_long.result c.is_too_long-2.result c.is_too_long.ensures c.if-is_too_long.false c.is_too_long-2.ensures c.if-is_too_long-2.false
     ∙ ap (λ (o : Option Sight). rename_seen call has.temps o new_sight) (seat-seen s who c.by_number-own.result names has.temps node seen (c.by_number-own.ensures.naming names e) (c.by_number-own.ensures.temp has f) (c.seen_place.ensures.sight s l)))
     (nothing-moving (λ first. with_seen new_sight (rename_in call has.temps first)) seen (g.T.HostTree.is c.args.tree.now) _ c.see-first.result.look c.see-first.result.what c.in-Nothing.errno c.args.asked.new_name.now (own_on c.args.temps.now.seats c.args.call.now.seat) c.at_once.result c.refused-in-Nothing.result

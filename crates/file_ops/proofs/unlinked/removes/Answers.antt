@@ -55,7 +55,7 @@ returns-in-Folder-None-clause-removed g c = λ names has e f s l.
     removed-along (unlink name has.temps sight) (with_seen seen (unlink_seen name has.temps)) _ _ c.refused_behind-in-Folder-None.result
     (if-right (is_too_long name) c.is_too_long.result enametoolong (by_place sight (no_file enotdir) (unlink_in name has.temps)) c.is_too_long.ensures c.if-is_too_long.false
     ∙ ap (λ (o : Option Sight). with_seen o (unlink_seen name has.temps)) (seat-seen s who c.by_number-own.result names has.temps node seen (c.by_number-own.ensures.naming names e) (c.by_number-own.ensures.temp has f) (c.seen_place.ensures.sight s l)))
-    (folder-removed name has.temps seen (g.T.HostTree.is c.args.tree.now) _ c.see-seen.result.look c.see-seen.result.what (c.see-seen.ensures.seen c.args.book.now who) c.refused_behind-in-Folder-None.result (c.in-Folder-None.is ∙ ap What.Folder c.in-Folder-None.field-0-is) c.refused_behind-in-Folder-None.ensures)
+    (folder-removed name has.temps seen (g.T.HostTree.is c.args.tree.now) _ c.see-seen.result.look c.see-seen.result.what (c.see-seen.ensures.seen c.args.book.now who) c.refused_behind-in-Folder-None.result (c.in-Folder-None.is ∙ ap What.Folder (rw c.in-Folder-None.is at c.in-Folder-None.field-0-is)) c.refused_behind-in-Folder-None.ensures)
 
 pub returns-in-Folder-Some-clause-removed : goal.returns-in-Folder-Some-clause-removed
 returns-in-Folder-Some-clause-removed g c = λ names has e f s l.
@@ -67,4 +67,4 @@ returns-in-Folder-Some-clause-removed g c = λ names has e f s l.
     removed-along (unlink name has.temps sight) (with_seen seen (unlink_seen name has.temps)) _ _ c.removing_in.result
     (if-right (is_too_long name) c.is_too_long.result enametoolong (by_place sight (no_file enotdir) (unlink_in name has.temps)) c.is_too_long.ensures c.if-is_too_long.false
     ∙ ap (λ (o : Option Sight). with_seen o (unlink_seen name has.temps)) (seat-seen s who c.by_number-own.result names has.temps node seen (c.by_number-own.ensures.naming names e) (c.by_number-own.ensures.temp has f) (c.seen_place.ensures.sight s l)))
-    (home-removed name has.temps seen (g.T.HostTree.is c.args.tree.now) _ c.see-seen.result.look c.see-seen.result.what (c.see-seen.ensures.seen c.args.book.now who) c.removing_in.result c.in-Folder-Some.home (c.in-Folder-Some.is ∙ ap What.Folder c.in-Folder-Some.field-0-is) (c.removing_in.ensures.removed has (g.T.HostTree.is c.args.tree.now) f))
+    (home-removed name has.temps seen (g.T.HostTree.is c.args.tree.now) _ c.see-seen.result.look c.see-seen.result.what (c.see-seen.ensures.seen c.args.book.now who) c.removing_in.result c.in-Folder-Some.home (c.in-Folder-Some.is ∙ ap What.Folder (rw c.in-Folder-Some.is at c.in-Folder-Some.field-0-is)) (c.removing_in.ensures.removed has (g.T.HostTree.is c.args.tree.now) f))

@@ -7,7 +7,7 @@ use Rattle.file_ops.specs.declared.tried.Ended.{Ended}
 use Rattle.file_ops.proofs.tried.Ended.of_call.Goals as goal
 
 -- the call with this answer
-ended : CallMade → Answer → Ended
+abbrev ended : CallMade → Answer → Ended
 ended call answer = record { answer = answer; call = Some call }
 
 pub returns-in-Done : goal.returns-in-Done
