@@ -6,13 +6,12 @@ use Rattle.open_handles.specs.Opened.{Opened}
 use Rattle.portal_model.specs.declared.entry.Entry.{Entry}
 use Rattle.portal_model.specs.declared.entry.Given.{Given}
 use Rattle.portal_model.specs.declared.handle.OpenHandle.{OpenHandle}
-use Rattle.portal_model.specs.declared.naming.Naming.{Naming}
 use Rattle.portal_model.specs.declared.request.NodeRequest.{NodeRequest}
 use Rattle.portal_model.specs.declared.request.Request.{Request}
 use Rattle.portal_model.specs.declared.state.Connection.{Connection}
 use Rattle.portal_model.specs.Leave.{handles_left}
-use Rattle.portal_model.specs.Node.{connections_after, connections_named, counted, handles_after, named_on, new_handle, node_given, settled_on_node, walk_on_node}
-use Rattle.portal_model.specs.NodeVerdict.{NodeVerdict, Errs, HandleChange, HandlesStay, Opens, Closes, NameChange, NamesStay, Names, Yields}
+use Rattle.portal_model.specs.Node.{connections_after, connections_named, counted, handles_after, new_handle, node_given, settled_on_node, walk_on_node, with_temps}
+use Rattle.portal_model.specs.NodeVerdict.{NodeVerdict, Errs, HandleChange, HandlesStay, Opens, Closes, NameChange, NamesStay, Names, Temps, Yields}
 use Rattle.portal_model.specs.SeatNames.{with_naming}
 use Rattle.portal_model.specs.State.{State, connection_of, is_handle, is_mount}
 use Rattle.portal_model.specs.Step.{after, all_told, bus_of, bus_step, collect_step, mount_of, node_step, request_step, told_of}
@@ -79,16 +78,16 @@ silent-last (c ∷ cs) n = step (c.seat == n) (silent-last cs n)
     step true e = refl
     step false e = e
 
--- a path that is named on it leaves the last number
-all-named : (seat : ℕ) (naming : Naming) (cs : List Connection) (n : ℕ) →
-    last_opened (connection_of (map (named_on seat naming) cs) n)
+-- what changes of it beside its seat and that number leaves the last number
+all-changed : (seat : ℕ) (change : Connection → Connection) →
+    ((x : Connection) → (change x).seat ≡ x.seat) → ((x : Connection) → (change x).opens ≡ x.opens) →
+    (cs : List Connection) (n : ℕ) →
+    last_opened (connection_of (map (λ x. cond (x.seat == seat) (change x) x) cs) n)
     ≡ last_opened (connection_of cs n)
-all-named seat naming [] n = refl
-all-named seat naming (x ∷ xs) n = step (x.seat == seat) (all-named seat naming xs n)
+all-changed seat change seats opens [] n = refl
+all-changed seat change seats opens (x ∷ xs) n =
+    step (x.seat == seat) (all-changed seat change seats opens xs n)
   where
-    named : Connection
-    named = record x { namings = with_naming x.namings naming }
-
     here : (b : Bool) (y : Connection) (o : Option Connection) → y.opens ≡ x.opens →
         last_opened o ≡ last_opened (connection_of xs n) →
         last_opened (cond b (Some y) o) ≡ last_opened (cond b (Some x) (connection_of xs n))
@@ -96,20 +95,31 @@ all-named seat naming (x ∷ xs) n = step (x.seat == seat) (all-named seat namin
     here false y o f e = e
 
     step : (b : Bool) →
-        last_opened (connection_of (map (named_on seat naming) xs) n)
+        last_opened (connection_of (map (λ (z : Connection). cond (z.seat == seat) (change z) z) xs) n)
         ≡ last_opened (connection_of xs n) →
-        last_opened (cond ((cond b (record x { namings = with_naming x.namings naming }) x).seat
-        == n) (Some (cond b (record x { namings = with_naming x.namings naming }) x))
-        (connection_of (map (named_on seat naming) xs) n))
+        last_opened (cond ((cond b (change x) x).seat == n) (Some (cond b (change x) x))
+        (connection_of (map (λ (z : Connection). cond (z.seat == seat) (change z) z) xs) n))
         ≡ last_opened (cond (x.seat == n) (Some x) (connection_of xs n))
-    step true e = here (x.seat == n) named (connection_of (map (named_on seat naming) xs) n) refl e
-    step false e = here (x.seat == n) x (connection_of (map (named_on seat naming) xs) n) refl e
+    step true e =
+        ap (λ (k : ℕ). last_opened (cond (k == n) (Some (change x))
+        (connection_of (map (λ (z : Connection). cond (z.seat == seat) (change z) z) xs) n)))
+        (seats x)
+        ∙ here (x.seat == n) (change x)
+        (connection_of (map (λ (z : Connection). cond (z.seat == seat) (change z) z) xs) n) (opens x) e
+    step false e =
+        here (x.seat == n) x
+        (connection_of (map (λ (z : Connection). cond (z.seat == seat) (change z) z) xs) n) refl e
 
+-- so do a path that is named on it, and its temporaries
 names-last : (c : Connection) (change : NameChange) (cs : List Connection) (n : ℕ) →
     last_opened (connection_of (connections_named c change cs) n)
     ≡ last_opened (connection_of cs n)
 names-last c NamesStay cs n = refl
-names-last c (Names naming) cs n = all-named c.seat naming cs n
+names-last c (Names naming) cs n =
+    all-changed c.seat (λ (x : Connection). record x { namings = with_naming x.namings naming })
+    (λ x. refl) (λ x. refl) cs n
+names-last c (Temps change) cs n =
+    all-changed c.seat (with_temps change) (λ x. refl) (λ x. refl) cs n
 
 -- the open mount of a seat has its number
 mount-seat : (cs : List Connection) (n : ℕ) (o : Option Connection) → connection_of cs n ≡ o →
