@@ -6,14 +6,16 @@ use Rattle.trace_items.specs.Awaited.{HasOpen, Shows}
 use Rattle.trace_items.specs.declared.lent.Lent.{Lent}
 use Rattle.app_view.specs.Books.{Lends}
 use Rattle.file_ops.specs.SeatNames.{AreNamed}
+use Rattle.file_ops.specs.SeatTemps.{AreTemps, HeldTemps, held_by, held_of}
 use Rattle.node_looks.specs.OpenHandles.{AreOpen, AreOpened, open_on}
 use Rattle.named_paths.specs.OpenNumbers.{Cover, is_open, is_open_in}
 use Rattle.named_paths.proofs.OpenPaths.{found, sound-at}
 use Rattle.open_handles.specs.Opened.{HandleTable, Opened, handle_of as handle_in, opened_on}
 use Rattle.portal_model.specs.declared.state.Connection.{Connection}
 use Rattle.portal_model.specs.declared.handle.OpenHandle.{OpenHandle}
-use Rattle.portal_model.specs.State.{State, connection_of, handle_of, is_handle}
+use Rattle.portal_model.specs.State.{State, connection_of, handle_of, held_in, is_handle}
 use Rattle.portal_model.specs.Valid.{Valid, opened_here}
+use Rattle.save_files.specs.Own.{Own, own_on, owned}
 use Rattle.store_serving.specs.Waiting.{silent}
 
 same-connection : (c d : Connection) → Some d ≡ Some c → d ≡ c
@@ -24,14 +26,23 @@ in-table s seat c None o e h = absurd (cc)
 in-table s seat c (Some d) None e h = absurd h
 in-table s seat c (Some d) (Some o) e h = (h.last ∙ ap (λ (x : Connection). x.opens) (same-connection c d e), h.handles)
 
-pub shows : (lent : Lent) (s : State) → Lends lent.book s → lent.connections.now ≡ map silent s.connections → AreOpen s lent.handles.now → AreNamed s lent.namings.now → Cover lent.numbers.now s.handles → s.told ≡ true → s.files ≡ lent.files.now → Shows lent s
-shows lent s book connections handles names covered told files = record {
+-- the temporaries of a seat, where the table has those of its connection
+temps-of : (o : Option Own) (c : Option Connection) → option_map held_by o ≡ option_map held_of c →
+    option_map (λ (x : Own). owned x.temps) o ≡ option_map (λ (x : Connection). x.temps) c
+temps-of None None e = refl
+temps-of None (Some c) e = absurd (cc)
+temps-of (Some o) None e = absurd (cc)
+temps-of (Some o) (Some c) e = ap (option_map (λ (h : HeldTemps). h.temps)) e
+
+pub shows : (lent : Lent) (s : State) → Lends lent.book s → lent.connections.now ≡ map silent s.connections → AreOpen s lent.handles.now → AreNamed s lent.namings.now → AreTemps s lent.temps.now → Cover lent.numbers.now s.handles → s.told ≡ true → held_in s ≡ lent.files.now → Shows lent s
+shows lent s book connections handles names temps covered told files = record {
   documents = book.documents;
   rights = book.rights;
   applications = book.applications;
   connections = sym connections;
   handles = λ seat c here. in-table s seat c (connection_of s.connections seat) (opened_on lent.handles.now.seats seat) here (handles.each seat);
   namings = names;
+  temps = λ seat. temps-of (own_on lent.temps.now.seats seat) (connection_of s.connections seat) (temps.each seat);
   covered = covered;
   told = told;
   files = files;

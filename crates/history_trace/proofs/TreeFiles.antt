@@ -5,6 +5,7 @@ use Rattle.std.specs.List.Sorted.{IsStrictlySortedBy}
 use Rattle.std.specs.Ordering.{is_lt, ordering_reverse}
 use Rattle.std.proofs.lemmas.List.{take-append-drop}
 use Rattle.std.proofs.lemmas.List.Folds.{list_any-append}
+use Rattle.file_generations.specs.Generations.{Held, held_with, put_present}
 use Rattle.host_tree.specs.Trees.{put_file}
 use Rattle.document_records.proofs.Loops.{all_map, map-append, map-more}
 use Rattle.portal_base.specs.Content.{ArePlaced, is_above, paths_of}
@@ -13,7 +14,8 @@ use Rattle.portal_base.specs.PathOrder.{path_order}
 use Rattle.portal_base.specs.PathOrders.{path_order_total}
 use Rattle.portal_base.specs.declared.files.File.{File}
 use Rattle.portal_model.specs.declared.opening.FileItem.{FileItem}
-use Rattle.portal_model.specs.Opening.{file_of}
+use Rattle.portal_model.proofs.OpeningLaws.{items-first}
+use Rattle.portal_model.specs.Opening.{file_of, held_items, is_first_item}
 
 -- ---- paths of which a front is taken
 
@@ -100,3 +102,24 @@ named-here xs i x h e k = all_map file_of (λ (f : File). is_host_path f.path) x
     mapped : (fs : List File) → list_all (λ (f : File). is_host_path f.path) fs ≡ list_all is_host_path (paths_of fs)
     mapped [] = refl
     mapped (f ∷ fs) = ap (λ (b : Bool). is_host_path f.path && b) (mapped fs)
+
+-- ---- files of which each is the first of its path
+
+all-front-of : {X : Type 0} (p : X → Bool) (xs ys : List X) → list_all p (xs ++ ys) ≡ true → list_all p xs ≡ true
+all-front-of p [] ys h = refl
+all-front-of p (x ∷ xs) ys h = grind (arith, all-front-of p xs ys)
+
+pub first-front : (items : List FileItem) (n : ℕ) → list_all is_first_item items ≡ true → list_all is_first_item (take n items) ≡ true
+first-front items n h = all-front-of is_first_item (take n items) (drop n items) (ap (list_all is_first_item) (take-append-drop n items) ∙ h)
+
+module _ (items : List FileItem) (placed : ArePlaced (paths_of (files items))) (first : list_all is_first_item items ≡ true) (i : ℕ) (item : FileItem) (inside : i < length items) (is : item ≡ get_or items i item) where
+  pub held-next : put_present (file_of item) (held_items (take i items)) ≡ held_items (take (i + 1) items)
+  held-next =
+      ap (put_present (file_of item)) (items-first (take i items) (first-front items i first))
+      ∙ (ap (λ (fs : List File). held_with fs []) (put-next items placed i item inside is)
+      ∙ sym (items-first (take (i + 1) items) (first-front items (i + 1) first)))
+
+  pub placed-held : ArePlaced (paths_of (put_file (file_of item) (held_items (take i items)).present))
+  placed-held =
+      subst (λ (h : Held). ArePlaced (paths_of (put_file (file_of item) h.present))) (sym (items-first (take i items) (first-front items i first)))
+      (placed-next items placed i item inside is)

@@ -22,8 +22,8 @@ use std::alloc::Global;
 use std::collections::BTreeMap;
 
 /// The trace of an application in a legal history, which begins in an opening
-/// state whose files are the first of their paths, and costs no more than its limit: what it holds of that state, and what
-/// then happens to it.
+/// state whose files are the first of their paths, and costs no more than its
+/// limit: what it holds of that state, and what then happens to it.
 pub fn trace_of(
     alloc: Global,
     opening: &OpeningState,

@@ -9,7 +9,8 @@ use vector_lines::notation::{cut, number, small_number, text};
 /// LOOKUP, `forget NODE COUNT`, `getattr NODE FLAGS FH`, `setattr NODE VALID FH SIZE`, `open
 /// NODE FLAGS`, `create NODE FLAGS NAME`, `read NODE FH OFFSET SIZE`, `write NODE FH OFFSET
 /// TEXT`, `flush NODE FH`, `fsync NODE FH`, `release NODE FH`, `opendir NODE`, `readdir NODE FH
-/// OFFSET SIZE`, `releasedir NODE FH` and `access NODE MASK`.
+/// OFFSET SIZE`, `releasedir NODE FH`, `access NODE MASK`, `rename NODE NEW_NODE FLAGS OLD NEW`
+/// and `unlink NODE NAME`.
 pub fn node_request(alloc: Global, word: &str, rest: &str) -> Result<NodeRequest, VectorError> {
     let (node, rest) = cut(rest);
     Ok(NodeRequest {
@@ -30,6 +31,10 @@ fn op(alloc: Global, word: &str, rest: &str) -> Result<NodeOp, VectorError> {
             name: text(alloc, more)?,
             flags: small_number(first)?,
         }),
+        "unlink" => Ok(NodeOp::Unlink {
+            name: text(alloc, rest)?,
+        }),
+        "rename" => renamed(alloc, number(first)?, more),
         "opendir" => Ok(NodeOp::OpenDir),
         "write" => written(alloc, number(first)?, more),
         "open" | "access" => flagged(word, small_number(first)?),
@@ -40,6 +45,19 @@ fn op(alloc: Global, word: &str, rest: &str) -> Result<NodeOp, VectorError> {
         "setattr" => resized(small_number(first)?, more),
         _ => numbered(word, number(first)?, more),
     }
+}
+
+/// A RENAME into a folder, by its flags and both names.
+fn renamed(alloc: Global, new_parent: u64, rest: &str) -> Result<NodeOp, VectorError> {
+    let (flags, names) = cut(rest);
+    let (old_name, new_name) = cut(names);
+    let flags = small_number(flags)?;
+    Ok(NodeOp::Rename {
+        new_parent,
+        flags,
+        old_name: text(alloc, old_name)?,
+        new_name: text(alloc, new_name)?,
+    })
 }
 
 /// A WRITE by the number of a handle.

@@ -1,7 +1,7 @@
-use Rattle.std.proofs.Common.{◌≡◌, take, map}
-use Rattle.portal_model.specs.Opening.{file_of}
+use Rattle.std.proofs.Common.{◌≡◌, take}
+use Rattle.portal_model.specs.Opening.{held_items}
 use Rattle.history_trace.specs.Replayed.{tree_with}
 use Rattle.history_trace.proofs.beginning.tree_of.Given as goal
 
 abbrev pub invariant-loop-file : goal.invariant-loop-file
-invariant-loop-file l = l.tree ≡ tree_with (map file_of (take l.file-index l.files))
+invariant-loop-file l = l.tree ≡ tree_with (held_items (take l.file-index l.files))

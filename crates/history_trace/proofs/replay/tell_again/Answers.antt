@@ -10,4 +10,4 @@ come-requires c =
     let awaits = c.in_ok-awaited.ensures s c.lent.ensures c.known.ensures.valid c.requires.lawful in
     fresh-next s (state_now c.ask_again.new.portal.story) e (change_of c.in_ok-awaited.awaited.change)
     c.args.files.now c.in-Ok.done c.requires.files c.in-Ok.ensures.goes.state
-    c.known-in-Ok.ensures.valid awaits.files c.in-Ok.ensures.done
+    c.known.ensures.valid c.known-in-Ok.ensures.valid awaits.files c.in-Ok.ensures.done

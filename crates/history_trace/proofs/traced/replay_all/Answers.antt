@@ -2,10 +2,11 @@ use Rattle.std.proofs.Common.{◌<◌, List, ◌++◌, length, map, take, ap, re
 use Rattle.app_trace.specs.Told.{item_told}
 use Rattle.app_world.specs.TraceItem.{TraceItem}
 use Rattle.app_world.specs.World.{items_of}
+use Rattle.file_generations.specs.Generations.{held_with}
 use Rattle.named_paths.specs.OpenNumbers.{Cover}
 use Rattle.portal_model.specs.History.{run}
 use Rattle.portal_model.specs.Opening.{opened}
-use Rattle.portal_model.specs.State.{State}
+use Rattle.portal_model.specs.State.{State, held_in}
 use Rattle.portal_model.specs.Step.{after}
 use Rattle.history_trace.proofs.Fronts.{at-first, at-next, items-next, lawful-there, room-there, run-next, some-there}
 use Rattle.history_trace.proofs.traced.replay_all.Goals as goal
@@ -14,7 +15,7 @@ pub loop-place-init : goal.loop-place-init
 loop-place-init c = record {
   at = at-first c.args.opening.now c.args.portal.now.story c.requires.begins;
   covered = λ seat n h. cc;
-  files_are = c.in_ok-files.ensures.placed (c.requires.started.files refl).placed;
+  files_are = λ i. held_with (c.in_ok-files.ensures.placed (c.requires.started.files refl).placed i) (c.in_ok-files.ensures.hidden i);
   items_are = ap (map item_told) c.new-told.ensures;
 }
 
@@ -32,7 +33,7 @@ replay-requires-clause-room c =
     room-there c.args.history.now.entries c.loop-place.place c.in-Some.entry.now c.in-Some.ensures c.args.opening.now c.loop-place.portal.story c.loop-place.invariant.at c.requires.within
 
 pub replay-requires-clause-files : goal.replay-requires-clause-files
-replay-requires-clause-files c = ap (λ (s : State). s.files) c.loop-place.invariant.at.state ∙ sym c.loop-place.invariant.files_are
+replay-requires-clause-files c = ap held_in c.loop-place.invariant.at.state ∙ sym c.loop-place.invariant.files_are
 
 pub replay-requires-clause-covered : goal.replay-requires-clause-covered
 replay-requires-clause-covered c =
@@ -55,7 +56,7 @@ loop-place-preserved c =
           c.in_ok-replay-in-Some.ensures.covered;
       files_are =
           c.in_ok-replay-in-Some.ensures.files
-          ∙ (ap (λ (s : State). (after s e).files) at.state ∙ ap (λ (s : State). s.files) (sym (run-next h i e there (opened o))));
+          ∙ (ap (λ (s : State). held_in (after s e)) at.state ∙ ap held_in (sym (run-next h i e there (opened o))));
       items_are =
           c.in_ok-replay-in-Some.ensures.items
           ∙ (ap (λ (s : State). map item_told c.loop-place.told ++ items_of c.args.app.now s e) at.state
