@@ -1,8 +1,8 @@
 -- What is done on a bus was allowed there, and so was what opens and closes a connection.
 use Rattle.std.proofs.Common.{◌≡◌, ℕ, List, [], ◌∷◌, map, Bool, true, false, not, ◌&&◌, ◌||◌, cond, Option, Some, None, is_some, refl, sym, ap, subst, ◌∙◌}
+use Rattle.file_generations.specs.Generations.{Held}
 use Rattle.portal_base.specs.Content.{look_at}
 use Rattle.portal_base.specs.Names.{is_app_name, is_same}
-use Rattle.portal_base.specs.declared.files.File.{File}
 use Rattle.portal_base.specs.declared.files.Look.{Look}
 use Rattle.portal_base.specs.declared.names.doc_id.DocId.{DocId}
 use Rattle.portal_base.specs.declared.who.Who.{Who}
@@ -38,7 +38,7 @@ use Rattle.portal_model.specs.Outside.{LawfulBus}
 use Rattle.portal_model.specs.Present.{may_present, present, present_path, queue_path}
 use Rattle.portal_model.specs.Revoke.{may_revoke, names_itself, revoke_reached}
 use Rattle.portal_model.specs.Rights.{held_by}
-use Rattle.portal_model.specs.State.{State, connection_of, who_has}
+use Rattle.portal_model.specs.State.{State, connection_of, held_in, who_has}
 use Rattle.portal_model.specs.Step.{all_told, bus_of, bus_step, collect_step, mount_of, request_step}
 use Rattle.portal_model.specs.Store.{Outcome, entry_of, entry_to_set, store_call, with_entry}
 use Rattle.portal_model.specs.StoreRequest.{are_store_arguments, has_entry_for, own_table, store_allowed, store_request, store_verdict, table_of}
@@ -129,22 +129,22 @@ list-was s c Who.Host app e h = rw e (passed (is_same app [] || is_app_name app)
 
 -- ---- an addition
 
-all-met : {X : Type 0} (files : List File) (now : ℕ) (paths : List (List ℕ)) (next : List Look → Walk X) → met files now (looks_at_all paths next) ≡ met files now (next (map (look_at files) paths))
-all-met files now [] next = refl
-all-met files now (path ∷ paths) next = all-met files now paths (λ (looks : List Look). next (look_at files path ∷ looks))
+all-met : {X : Type 0} (held : Held) (now : ℕ) (paths : List (List ℕ)) (next : List Look → Walk X) → met held now (looks_at_all paths next) ≡ met held now (next (map (look_at held.present) paths))
+all-met held now [] next = refl
+all-met held now (path ∷ paths) next = all-met held now paths (λ (looks : List Look). next (look_at held.present path ∷ looks))
 
-walk-passed : (files : List File) (now : ℕ) (b : Bool) (code : Code) (w : Walk Verdict) → IsDone (met files now (walk_unless (not b) code w)) → (b ≡ true) × IsDone (met files now w)
-walk-passed files now true code w h = (refl, h)
-walk-passed files now false code w h = absurd h
+walk-passed : (held : Held) (now : ℕ) (b : Bool) (code : Code) (w : Walk Verdict) → IsDone (met held now (walk_unless (not b) code w)) → (b ≡ true) × IsDone (met held now w)
+walk-passed held now true code w h = (refl, h)
+walk-passed held now false code w h = absurd h
 
-add-was : (s : State) (c : Connection) (a : AddRequest) (numbers : List DocId) (now : ℕ) → IsDone (met s.files now (add s c a numbers)) → may_add s c a ≡ true
+add-was : (s : State) (c : Connection) (a : AddRequest) (numbers : List DocId) (now : ℕ) → IsDone (met (held_in s) now (add s c a numbers)) → may_add s c a ≡ true
 add-was s c a numbers now h =
     let listed = may_list_all s c.who a (document_paths c.queue a) in
     let looks = map (look_at s.files) (paths_shown c.queue a) in
-    let first = walk-passed s.files now (are_presented c.queue a) Refusal.InvalidArgs (add_presented s c a numbers) h in
-    let second = walk-passed s.files now (are_add_arguments c.queue a) Refusal.InvalidArgument (add_allowed s c a numbers) first.1 in
-    let third = walk-passed s.files now listed Refusal.NotAllowed (add_looking s c a numbers) second.1 in
-    let shown : IsDone (met s.files now (add_shown s c a numbers looks)) = subst IsDone (all-met s.files now (paths_shown c.queue a) (add_shown s c a numbers)) third.1 in
+    let first = walk-passed (held_in s) now (are_presented c.queue a) Refusal.InvalidArgs (add_presented s c a numbers) h in
+    let second = walk-passed (held_in s) now (are_add_arguments c.queue a) Refusal.InvalidArgument (add_allowed s c a numbers) first.1 in
+    let third = walk-passed (held_in s) now listed Refusal.NotAllowed (add_looking s c a numbers) second.1 in
+    let shown : IsDone (met (held_in s) now (add_shown s c a numbers looks)) = subst IsDone (all-met (held_in s) now (paths_shown c.queue a) (add_shown s c a numbers)) third.1 in
     and-both (are_presented c.queue a) (are_add_arguments c.queue a && (listed && are_of_kind a (paths_shown c.queue a) looks)) first.0
     (and-both (are_add_arguments c.queue a) (listed && are_of_kind a (paths_shown c.queue a) looks) second.0
     (and-both listed (are_of_kind a (paths_shown c.queue a) looks) third.0
@@ -197,7 +197,7 @@ on_bus (Request.Info doc) = true
 on_bus (Request.ListDocuments app) = true
 on_bus (Request.Store call) = true
 
-walk-was : (s : State) (c : Connection) (request : Request) (numbers : List DocId) (now : ℕ) → on_bus request ≡ true → IsDone (met s.files now (bus_walk s c request numbers)) → is_allowed s c request ≡ true
+walk-was : (s : State) (c : Connection) (request : Request) (numbers : List DocId) (now : ℕ) → on_bus request ≡ true → IsDone (met (held_in s) now (bus_walk s c request numbers)) → is_allowed s c request ≡ true
 walk-was s c (Request.Present path) numbers now o h = present-was s c path h
 walk-was s c (Request.Add a) numbers now o h = add-was s c a numbers now h
 walk-was s c (Request.Grant call) numbers now o h =
@@ -218,30 +218,30 @@ settled-was s refused given (Refuses code) h = cc
 settled-was s refused given (Does d) h = tt
 
 -- no request of a bus lists a folder
-unlisted-unless : (files : List File) (wrong : Bool) (code : Code) (w : Walk Verdict) → listed_shown files w ≡ None → listed_shown files (walk_unless wrong code w) ≡ None
-unlisted-unless files true code w h = refl
-unlisted-unless files false code w h = h
+unlisted-unless : (held : Held) (wrong : Bool) (code : Code) (w : Walk Verdict) → listed_shown held w ≡ None → listed_shown held (walk_unless wrong code w) ≡ None
+unlisted-unless held true code w h = refl
+unlisted-unless held false code w h = h
 
-unlisted-all : (files : List File) (paths : List (List ℕ)) (v : List Look → Verdict) → listed_shown files (looks_at_all paths (λ looks. Answers (v looks))) ≡ None
-unlisted-all files [] v = refl
-unlisted-all files (path ∷ paths) v = unlisted-all files paths (λ looks. v (look_at files path ∷ looks))
+unlisted-all : (held : Held) (paths : List (List ℕ)) (v : List Look → Verdict) → listed_shown held (looks_at_all paths (λ looks. Answers (v looks))) ≡ None
+unlisted-all held [] v = refl
+unlisted-all held (path ∷ paths) v = unlisted-all held paths (λ looks. v (look_at held.present path ∷ looks))
 
-unlisted : (files : List File) (s : State) (c : Connection) (request : Request) (numbers : List DocId) → listed_shown files (bus_walk s c request numbers) ≡ None
-unlisted files s c (Request.Add a) numbers =
-    unlisted-unless files (not (are_presented c.queue a)) Refusal.InvalidArgs (add_presented s c a numbers)
-    (unlisted-unless files (not (are_add_arguments c.queue a)) Refusal.InvalidArgument (add_allowed s c a numbers)
-    (unlisted-unless files (not (may_list_all s c.who a (document_paths c.queue a))) Refusal.NotAllowed (add_looking s c a numbers)
-    (unlisted-all files (paths_shown c.queue a) (λ looks. unless (not (are_of_kind a (paths_shown c.queue a) looks)) Refusal.InvalidArgument (added s (added_files s c a numbers))))))
-unlisted files s c request numbers = refl
+unlisted : (held : Held) (s : State) (c : Connection) (request : Request) (numbers : List DocId) → listed_shown held (bus_walk s c request numbers) ≡ None
+unlisted held s c (Request.Add a) numbers =
+    unlisted-unless held (not (are_presented c.queue a)) Refusal.InvalidArgs (add_presented s c a numbers)
+    (unlisted-unless held (not (are_add_arguments c.queue a)) Refusal.InvalidArgument (add_allowed s c a numbers)
+    (unlisted-unless held (not (may_list_all s c.who a (document_paths c.queue a))) Refusal.NotAllowed (add_looking s c a numbers)
+    (unlisted-all held (paths_shown c.queue a) (λ looks. unless (not (are_of_kind a (paths_shown c.queue a) looks)) Refusal.InvalidArgument (added s (added_files s c a numbers))))))
+unlisted held s c request numbers = refl
 
 bus-was : (s : State) (c : Connection) (request : Request) (given : Given) → s.told ≡ true → on_bus request ≡ true → LawfulBus s c request given → given.fault ≡ Fault.None → is_refusal (bus_answer s c request given).1 ≡ false → is_allowed s c request ≡ true
 bus-was s c request given t o l e h =
     let w = bus_walk s c request given.numbers in
     let now = moment_given given.now in
-    let looks : given.looks ≡ looks_shown s.files w = walk_taken s w given t e l.looks in
-    let verdict : verdict_given w given ≡ Some (met s.files now w) = (λ i. walked w now (looks i) (is_tree (e i))) ∙ ((λ i. walked_with w now (sym (unlisted s.files s c request given.numbers) i) (looks_shown s.files w) false) ∙ walked_met s.files now w) in
+    let looks : given.looks ≡ looks_shown (held_in s) w = walk_taken s w given t e l.looks in
+    let verdict : verdict_given w given ≡ Some (met (held_in s) now w) = (λ i. walked w now (looks i) (is_tree (e i))) ∙ ((λ i. walked_with w now (sym (unlisted (held_in s) s c request given.numbers) i) (looks_shown (held_in s) w) false) ∙ walked_met (held_in s) now w) in
     walk-was s c request given.numbers now o
-    (settled-was s (refused_state s c request) given (met s.files now w) (sym (ap (λ (v : Option Verdict). is_refusal (settled s (refused_state s c request) given v).1) verdict) ∙ h))
+    (settled-was s (refused_state s c request) given (met (held_in s) now w) (sym (ap (λ (v : Option Verdict). is_refusal (settled s (refused_state s c request) given v).1) verdict) ∙ h))
 
 on-bus-was : (s : State) (request : Request) (given : Given) (o : Option Connection) → s.told ≡ true → on_bus request ≡ true → LawfulOnBus s request given o → given.fault ≡ Fault.None → is_refusal (bus_step s request given o).1.answer ≡ false → allowed_on_bus s request o ≡ true
 on-bus-was s request given None t d l e h = cc

@@ -1,7 +1,6 @@
 pub mod KeptHandles
 pub mod Revocations
 pub mod Touches
-pub mod Temporaries
 pub mod Examples
 pub mod TouchExamples
 pub mod ReuseExamples

@@ -11,9 +11,10 @@ use Rattle.portal_model.specs.declared.request.Request.{Request}
 use Rattle.portal_model.specs.declared.rights.Right.{Right}
 use Rattle.portal_model.specs.declared.state.Connection.{Connection}
 use Rattle.portal_model.specs.declared.rights.Right.TheVariants.{Read, Write}
+use Rattle.portal_model.specs.declared.temporary.Temp.{Temp}
 use Rattle.portal_model.specs.History.{Legal, makes, run}
 use Rattle.portal_model.specs.Open.{opens_to_write}
-use Rattle.portal_model.specs.Place.{naming_on, place_named}
+use Rattle.portal_model.specs.Place.{naming_on, place_named, temp_on}
 use Rattle.portal_model.specs.State.{State, app_has, connection_of}
 use Rattle.portal_model.specs.Step.{after, reply_at}
 use Rattle.app_world.specs.RightsTold.{is_given_in}
@@ -40,10 +41,19 @@ pub record IsNamedBelow (naming : Option Naming) (place : Option Place)
   pub at : place ≡ Some (Place.Named 0 k)
   pub document : named.document.number ≡ number
 
--- the place of a document's file or of the folder that it is, or one below it
-abbrev pub IsOfDocument : Option Naming → Option Place → ℕ → Type 0
-IsOfDocument naming place number =
-    (place ≡ Some (file_in_own_view number)) ⊎ IsNamedBelow naming place number
+-- what was made beside the document's file, to be renamed onto its name, in the same view
+pub record IsMadeBeside (temp : Option Temp) (place : Option Place) (number : ℕ) : Type 0 where
+  pub made : Temp
+  pub is : temp ≡ Some made
+  pub k : ℕ
+  pub at : place ≡ Some (Place.Temporary 0 k)
+  pub document : made.document.number ≡ number
+
+-- the place of a document's file or of the folder that it is, or one below it, or a temporary of it
+abbrev pub IsOfDocument : Option Naming → Option Temp → Option Place → ℕ → Type 0
+IsOfDocument naming temp place number =
+    (place ≡ Some (file_in_own_view number))
+    ⊎ (IsNamedBelow naming place number ⊎ IsMadeBeside temp place number)
 
 -- the application had the right before the entry, and hasn't it after
 abbrev pub loses_at : List ℕ → ℕ → Right → State → Entry → Bool
@@ -59,15 +69,18 @@ IsGivenAgain app number right s e later =
 -- ---- the law
 
 -- The OPEN, over this seat, is of a document's file in the application's own view, or of what the
--- connection named below a folder that is a document. Whatever the earlier entry took of the right
--- to read the document was given again between the two; so was the right to write it for an OPEN
--- that writes or truncates. And the application has these rights at the OPEN.
+-- connection named below a folder that is a document, or of a temporary of a document. Whatever the
+-- earlier entry took of the right to read the document was given again between the two; so was the
+-- right to write it for an OPEN that writes or truncates. And the application has these rights at
+-- the OPEN.
 pub record IsOpenedByRights (app : List ℕ) (flags seat : ℕ) (r : NodeRequest) (s : State)
     (earlier : Entry) (between : List Entry) : Type 0 where
   pub number : ℕ
   pub connection : Connection
   pub here : connection_of (run (after s earlier) between).connections seat ≡ Some connection
-  pub place : IsOfDocument (naming_on connection r.node) (place_named r.node) number
+  pub place :
+      IsOfDocument (naming_on connection r.node) (temp_on connection r.node) (place_named r.node)
+      number
   pub read : IsGivenAgain app number Read s earlier between
   pub write : opens_to_write flags ≡ true → IsGivenAgain app number Write s earlier between
   pub may_read : app_has (run (after s earlier) between).rights app number Read ≡ true

@@ -4,7 +4,6 @@ ghost use Rattle.file_laws.specs.KeptHandles.{OlderHandlesKeepTheirRights};
 ghost use Rattle.file_laws.specs.OnlyAllowed.{OnlyAllowedIsDone};
 ghost use Rattle.file_laws.specs.Revocations.{NoOpenAfterARevocation};
 ghost use Rattle.file_laws.specs.StrictHandles.{StrictHandlesFollowRevocations};
-ghost use Rattle.file_laws.specs.Temporaries.{TemporariesAreUntold};
 ghost use Rattle.file_laws.specs.Touches.{TouchesAreOfWhatIsHeld};
 
 /// What an application opens it may read then, and write where it opens to write
@@ -39,12 +38,6 @@ pub fn strict_handles_follow_revocations()
 /// that a document is gone which the application held. Nothing else.
 pub fn touches_are_of_what_is_held()
     ensures { TouchesAreOfWhatIsHeld }
-{}
-
-/// Until a temporary is renamed onto the document's name no entry on it tells another
-/// application anything: it is the file of the connection that made it alone.
-pub fn temporaries_are_untold()
-    ensures { TemporariesAreUntold }
 {}
 
 /// Over a tree that tells its files, where no device fails, what a seat asks is done

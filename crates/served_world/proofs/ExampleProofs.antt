@@ -7,6 +7,7 @@ use Rattle.portal_base.specs.Names.{child_of, doc_text, hex_number, is_app_name,
 use Rattle.portal_model.specs.Valid.{Valid}
 use Rattle.portal_model.proofs.DocumentExampleProofs.{no_keeper, none_nearer}
 use Rattle.portal_model.proofs.ExampleProofs.{a_path, editor_name, other_name}
+use Rattle.portal_model.proofs.GenerationsValid.{first-generations}
 use Rattle.app_world.specs.Examples.{b_text}
 use Rattle.served_world.specs.Examples.{AddedByLooks, AskedAtItsFiles, ContentsDifferAlone, IsLengthTold, IsMomentInTrace, OneTraceOfTwoWorlds, OthersAreTold, alone, among, over_bytes}
 
@@ -29,9 +30,12 @@ valid_alone = record {
   seats_differ = tt;
   connections_sound = refl;
   namings_sound = tt;
+  temps_sound = tt;
+  temps_taken = refl;
   handles_differ = tt;
   handles_sound = refl;
   handles_made = refl;
+  handles_taken = refl;
   handles_within = refl;
   entries_differ = tt;
   entries_sound = refl;
@@ -39,7 +43,7 @@ valid_alone = record {
   files_apart = refl;
   files_named = refl;
   files_told = λ e. refl;
-  taken_none = refl;
+  generations_sound = first-generations false _ refl;
   documents_within = omega arith;
   made_within = omega arith;
   applications_within = omega arith;
@@ -62,9 +66,12 @@ valid_among = record {
   seats_differ = tt;
   connections_sound = refl;
   namings_sound = tt;
+  temps_sound = tt;
+  temps_taken = refl;
   handles_differ = tt;
   handles_sound = refl;
   handles_made = refl;
+  handles_taken = refl;
   handles_within = refl;
   entries_differ = tt;
   entries_sound = refl;
@@ -72,7 +79,7 @@ valid_among = record {
   files_apart = refl;
   files_named = refl;
   files_told = λ e. refl;
-  taken_none = refl;
+  generations_sound = first-generations false _ refl;
   documents_within = omega arith;
   made_within = omega arith;
   applications_within = omega arith;
@@ -108,9 +115,12 @@ valid_over bytes = record {
   seats_differ = tt;
   connections_sound = refl;
   namings_sound = tt;
+  temps_sound = tt;
+  temps_taken = refl;
   handles_differ = tt;
   handles_sound = refl;
   handles_made = refl;
+  handles_taken = refl;
   handles_within = refl;
   entries_differ = tt;
   entries_sound = refl;
@@ -118,7 +128,7 @@ valid_over bytes = record {
   files_apart = refl;
   files_named = rw a_path refl;
   files_told = λ e. cc;
-  taken_none = refl;
+  generations_sound = first-generations true _ refl;
   documents_within = omega arith;
   made_within = omega arith;
   applications_within = omega arith;

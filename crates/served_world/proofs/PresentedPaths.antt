@@ -36,7 +36,7 @@ use Rattle.rights_rule.specs.Rights.{rights_named}
 use Rattle.app_world.specs.Add.{OwnAdded, OwnFile, content_shown, own_add, own_add_file, own_added_files, own_again, own_call_files, own_looks, own_may_list_all, own_taken_from_queue, own_use_document, own_walk_unless}
 use Rattle.app_world.specs.Bus.{own_bus_step, own_bus_verdict, own_kept, own_refused_view, own_settled}
 use Rattle.app_world.specs.DeleteDocument.{own_delete_reached}
-use Rattle.app_world.specs.Effect.{Effect, Bytes, Gained, Gone, Lost, apply, apply_all}
+use Rattle.app_world.specs.Effect.{Effect, Bytes, Gained, Gone, Lost, Turned, apply, apply_all}
 use Rattle.app_world.specs.Enter.{own_entered}
 use Rattle.app_world.specs.Grant.{own_grant_reached}
 use Rattle.app_world.specs.Leave.{own_left}
@@ -66,6 +66,7 @@ applied v (Gained d rights (Below files)) = refl
 applied v (Lost id rights) = refl
 applied v (Gone id) = refl
 applied v (Bytes path generation content) = refl
+applied v (Turned path generation content) = refl
 
 all-applied : (fs : List Effect) (v : AppView) → (apply_all v fs).connections ≡ v.connections
 all-applied [] v = refl

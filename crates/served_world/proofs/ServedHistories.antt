@@ -33,6 +33,7 @@ nothing-asked (effect.Gained d rights content ∷ fs) more = nothing-asked fs mo
 nothing-asked (effect.Lost id rights ∷ fs) more = nothing-asked fs more
 nothing-asked (effect.Gone id ∷ fs) more = nothing-asked fs more
 nothing-asked (effect.Bytes path generation content ∷ fs) more = nothing-asked fs more
+nothing-asked (effect.Turned path generation content ∷ fs) more = nothing-asked fs more
 
 nothing-replied : (fs : List Effect) (v : AppView) (more : List ServedItem) → served_replies v (flat_map items_of_effect fs ++ more) ≡ served_replies (views_after v (flat_map items_of_effect fs)) more
 nothing-replied [] v more = refl
@@ -40,6 +41,7 @@ nothing-replied (effect.Gained d rights content ∷ fs) v more = nothing-replied
 nothing-replied (effect.Lost id rights ∷ fs) v more = nothing-replied fs (view_after v (item.Lost id rights)) more
 nothing-replied (effect.Gone id ∷ fs) v more = nothing-replied fs (view_after v (item.Gone id)) more
 nothing-replied (effect.Bytes path generation content ∷ fs) v more = nothing-replied fs v more
+nothing-replied (effect.Turned path generation content ∷ fs) v more = nothing-replied fs v more
 
 -- ---- one entry, and then others
 

@@ -3,6 +3,7 @@
 -- is worked out by hand from the rules.
 use Rattle.std.specs.Prelude.{◌≡◌, ℕ, List, [], ◌∷◌, ◌++◌, codes, map, Some, None, false}
 use Rattle.std.specs.List.{flat_map}
+use Rattle.file_generations.specs.Generations.{held_with}
 use Rattle.portal_base.specs.declared.files.Look.{Look}
 use Rattle.portal_base.specs.declared.who.Kind.TheVariants as Kind
 use Rattle.portal_base.specs.declared.who.Who.{Who}
@@ -172,7 +173,7 @@ pub record AskedAtItsFiles : Type 0 where
 abbrev pub over_bytes : List ℕ → State
 over_bytes bytes =
     opened_over
-    (Some (record { path = a_text; generation = 0; bytes = bytes; moment = 7 } ∷ []))
+    (Some (held_with (record { path = a_text; generation = 0; bytes = bytes; moment = 7 } ∷ []) []))
     (opening (document 10 a_text (grant editor 1 ∷ []) ∷ []) [])
 
 abbrev pub reads_whole : List Entry
