@@ -1,0 +1,8 @@
+use Rattle.script_form.proofs.FirstFiles.{first_alone, none_beside}
+use Rattle.portal_lines.proofs.opened_by.Goals as goal
+
+pub start-requires-clause-first : goal.start-requires-clause-first
+start-requires-clause-first c =
+    let tree = c.in_ok-tree.field-0.tree in
+    let is = c.in_ok-tree.ensures.tree in
+    record { none_hidden = none_beside _ tree is; first = first_alone _ tree is }
