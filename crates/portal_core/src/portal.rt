@@ -8,7 +8,7 @@ ghost use Rattle.portal_model.specs.Seated.{is_open, rises_by};
 ghost use Rattle.portal_model.specs.Valid.{Valid};
 ghost use Rattle.portal_steps.specs.Answered.{Answers, KeepsState, Spends, TellsFault};
 ghost use Rattle.portal_steps.specs.Devices.{TellsFailure, is_reserved, may_ask_in_vain, may_ask_tree_in_vain, may_change_records, room_lent};
-ghost use Rattle.portal_steps.specs.Documents.{is_document_call};
+ghost use Rattle.portal_steps.specs.Documents.{DrewBy, is_document_call};
 ghost use Rattle.portal_steps.specs.Held.{told_files};
 ghost use Rattle.portal_core.specs.OpenFiles.{GoesByHandles, OpensByRights, StrictFollows};
 ghost use Rattle.portal_start.specs.Loading.{AreLists, BeganFirst};
@@ -290,6 +290,8 @@ impl<T: HostTree, K: Keeper, C: Clock, W: Words> Portal<T, K, C, W> {
         ensures failure { IfOk result (TellsFailure (T.is self.old.tree) (T.is self.new.tree)
             (K.is self.old.keeper) (K.is self.new.keeper)) }
         ensures err { OnErr result (Spends T.is K.is C.reads W.told self.old request self.new) }
+        ensures drew { OnErr result (DrewBy (state_now self.old.story) seat request
+            (W.told self.old.words) (W.told self.new.words)) }
         ensures unasked { may_ask_in_vain request ≡ false
             → OnErr result (IsAsBefore self.old self.new) }
 
@@ -346,6 +348,8 @@ impl<T: HostTree, K: Keeper, C: Clock, W: Words> Portal<T, K, C, W> {
         ensures failure { IfOk result (TellsFailure (T.is self.old.tree) (T.is self.new.tree)
             (K.is self.old.keeper) (K.is self.new.keeper)) }
         ensures err { OnErr result (Spends T.is K.is C.reads W.told self.old request self.new) }
+        ensures drew { OnErr result (DrewBy (state_now self.old.story) seat request
+            (W.told self.old.words) (W.told self.new.words)) }
         ensures unasked { may_ask_in_vain request ≡ false
             → OnErr result (IsAsBefore self.old self.new) }
         ensures full { limit_of self.old.story < cost_with self.old.story request
@@ -597,6 +601,8 @@ impl<T: HostTree, K: Keeper, C: Clock, W: Words> Portal<T, K, C, W> {
             (K.is self.old.keeper) (K.is self.new.keeper)) }
         ensures err { OnErr result
             (Spends T.is K.is C.reads W.told self.old (Request.Add add) self.new) }
+        ensures drew { OnErr result (DrewBy (state_now self.old.story) seat (Request.Add add)
+            (W.told self.old.words) (W.told self.new.words)) }
         ensures remains { OnErr result
             (self.old.spare ≤ self.new.spare + room_lent (Request.Add add)) }
     {

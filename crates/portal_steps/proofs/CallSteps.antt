@@ -42,9 +42,9 @@ use Rattle.host_tree.specs.Trees.{TreeIs}
 use Rattle.add_calls.specs.Shown.{Asked}
 use Rattle.document_calls.specs.Changes.{SameLimits}
 use Rattle.document_calls.specs.KeeperCalls.{KeeperStays, KeeperWent, ServesKept}
-use Rattle.portal_steps.specs.Answered.{DrewForMade, KeepsState}
+use Rattle.portal_steps.specs.Answered.{KeepsState}
 use Rattle.portal_steps.specs.Devices.{Keeping, KeeperWentOn, may_change_records}
-use Rattle.portal_steps.specs.Documents.{DrewOn, HasLists, ServedOn, is_document_call, with_lists, with_queues}
+use Rattle.portal_steps.specs.Documents.{DrewBy, DrewOn, HasLists, ServedOn, is_document_call, with_lists, with_queues}
 use Rattle.portal_steps.specs.Held.{Holds, Stands, told_files}
 use Rattle.portal_steps.proofs.AddVerdicts.{TellsNoFaultIf, add-tells, gives-none, queue-records}
 use Rattle.portal_steps.proofs.AskedCalls.{asked-risen}
@@ -192,6 +192,27 @@ tells-of-add s c a given lawful =
     (gives-none (files_told s) (moment_given given.now) (is_tree given.fault) given.looks (add s c a given.numbers) lawful.looks)
     (add-tells s c a given.numbers (moment_given given.now) given.looks (is_tree given.fault))
 
+-- ---- words that none drew
+
+undrew-on : (s : State) (a : AddRequest) (words : Option (List ℕ)) (o : Option Connection) → DrewOn s a words words o
+undrew-on s a words None = refl
+undrew-on s a words (Some c) = ([], refl, omega arith)
+
+pub undrew : (s : State) (seat : ℕ) (request : Request) (words : Option (List ℕ)) → DrewBy s seat request words words
+undrew s seat (Request.Add a) words = undrew-on s a words (bus_of (connection_of s.connections seat))
+undrew s seat (Request.Enter who kind) words = tt
+undrew s seat Request.Leave words = tt
+undrew s seat Request.Collect words = tt
+undrew s seat (Request.Node r) words = tt
+undrew s seat (Request.Present path) words = tt
+undrew s seat (Request.Grant call) words = tt
+undrew s seat (Request.Revoke call) words = tt
+undrew s seat (Request.DeleteDocument doc) words = tt
+undrew s seat (Request.LookupDocument path) words = tt
+undrew s seat (Request.Info doc) words = tt
+undrew s seat (Request.ListDocuments app) words = tt
+undrew s seat (Request.Store call) words = tt
+
 -- ---- the portal's lists
 
 -- the calls of a bus leave the open handles, the names, the files and the limits
@@ -215,12 +236,12 @@ module _ (began : Option Held) (o : OpeningState) (h : List Entry) (limit : ℕ)
   queued-at : at.limits.queued ≡ o.limits.queued
   queued-at = ap (λ (l : Limits). l.queued) p.holds.limits_are
 
-  -- the words that a refused Add of a seat drew
-  pub drew_added : (seat : ℕ) (a : AddRequest) (tells : Option Held) → tells ≡ told → (words words' : Option (List ℕ)) →
+  -- the words that a refused Add of a seat drew, on the bus of that seat
+  pub drew_by : (seat : ℕ) (a : AddRequest) (tells : Option Held) → tells ≡ told → (words words' : Option (List ℕ)) →
       ((s : State) (b : Option Connection) → Valid s → HasLists s ds rs apps cs → files_told s ≡ tells → option_map silent b ≡ bus_of (connection_of cs seat) → DrewOn s a words words' b) →
-      DrewForMade at a words words'
-  drew_added seat a tells t words words' k =
-      inr (seat, k at (bus_of (connection_of at.connections seat)) (valid-now began o h limit ds rs apps cs table own told p) p.holds.lists (p.holds.files ∙ sym t) (bus-now began o h limit ds rs apps cs table own told p seat))
+      DrewBy at seat (Request.Add a) words words'
+  drew_by seat a tells t words words' k =
+      k at (bus_of (connection_of at.connections seat)) (valid-now began o h limit ds rs apps cs table own told p) p.holds.lists (p.holds.files ∙ sym t) (bus-now began o h limit ds rs apps cs table own told p seat)
 
   module _ (ds' : DocumentList) (rs' : List Triple) (apps' : List (List ℕ)) (cs' : List Connection) (seat : ℕ) (request : Request) (given : Given) (signals : List Change) (answer : Answer) (old new : KeeperIs) where
     -- the state in which the request is answered, and the one after it

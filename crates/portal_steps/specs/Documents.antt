@@ -9,7 +9,8 @@ use Rattle.portal_model.specs.declared.request.Request.{Request}
 use Rattle.portal_model.specs.declared.state.Connection.{Connection}
 use Rattle.portal_model.specs.declared.state.Triple.{Triple}
 use Rattle.portal_model.specs.Lawful.{nothing_given}
-use Rattle.portal_model.specs.State.{State}
+use Rattle.portal_model.specs.State.{State, connection_of}
+use Rattle.portal_model.specs.Step.{bus_of}
 use Rattle.record_keeper.specs.Keepers.{KeeperIs}
 use Rattle.add_calls.specs.Placing.{HasDrawnUpTo}
 use Rattle.add_serving.specs.Adds.{documents_made}
@@ -71,3 +72,21 @@ abbrev pub DrewOn : State → AddRequest → Option (List ℕ) → Option (List 
     → Type 0
 DrewOn s a old new None = new ≡ old
 DrewOn s a old new (Some c) = HasDrawnUpTo (documents_made s c a) old new
+
+-- The words that a refused request of a seat drew, where it is an Add: no more than documents are
+-- made by it on the bus of that seat. No other request draws any.
+abbrev pub DrewBy : State → ℕ → Request → Option (List ℕ) → Option (List ℕ) → Type 0
+DrewBy s seat (Request.Add a) old new =
+    DrewOn s a old new (bus_of (connection_of s.connections seat))
+DrewBy s seat (Request.Enter who kind) old new = Unit {0}
+DrewBy s seat Request.Leave old new = Unit {0}
+DrewBy s seat Request.Collect old new = Unit {0}
+DrewBy s seat (Request.Node r) old new = Unit {0}
+DrewBy s seat (Request.Present path) old new = Unit {0}
+DrewBy s seat (Request.Grant call) old new = Unit {0}
+DrewBy s seat (Request.Revoke call) old new = Unit {0}
+DrewBy s seat (Request.DeleteDocument doc) old new = Unit {0}
+DrewBy s seat (Request.LookupDocument path) old new = Unit {0}
+DrewBy s seat (Request.Info doc) old new = Unit {0}
+DrewBy s seat (Request.ListDocuments app) old new = Unit {0}
+DrewBy s seat (Request.Store call) old new = Unit {0}

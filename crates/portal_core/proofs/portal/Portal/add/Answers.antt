@@ -1,4 +1,4 @@
-use Rattle.std.proofs.Common.{◌≡◌, ◌≤◌, ◌+◌, ◌∷◌, ◌++◌, [], length, None, ap, arith, refl, rules}
+use Rattle.std.proofs.Common.{◌≡◌, ◌≤◌, ◌+◌, ◌∷◌, ◌++◌, [], length, None, ap, arith, inr, refl, rules}
 use Rattle.file_ops.specs.SeatNames.{own_tables}
 use Rattle.portal_model.specs.declared.request.Request.TheVariants as Request
 use Rattle.portal_model.specs.Bus.{is_tree}
@@ -13,7 +13,7 @@ use Rattle.portal_steps.specs.TreeCalls.{entry_calls}
 use Rattle.portal_steps.proofs.BusCalls.{add-calls, bus-moment, listed}
 use Rattle.portal_steps.proofs.NodeSteps.{alike-same}
 use Rattle.portal_steps.proofs.AskedCalls.{asked-keeps, was-asked-keeps}
-use Rattle.portal_steps.proofs.CallSteps.{comes_added, drew_added, entry_with, failed_device, keeping_over, keeping_run, keeps_run, stands_over, stands_served, stays_told, stored_over, stored_served}
+use Rattle.portal_steps.proofs.CallSteps.{comes_added, drew_by, entry_with, failed_device, keeping_over, keeping_run, keeps_run, stands_over, stands_served, stays_told, stored_over, stored_served, undrew}
 use Rattle.portal_steps.proofs.Boxes.{taken-empty}
 use Rattle.portal_steps.proofs.Steps.{signals-now, stored_back}
 use Rattle.portal_steps.proofs.WentDevices.{spends-add, went-add}
@@ -146,8 +146,18 @@ returns-in-Err-clause-err g c =
     let tree = g.T.HostTree.is k.tree in
     let served = c.serve_add-served.new in
     let kept = was-asked-keeps _ tree (g.T.HostTree.is served.tree) c.in-Err.ensures.tree in
-    let made = drew_added tree.began k.opening k.history.entries k.history.limit k.documents k.rights k.applications k.connections k.handles (own_tables k.namings k.temps) tree.told c.self.invariant.0 c.args.seat c.args.add tree.told refl (g.W.Words.told k.words) (g.W.Words.told served.words) c.in-Err.ensures.made in
-    spends-add _ _ _ _ _ _ _ c.args.add refl (rw (← c.self.view_is) c.in-Err.ensures.tree) (rw (← c.self.view_is) c.in-Err.ensures.keeper) (search rules) (rw (← c.self.view_is) c.in-Err.ensures.words) (rw (← c.self.view_is) made) (rw (← c.self.view_is) kept.0) (search rules) (search rules)
+    let made = drew_by tree.began k.opening k.history.entries k.history.limit k.documents k.rights k.applications k.connections k.handles (own_tables k.namings k.temps) tree.told c.self.invariant.0 c.args.seat c.args.add tree.told refl (g.W.Words.told k.words) (g.W.Words.told served.words) c.in-Err.ensures.made in
+    spends-add _ _ _ _ _ _ _ c.args.add refl (rw (← c.self.view_is) c.in-Err.ensures.tree) (rw (← c.self.view_is) c.in-Err.ensures.keeper) (search rules) (rw (← c.self.view_is) c.in-Err.ensures.words) (rw (← c.self.view_is) (inr (c.args.seat, made))) (rw (← c.self.view_is) kept.0) (search rules) (search rules)
+
+pub returns-in_default-clause-drew : goal.returns-in_default-clause-drew
+returns-in_default-clause-drew g c = rw (← c.self.view_is) (undrew _ c.args.seat (Request.Add c.args.add) (g.W.Words.told c.self.inside.words))
+
+pub returns-in-Err-clause-drew : goal.returns-in-Err-clause-drew
+returns-in-Err-clause-drew g c =
+    let k = c.self.inside in
+    let tree = g.T.HostTree.is k.tree in
+    let drew = drew_by tree.began k.opening k.history.entries k.history.limit k.documents k.rights k.applications k.connections k.handles (own_tables k.namings k.temps) tree.told c.self.invariant.0 c.args.seat c.args.add tree.told refl (g.W.Words.told k.words) (g.W.Words.told c.serve_add-served.new.words) c.in-Err.ensures.made in
+    rw (← c.self.view_is) drew
 
 -- ---- memory that was taken ahead
 

@@ -19,6 +19,9 @@ pub returns-clause-err : goal.returns-clause-err
 returns-clause-err g c =
     rw c.count_refusals.ensures (err_counted g.T.HostTree.is g.K.Keeper.is g.C.Clock.reads g.W.Words.told c.args.self.now c.answer-answered.new.self c.refusals_after.result c.answer-answered.result c.args.request c.answer-answered.ensures.err)
 
+pub returns-clause-drew : goal.returns-clause-drew
+returns-clause-drew g c = rw c.count_refusals.ensures c.answer-answered.ensures.drew
+
 pub returns-clause-unasked : goal.returns-clause-unasked
 returns-clause-unasked g c h = as_before_err c.answer-answered.result c.args.self.now c.answer-answered.new.self c.count_refusals.new.self c.refusals_after.result c.count_refusals.ensures (c.answer-answered.ensures.unasked h)
 
