@@ -1,7 +1,7 @@
 -- Looks at paths, one after another.
 use Rattle.std.proofs.Common.{◌≡◌, ℕ, ◌+◌, ◌<◌, List, [], ◌∷◌, ◌++◌, drop, take, get_or, length, Bool, true, false, cond, Option, Some, None, refl, sym, ap, subst, ◌∙◌, arith, zero, suc}
 use Rattle.std.proofs.lemmas.List.{take_more}
-use Rattle.portal_base.specs.declared.files.File.{File}
+use Rattle.file_generations.specs.Generations.{Held}
 use Rattle.portal_base.specs.declared.files.Look.{Look}
 use Rattle.host_tree.specs.Trees.{Asks, TreeIs, after_call, Looks}
 use Rattle.host_tree.specs.declared.tree.TreeCall.TheVariants as TreeCall
@@ -10,14 +10,14 @@ use Rattle.portal_model.specs.Walk.{AtPath, IsShown, Gives, Walk, Answers, looks
 use Rattle.add_calls.specs.Shown.{Asked, Shows}
 
 -- what a tree answers is what it shows
-pub answer-shows : (told began : Option (List File)) (path : List ℕ) (shown : Look) → told ≡ began → Looks told path (look.Is shown) → IsShown began (AtPath path) shown
+pub answer-shows : (told began : Option Held) (path : List ℕ) (shown : Look) → told ≡ began → Looks told path (look.Is shown) → IsShown began (AtPath path) shown
 answer-shows None None path shown e h = tt
-answer-shows (Some files) (Some others) path shown e h = let same : files ≡ others = cc in subst (λ (fs : List File). IsShown (Some fs) (AtPath path) shown) same h
+answer-shows (Some files) (Some others) path shown e h = let same : files ≡ others = cc in subst (λ (held : Held). IsShown (Some held) (AtPath path) shown) same h
 answer-shows None (Some others) path shown e h = cc
 answer-shows (Some files) None path shown e h = tt
 
 -- one look more
-pub shows-more : (told : Option (List File)) (paths : List (List ℕ)) (path : List ℕ) (looks : List Look) (shown : Look) →
+pub shows-more : (told : Option Held) (paths : List (List ℕ)) (path : List ℕ) (looks : List Look) (shown : Look) →
     Shows told paths looks false → IsShown told (AtPath path) shown → Shows told (paths ++ path ∷ []) (looks ++ shown ∷ []) false
 shows-more told [] path [] shown h k = (k, (refl, refl))
 shows-more told [] path (l ∷ ls) shown h k = let e : l ∷ ls ≡ [] = h.0 in cc
@@ -25,7 +25,7 @@ shows-more told (p ∷ ps) path [] shown h k = cc
 shows-more told (p ∷ ps) path (l ∷ ls) shown h k = (h.0, shows-more told ps path ls shown h.1 k)
 
 -- the next one fails
-pub shows-failing : (told : Option (List File)) (paths : List (List ℕ)) (path : List ℕ) (rest : List (List ℕ)) (looks : List Look) →
+pub shows-failing : (told : Option Held) (paths : List (List ℕ)) (path : List ℕ) (rest : List (List ℕ)) (looks : List Look) →
     Shows told paths looks false → Shows told (paths ++ path ∷ rest) looks true
 shows-failing told [] path rest [] h = refl
 shows-failing told [] path rest (l ∷ ls) h = let e : l ∷ ls ≡ [] = h.0 in cc
@@ -60,13 +60,13 @@ split-at (x ∷ xs) (suc i) p d h e =
 
 -- ---- a walk that looks at paths and then answers
 
-pub gives-shown : {X : Type 0} (told : Option (List File)) (paths : List (List ℕ)) (next : List Look → Walk X) (answer : List Look → X) (looks : List Look) (failed : Bool) →
+pub gives-shown : {X : Type 0} (told : Option Held) (paths : List (List ℕ)) (next : List Look → Walk X) (answer : List Look → X) (looks : List Look) (failed : Bool) →
     ((ls : List Look) → next ls ≡ Answers (answer ls)) → Shows told paths looks failed → Gives told (looks_at_all paths next) looks failed
 gives-shown told [] next answer looks failed e h = subst (λ (w : Walk _). Gives told w looks failed) (sym (e [])) h
 gives-shown told (p ∷ ps) next answer [] failed e h = h
 gives-shown told (p ∷ ps) next answer (l ∷ ls) failed e h = (h.0, gives-shown told ps (λ looks. next (l ∷ looks)) (λ looks. answer (l ∷ looks)) ls failed (λ looks. e (l ∷ looks)) h.1)
 
-pub walked-shown : {X : Type 0} (told : Option (List File)) (paths : List (List ℕ)) (next : List Look → Walk X) (answer : List Look → X) (now : ℕ) (looks : List Look) (failed : Bool) →
+pub walked-shown : {X : Type 0} (told : Option Held) (paths : List (List ℕ)) (next : List Look → Walk X) (answer : List Look → X) (now : ℕ) (looks : List Look) (failed : Bool) →
     ((ls : List Look) → next ls ≡ Answers (answer ls)) → Shows told paths looks failed → walked (looks_at_all paths next) now looks failed ≡ cond failed None (Some (answer looks))
 walked-shown told [] next answer now [] failed e h = ap (λ (w : Walk _). walked w now [] failed) (e []) ∙ ap (λ (b : Bool). cond b None (Some (answer []))) (sym h.1)
 walked-shown told [] next answer now (l ∷ ls) failed e h = let f : l ∷ ls ≡ [] = h.0 in cc

@@ -2,7 +2,7 @@
 -- it.
 use Rattle.std.specs.Prelude.{◌≡◌, ℕ, zero, suc, List, [], ◌∷◌, Bool, true, false, Option, cond, Some, None}
 use Rattle.portal_base.specs.Calls.{FailsAsTold}
-use Rattle.portal_base.specs.declared.files.File.{File}
+use Rattle.file_generations.specs.Generations.{Held}
 use Rattle.portal_base.specs.declared.files.Look.{Look}
 use Rattle.host_tree.specs.Trees.{Asks, TreeIs, after_call}
 use Rattle.host_tree.specs.declared.tree.TreeCall.TheVariants as TreeCall
@@ -10,7 +10,7 @@ use Rattle.portal_model.specs.Verdict.{Verdict}
 use Rattle.portal_model.specs.Walk.{Answers, AtPath, Gives, IsShown, Walk, looks_at_all, walked}
 
 -- Something is shown at each path, up to a call that fails.
-abbrev pub Shows : Option (List File) → List (List ℕ) → List Look → Bool → Type 0
+abbrev pub Shows : Option Held → List (List ℕ) → List Look → Bool → Type 0
 Shows told [] looks failed = (looks ≡ []) × (failed ≡ false)
 Shows told (path ∷ paths) [] failed = failed ≡ true
 Shows told (path ∷ paths) (look ∷ looks) failed =
@@ -28,12 +28,12 @@ Asked old (suc n) failed new =
 -- fails it comes to the answer, and else to none.
 pub record LooksAreGiven : Type 0 where
   pub gives :
-      (told : Option (List File)) (paths : List (List ℕ)) (next : List Look → Walk Verdict)
+      (told : Option Held) (paths : List (List ℕ)) (next : List Look → Walk Verdict)
       (answer : List Look → Verdict) (looks : List Look) (failed : Bool) →
       ((shown : List Look) → next shown ≡ Answers (answer shown)) →
       Shows told paths looks failed → Gives told (looks_at_all paths next) looks failed
   pub comes_to :
-      (told : Option (List File)) (paths : List (List ℕ)) (next : List Look → Walk Verdict)
+      (told : Option Held) (paths : List (List ℕ)) (next : List Look → Walk Verdict)
       (answer : List Look → Verdict) (now : ℕ) (looks : List Look) (failed : Bool) →
       ((shown : List Look) → next shown ≡ Answers (answer shown)) →
       Shows told paths looks failed →

@@ -3,7 +3,7 @@ use Rattle.std.proofs.Common.{◌≡◌, ℕ, ◌+◌, ◌-◌, ◌≤◌, nat_l
 use Rattle.std.specs.List.{flat_map, list_all}
 use Rattle.std.proofs.lemmas.Bool.Decides.{nat_tests}
 use Rattle.portal_base.specs.Names.{child_of}
-use Rattle.portal_base.specs.declared.files.File.{File}
+use Rattle.file_generations.specs.Generations.{Held}
 use Rattle.portal_base.specs.declared.files.Look.{Look}
 use Rattle.portal_base.specs.declared.memory.WantOfMemory.{WantOfMemory}
 use Rattle.portal_base.specs.declared.names.doc_id.DocId.{DocId}
@@ -121,7 +121,7 @@ refused-add s c a code k e = record {
 
 -- ---- a call that is reached
 
-module _ (s : State) (c : Connection) (a : AddRequest) (who : Who) (paths : List (List ℕ)) (before : Book) (told : Option (List File)) (r : IsReached s c a who paths before told) where
+module _ (s : State) (c : Connection) (a : AddRequest) (who : Who) (paths : List (List ℕ)) (before : Book) (told : Option Held) (r : IsReached s c a who paths before told) where
   abbrev left : State
   left = with_queue c.seat (drop a.fds) s
 
@@ -144,7 +144,7 @@ module _ (s : State) (c : Connection) (a : AddRequest) (who : Who) (paths : List
 
     shown-are : (failed : Bool) → Shows told shown_paths looks failed → Shows (files_told s) (paths_shown c.queue a) looks failed
     shown-are failed h =
-        subst (λ (files : Option (List File)). Shows files (paths_shown c.queue a) looks failed) (sym r.files)
+        subst (λ (files : Option Held). Shows files (paths_shown c.queue a) looks failed) (sym r.files)
         (subst (λ (ps : List (List ℕ)). Shows told ps looks failed) (ap (λ (l : List (List ℕ)). flat_map (paths_looked_at a) (presented_of l a.handles)) (sym r.asked.taken)) h)
 
     -- the tree failed
@@ -309,18 +309,18 @@ module _ (s : State) (c : Connection) (a : AddRequest) (who : Who) (paths : List
 
 -- ---- the plan
 
-refuses-so : (a : AddRequest) (who : Who) (paths : List (List ℕ)) (before : Book) (told : Option (List File)) (k : KeeperIs) (code : Code) →
+refuses-so : (a : AddRequest) (who : Who) (paths : List (List ℕ)) (before : Book) (told : Option Held) (k : KeeperIs) (code : Code) →
     ((s : State) (c : Connection) → IsAsked s c a before.documents.live before.rights who paths → add s c a [] ≡ refuses code) → Adds a who paths before before told k k (refused_call code [])
 refuses-so a who paths before told k code h s c r = plan-refused s c a who paths before told r code k (h s c r.asked)
 
-by-error : (a : AddRequest) (who : Who) (paths : List (List ℕ)) (before : Book) (told : Option (List File)) (k : KeeperIs) (error : AddError) →
+by-error : (a : AddRequest) (who : Who) (paths : List (List ℕ)) (before : Book) (told : Option Held) (k : KeeperIs) (error : AddError) →
     ((s : State) (c : Connection) → IsAsked s c a before.documents.live before.rights who paths → (numbers : List DocId) → IsRefused (add s c a numbers) error) →
     IfOk (refusal error) (Adds a who paths before before told k k)
 by-error a who paths before told k InvalidArgument h = refuses-so a who paths before told k Code.InvalidArgument (λ s c asked. h s c asked [])
 by-error a who paths before told k NotAllowed h = refuses-so a who paths before told k Code.NotAllowed (λ s c asked. h s c asked [])
 by-error a who paths before told k Memory h = tt
 
-pub plan-error : (a : AddRequest) (who : Who) (paths : List (List ℕ)) (before : Book) (told : Option (List File)) (k : KeeperIs) (error : AddError) (result : Result ServedCall WantOfMemory) → result ≡ refusal error →
+pub plan-error : (a : AddRequest) (who : Who) (paths : List (List ℕ)) (before : Book) (told : Option Held) (k : KeeperIs) (error : AddError) (result : Result ServedCall WantOfMemory) → result ≡ refusal error →
     ((s : State) (c : Connection) → IsAsked s c a before.documents.live before.rights who paths → (numbers : List DocId) → IsRefused (add s c a numbers) error) →
     IfOk result (Adds a who paths before before told k k)
 plan-error a who paths before told k error result e h = subst (λ (x : Result ServedCall WantOfMemory). IfOk x (Adds a who paths before before told k k)) (sym e) (by-error a who paths before told k error h)
@@ -337,7 +337,7 @@ module _ (s : State) (c : Connection) (v : Valid s) (queue : List (List ℕ)) (m
   left-queue Fault.Keeper a book = ap (λ (u : State). record (with_lists s book) { connections = u.connections }) (sym (same-queue s c v queue most q))
 
 -- a call that names presented files is reached
-reached-so : (s : State) (c : Connection) (a : AddRequest) (who : Who) (queue paths : List (List ℕ)) (before : Book) (told : Option (List File)) → are_presented queue a ≡ true → paths ≡ take a.fds queue → IsBook s before.documents before.rights before.applications → IsQueue s c queue s.limits.queued →
+reached-so : (s : State) (c : Connection) (a : AddRequest) (who : Who) (queue paths : List (List ℕ)) (before : Book) (told : Option Held) → are_presented queue a ≡ true → paths ≡ take a.fds queue → IsBook s before.documents before.rights before.applications → IsQueue s c queue s.limits.queued →
     files_told s ≡ told → Valid s → c.who ≡ who → IsReached s c a who paths before told
 reached-so s c a who queue paths before told p t b q f v w =
     let presented : are_presented c.queue a ≡ true = ap (λ (qs : List (List ℕ)). are_presented qs a) q.own ∙ p in
@@ -355,7 +355,7 @@ reached-so s c a who queue paths before told p t b q f v w =
       presented = presented;
     }
 
-pub add-follows : (a : AddRequest) (who : Who) (queue paths queue_after : List (List ℕ)) (before after : Book) (told : Option (List File)) (old new : KeeperIs) (served : ServedCall) →
+pub add-follows : (a : AddRequest) (who : Who) (queue paths queue_after : List (List ℕ)) (before after : Book) (told : Option Held) (old new : KeeperIs) (served : ServedCall) →
     are_presented queue a ≡ true → paths ≡ take a.fds queue → queue_after ≡ queue_left served.given.fault a.fds queue → Adds a who paths before after told old new served →
     (s : State) (c : Connection) → IsBook s before.documents before.rights before.applications → IsQueue s c queue s.limits.queued → files_told s ≡ told → Valid s → c.who ≡ who →
     ServesKept s c (Request.Add a) served.given (queue_set (with_book s after.documents after.rights after.applications) c queue_after) served.answer old new
@@ -365,11 +365,11 @@ add-follows a who queue paths queue_after before after told old new served p t l
     (adds s c (reached-so s c a who queue paths before told p t b q f v w))
 
 -- and where it is refused, no more words were drawn than documents are made by it
-pub add-draws : (a : AddRequest) (who : Who) (queue paths : List (List ℕ)) (before : Book) (told : Option (List File)) (old new : Option (List ℕ)) → are_presented queue a ≡ true → paths ≡ take a.fds queue → DrewNoMore a who paths before told old new →
+pub add-draws : (a : AddRequest) (who : Who) (queue paths : List (List ℕ)) (before : Book) (told : Option Held) (old new : Option (List ℕ)) → are_presented queue a ≡ true → paths ≡ take a.fds queue → DrewNoMore a who paths before told old new →
     (s : State) (c : Connection) → IsBook s before.documents before.rights before.applications → IsQueue s c queue s.limits.queued → files_told s ≡ told → Valid s → c.who ≡ who → HasDrawnUpTo (documents_made s c a) old new
 add-draws a who queue paths before told old new p t drew s c b q f v w = drew s c (reached-so s c a who queue paths before told p t b q f v w)
 
-pub not-presented : (a : AddRequest) (who : Who) (queue : List (List ℕ)) (before : Book) (told : Option (List File)) (k : KeeperIs) (served : ServedCall) → are_presented queue a ≡ false → served ≡ refused_call Code.InvalidArgs [] →
+pub not-presented : (a : AddRequest) (who : Who) (queue : List (List ℕ)) (before : Book) (told : Option Held) (k : KeeperIs) (served : ServedCall) → are_presented queue a ≡ false → served ≡ refused_call Code.InvalidArgs [] →
     (s : State) (c : Connection) → IsBook s before.documents before.rights before.applications → IsQueue s c queue s.limits.queued → files_told s ≡ told → Valid s → c.who ≡ who →
     ServesKept s c (Request.Add a) served.given (queue_set (with_book s before.documents before.rights before.applications) c queue) served.answer k k
 not-presented a who queue before told k served p e s c b q f v w =
@@ -407,7 +407,7 @@ kinds-asked a queue paths items looks taken planned =
 abbrev pub paths_asked : AddRequest → List (List ℕ) → List (List ℕ)
 paths_asked a paths = flat_map (paths_looked_at a) (presented_of paths a.handles)
 
-module _ (a : AddRequest) (who : Who) (paths : List (List ℕ)) (before : Book) (told : Option (List File)) (plan : AddPlan) (is : IsPlanOf who a paths before.documents.live before.rights plan) (looks : List Look) (failed : Bool) (shows : Shows told (paths_asked a paths) looks failed) where
+module _ (a : AddRequest) (who : Who) (paths : List (List ℕ)) (before : Book) (told : Option Held) (plan : AddPlan) (is : IsPlanOf who a paths before.documents.live before.rights plan) (looks : List Look) (failed : Bool) (shows : Shows told (paths_asked a paths) looks failed) where
   pub unseen-follows : (k : KeeperIs) (served : ServedCall) → failed ≡ true → served ≡ unseen_call looks → Adds a who paths before before told k k served
   unseen-follows k served f e s c r =
       subst (λ (x : ServedCall). ServesKept s c (Request.Add a) x.given (left_by x.given.fault c a (with_lists s before)) x.answer k k) (sym e)

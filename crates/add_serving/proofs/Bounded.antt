@@ -3,7 +3,7 @@ use Rattle.std.specs.Prelude.{OnErr}
 use Rattle.std.proofs.Common.{◌≡◌, ◌+◌, ◌-◌, ◌≤◌, ◌++◌, ◌&&◌, ℕ, suc, List, [], ◌∷◌, drop, get_or, length, length-append, map, nat_le, Bool, true, false, cond, Option, Result, Ok, Err, refl, sym, ap, subst, ◌∙◌, arith}
 use Rattle.std.specs.List.{flat_map}
 use Rattle.std.proofs.lemmas.List.Sums.{count_by-le-length}
-use Rattle.portal_base.specs.declared.files.File.{File}
+use Rattle.file_generations.specs.Generations.{Held}
 use Rattle.portal_base.specs.declared.files.Look.{Look}
 use Rattle.portal_base.specs.declared.who.Who.{Who}
 use Rattle.host_tree.specs.Trees.{TreeIs}
@@ -38,7 +38,7 @@ mapped f (x ∷ xs) = ap suc (mapped f xs)
 -- ---- looks
 
 -- a thing is shown at a path once at most
-shown-few : (told : Option (List File)) (paths : List (List ℕ)) (looks : List Look) (failed : Bool) → Shows told paths looks failed → length looks ≤ length paths
+shown-few : (told : Option Held) (paths : List (List ℕ)) (looks : List Look) (failed : Bool) → Shows told paths looks failed → length looks ≤ length paths
 shown-few told [] looks failed h = let none : length looks ≡ 0 = ap (λ (l : List Look). length l) h.0 in omega arith
 shown-few told (p ∷ ps) [] failed h = let none : 0 ≤ length (p ∷ ps) = omega arith in none
 shown-few told (p ∷ ps) (l ∷ ls) failed h = let rest : length ls ≤ length ps = shown-few told ps ls failed h.1 in omega arith
@@ -61,7 +61,7 @@ looked-all a false e (f ∷ fs) =
     let rest : length (flat_map (paths_looked_at a) fs) ≡ length fs = looked-all a false e fs in
     length-append (paths_looked_at a f) (flat_map (paths_looked_at a) fs) ∙ ((λ i. one i + rest i) ∙ one-more (length fs))
 
-pub looks-few : (a : AddRequest) (paths : List (List ℕ)) (told : Option (List File)) (looks : List Look) (failed : Bool) → are_few a ≡ true → Shows told (flat_map (paths_looked_at a) (presented_of paths a.handles)) looks failed → length looks ≤ most_looks a
+pub looks-few : (a : AddRequest) (paths : List (List ℕ)) (told : Option Held) (looks : List Look) (failed : Bool) → are_few a ≡ true → Shows told (flat_map (paths_looked_at a) (presented_of paths a.handles)) looks failed → length looks ≤ most_looks a
 looks-few a paths told looks failed few h =
     let asked = shown-few told (flat_map (paths_looked_at a) (presented_of paths a.handles)) looks failed h in
     let files : length (presented_of paths a.handles) ≡ length a.handles = mapped (λ (handle : ℕ). get_or paths handle []) a.handles in
@@ -95,7 +95,7 @@ words-few a plan paths told told_after few planned d =
     no-more x y z h k = omega arith
 
 -- a plan makes as many documents as it has files whose documents are new
-made-so : (s : State) (c : Connection) (a : AddRequest) (who : Who) (paths : List (List ℕ)) (before : Book) (told : Option (List File)) (plan : AddPlan) → IsReached s c a who paths before told → IsPlan s c a plan → IsOfCall who a plan → documents_made s c a ≡ words_for plan.items
+made-so : (s : State) (c : Connection) (a : AddRequest) (who : Who) (paths : List (List ℕ)) (before : Book) (told : Option Held) (plan : AddPlan) → IsReached s c a who paths before told → IsPlan s c a plan → IsOfCall who a plan → documents_made s c a ≡ words_for plan.items
 made-so s c a who paths before told plan r is call =
     let left : State = taken_from_queue c a s in
     let called : IsOfCall c.who a plan = subst (λ (w : Who). IsOfCall w a plan) (sym r.asked.caller) call in
@@ -108,12 +108,12 @@ made-so s c a who paths before told plan r is call =
     so-many : (after before new : ℕ) → after ≡ before + new → after - before ≡ new
     so-many after before new e = omega arith
 
-pub drew-for-made : (a : AddRequest) (who : Who) (paths : List (List ℕ)) (before : Book) (told : Option (List File)) (plan : AddPlan) (old new : Option (List ℕ)) → IsPlanOf who a paths before.documents.live before.rights plan → IsOfCall who a plan → HasDrawnUpTo (words_for plan.items) old new →
+pub drew-for-made : (a : AddRequest) (who : Who) (paths : List (List ℕ)) (before : Book) (told : Option Held) (plan : AddPlan) (old new : Option (List ℕ)) → IsPlanOf who a paths before.documents.live before.rights plan → IsOfCall who a plan → HasDrawnUpTo (words_for plan.items) old new →
     DrewNoMore a who paths before told old new
 drew-for-made a who paths before told plan old new is call d s c r =
     subst (λ (n : ℕ). HasDrawnUpTo n old new) (sym (made-so s c a who paths before told plan r (is s c r.asked) call)) d
 
-pub drew-for-none : (a : AddRequest) (who : Who) (paths : List (List ℕ)) (before : Book) (told : Option (List File)) (words : Option (List ℕ)) → DrewNoMore a who paths before told words words
+pub drew-for-none : (a : AddRequest) (who : Who) (paths : List (List ℕ)) (before : Book) (told : Option Held) (words : Option (List ℕ)) → DrewNoMore a who paths before told words words
 drew-for-none a who paths before told words s c r = drew-none (documents_made s c a) words words refl
 
 -- ---- what a refusal says, whatever is answered

@@ -1,6 +1,6 @@
 -- An addition that is served, over the portal's lists, the tree, the words and the keeper.
 use Rattle.std.specs.Prelude.{◌≡◌, ◌+◌, ◌-◌, ◌≤◌, ℕ, List, [], drop, length, map, nat_le, true, false, cond, Option}
-use Rattle.portal_base.specs.declared.files.File.{File}
+use Rattle.file_generations.specs.Generations.{Held}
 use Rattle.portal_base.specs.declared.who.Who.{Who}
 use Rattle.host_tree.specs.Trees.{TreeIs}
 use Rattle.portal_model.specs.declared.entry.Fault.{Fault}
@@ -55,7 +55,7 @@ left_by Fault.Keeper c a s = s
 
 -- the call comes over this connection in this state, which has these lists; the tree tells this
 pub record IsReached (s : State) (c : Connection) (a : AddRequest) (who : Who)
-    (paths : List (List ℕ)) (before : Book) (told : Option (List File)) : Type 0 where
+    (paths : List (List ℕ)) (before : Book) (told : Option Held) : Type 0 where
   pub asked : IsAsked s c a before.documents.live before.rights who paths
   pub book : IsBook s before.documents before.rights before.applications
   pub files : files_told s ≡ told
@@ -63,7 +63,7 @@ pub record IsReached (s : State) (c : Connection) (a : AddRequest) (who : Who)
   pub presented : are_presented c.queue a ≡ true
 
 -- the call is served, in any such state
-abbrev pub Adds : AddRequest → Who → List (List ℕ) → Book → Book → Option (List File) →
+abbrev pub Adds : AddRequest → Who → List (List ℕ) → Book → Book → Option Held →
     KeeperIs → KeeperIs → ServedCall → Type 0
 Adds a who paths before after told old new served =
     (s : State) (c : Connection) → IsReached s c a who paths before told →
@@ -71,7 +71,7 @@ Adds a who paths before after told old new served =
     (left_by served.given.fault c a (with_lists s after)) served.answer old new
 
 -- no more words were drawn than documents are made by the call, in any such state
-abbrev pub DrewNoMore : AddRequest → Who → List (List ℕ) → Book → Option (List File) →
+abbrev pub DrewNoMore : AddRequest → Who → List (List ℕ) → Book → Option Held →
     Option (List ℕ) → Option (List ℕ) → Type 0
 DrewNoMore a who paths before told old new =
     (s : State) (c : Connection) → IsReached s c a who paths before told →
