@@ -1,6 +1,6 @@
-use Rattle.std.proofs.Common.{◌≡◌, List, Some, None, ◌∙◌, ap, sym, subst}
+use Rattle.std.proofs.Common.{◌≡◌, List, None, ◌∙◌, ap, sym, subst}
 use Rattle.std.specs.List.{position}
-use Rattle.file_generations.specs.Generations.{Held, held_with, turned}
+use Rattle.file_generations.specs.Generations.{held_with, turned}
 use Rattle.tree_files.specs.Kept.{NamesDiffer, files_of, hidden_of}
 use Rattle.tree_files.specs.declared.kept.HiddenFile.{HiddenFile}
 use Rattle.tree_files.proofs.Entries.{err-then, ok-then}

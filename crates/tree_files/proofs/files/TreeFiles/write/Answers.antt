@@ -2,7 +2,7 @@ use Rattle.std.proofs.Common.{◌≡◌, List, Some, None, ◌∙◌, ap, sym, s
 use Rattle.std.specs.List.{position, slice_set}
 use Rattle.portal_base.specs.FileChanges.{change_named, written}
 use Rattle.portal_base.specs.declared.files.File.{File}
-use Rattle.file_generations.specs.Generations.{Held, change_held, held_with}
+use Rattle.file_generations.specs.Generations.{change_held, held_with}
 use Rattle.tree_files.specs.Kept.{NamesDiffer, file_kept, files_of, hidden_of, kept_written}
 use Rattle.tree_files.specs.declared.kept.HiddenFile.{HiddenFile}
 use Rattle.tree_files.specs.declared.kept.KeptFile.{KeptFile}
