@@ -1,7 +1,7 @@
 -- The numbers of handles up to their limit: what each OPEN makes of the state, by whether the limit is met.
 use Rattle.std.proofs.Common.{◌≡◌, ℕ, zero, suc, ◌+◌, ◌<◌, ◌≤◌, ◌==◌, nat_lt, List, [], ◌∷◌, ◌++◌, length, Bool, true, false, not, cond, Some, None, refl, ap, ◌∙◌, arith}
 use Rattle.std.proofs.lemmas.Bool.Decides.{nat_tests}
-use Rattle.portal_base.specs.declared.files.File.{File}
+use Rattle.file_generations.specs.Generations.{Held}
 use Rattle.portal_base.specs.declared.who.Kind.TheVariants as Kind
 use Rattle.portal_base.specs.declared.who.Who.{Who}
 use Rattle.portal_model.specs.declared.entry.Given.{Given}
@@ -18,7 +18,7 @@ use Rattle.portal_model.specs.Node.{is_full, new_handle, node_given, settled_on_
 use Rattle.portal_model.specs.NodeVerdict.{NodeVerdict}
 use Rattle.portal_model.specs.Open.{file_handle, open_node}
 use Rattle.portal_model.specs.Place.{SightOfFile}
-use Rattle.portal_model.specs.State.{State, handles_of}
+use Rattle.portal_model.specs.State.{State, handles_of, held_in}
 use Rattle.portal_model.specs.Walk.{Walk, listed_shown, looks_shown, reads_clock}
 use Rattle.file_laws.specs.HandleLimits.{HandlesAreLimited, HandlesUpTo, opened_up_to}
 
@@ -41,8 +41,8 @@ at limit opens handles = record (limited_to limit (with_rights 3)) {
   handles = handles;
 }
 
-abbrev files : List File
-files = (with_rights 3).files
+abbrev files : Held
+files = held_in (with_rights 3)
 
 -- the document, as it is kept
 abbrev a_document : Document

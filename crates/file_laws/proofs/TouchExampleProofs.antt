@@ -7,6 +7,7 @@ use Rattle.portal_base.specs.Names.{doc_text, hex_number, is_app_name, is_doc_id
 use Rattle.portal_model.specs.Opening.{opened}
 use Rattle.portal_model.specs.Valid.{Valid}
 use Rattle.portal_model.proofs.ExampleProofs.{a_path, editor_name}
+use Rattle.portal_model.proofs.GenerationsValid.{first-generations}
 use Rattle.portal_model.specs.DocumentExamples.{viewer}
 use Rattle.app_world.specs.Examples.{b_text}
 use Rattle.file_laws.specs.TouchExamples.{AreItemsTold, IsToldOfAGrant, OtherPathIsNotTold, SharedFileIsTold, one_file, two_paths}
@@ -34,9 +35,12 @@ valid_one_file = record {
   seats_differ = tt;
   connections_sound = refl;
   namings_sound = tt;
+  temps_sound = tt;
+  temps_taken = refl;
   handles_differ = tt;
   handles_sound = refl;
   handles_made = refl;
+  handles_taken = refl;
   handles_within = refl;
   entries_differ = tt;
   entries_sound = refl;
@@ -44,7 +48,7 @@ valid_one_file = record {
   files_apart = refl;
   files_named = rw a_path refl;
   files_told = λ e. cc;
-  taken_none = refl;
+  generations_sound = first-generations true _ refl;
   documents_within = omega arith;
   made_within = omega arith;
   applications_within = omega arith;
@@ -67,9 +71,12 @@ valid_two_paths = record {
   seats_differ = tt;
   connections_sound = refl;
   namings_sound = tt;
+  temps_sound = tt;
+  temps_taken = refl;
   handles_differ = tt;
   handles_sound = refl;
   handles_made = refl;
+  handles_taken = refl;
   handles_within = refl;
   entries_differ = tt;
   entries_sound = refl;
@@ -77,7 +84,7 @@ valid_two_paths = record {
   files_apart = refl;
   files_named = rw (b_path, a_path) refl;
   files_told = λ e. cc;
-  taken_none = refl;
+  generations_sound = first-generations true _ refl;
   documents_within = omega arith;
   made_within = omega arith;
   applications_within = omega arith;

@@ -1,6 +1,6 @@
 -- The worked examples, by computation.
 use lib.Utf8.{encode}
-use Rattle.std.proofs.Common.{◌≡◌, ℕ, List, [], codes, true, refl, arith}
+use Rattle.std.proofs.Common.{◌≡◌, ℕ, List, [], codes, true, false, refl, arith}
 use Rattle.std.specs.List.{IsDistinct}
 use Rattle.std.specs.Str.{is_utf8, chars}
 use Rattle.portal_base.specs.Names.{child_of, doc_text, hex_number, is_app_name, is_doc_id, is_host_path, is_in_own_folder, name_of, own_folder, parent_of}
