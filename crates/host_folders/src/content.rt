@@ -133,9 +133,13 @@ pub fn set_like(file: &File, other: &Metadata) -> Result<(), TreeError> {
     Ok(())
 }
 
-/// Copies the bytes of a file behind each other into another, which is empty, and when it changed
-/// last.
+/// Copies the bytes of a file behind each other into another, which is empty, and all that is told
+/// of it: who may use it, and when it was read and changed last.
 pub fn copy(alloc: Global, from: &File, to: &File) -> Result<(), TreeError> {
+    let metadata = match from.metadata() {
+        Ok(metadata) => metadata,
+        Err(error) => return Err(fault(error.kind())),
+    };
     let mut at = 0u64;
     for _ in 0..u64::MAX {
         let bytes = read(alloc, from, at, PIECE)?;
@@ -147,10 +151,9 @@ pub fn copy(alloc: Global, from: &File, to: &File) -> Result<(), TreeError> {
         }
         at = at.saturating_add(bytes.len() as u64);
     }
-    if let Ok(metadata) = from.metadata() {
-        if let Ok(modified) = metadata.modified() {
-            let _ = to.set_times(FileTimes::new().set_modified(modified));
-        }
+    set_like(to, &metadata)?;
+    if let Ok(modified) = metadata.modified() {
+        let _ = to.set_times(FileTimes::new().set_modified(modified));
     }
     Ok(())
 }

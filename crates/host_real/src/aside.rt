@@ -8,13 +8,16 @@ use host_folders::folder::{Folder, write_link};
 use host_folders::own::FOLDERS;
 use host_folders::sight::{Kind, Sight};
 use std::alloc::Global;
-use std::fs::{DirBuilder, File, OpenOptions, TryLockError};
+use std::fs::{DirBuilder, File, OpenOptions, Permissions, TryLockError};
 use std::io::ErrorKind;
-use std::os::unix::fs::{DirBuilderExt, PermissionsExt};
+use std::os::unix::fs::{DirBuilderExt, MetadataExt, PermissionsExt};
 use std::{fs, io};
 
 /// Only the owner may go into the folder.
 const MODE: u32 = 0o700;
+
+/// The bits of a mode that say who may read, write and enter a folder.
+const MODE_BITS: u32 = 0o777;
 
 /// The bits by which a folder's group or others may write in it.
 const WRITE_OF_OTHERS: u32 = 0o022;
@@ -151,14 +154,19 @@ fn folder_in(
     }
 }
 
-/// Refuses a folder that others may write in: what is in it would be theirs to exchange.
+/// Refuses a folder of another owner, or one that others may write in: what is in it would be
+/// theirs to exchange. Nobody else may go into it from then on.
 fn see_own(system: &HostRuntime, link: &mut String, folder: &Folder) -> io::Result<()> {
     write_link(link, folder.number(), "")?;
-    let mode = fs::metadata(system, link.as_str())?.permissions().mode();
-    if mode & WRITE_OF_OTHERS != 0 {
+    let metadata = fs::metadata(system, link.as_str())?;
+    let mode = metadata.mode() & MODE_BITS;
+    if metadata.uid() != libc::geteuid() || mode & WRITE_OF_OTHERS != 0 {
         return Err(io::Error::from(ErrorKind::PermissionDenied));
     }
-    Ok(())
+    if mode == MODE {
+        return Ok(());
+    }
+    fs::set_permissions(system, link.as_str(), Permissions::from_mode(MODE))
 }
 
 /// The lock of a folder; nothing where another service holds it.

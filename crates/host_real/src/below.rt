@@ -21,13 +21,17 @@ use portal_base::files::{ChildName, FileName, Look};
 use portal_base::list::{ByteList, List};
 use portal_base::names::HostPath;
 use std::alloc::Global;
-use std::fs::{File, Metadata};
+use std::fs::{File, Metadata, OpenOptions};
 use std::io::ErrorKind;
 use std::os::fd::AsRawFd;
+use std::os::unix::fs::OpenOptionsExt;
 use std::{fs, io};
 
 /// The most files that aren't present and that are known.
 const MOST_HIDDEN: usize = 4_096;
+
+/// Only the owner may read a copy that isn't in its place yet, and write to it.
+const COPY_MODE: u32 = 0o600;
 
 /// The most files that others took the place of and that have a second name.
 const MOST_FORMER: usize = 16;
@@ -408,7 +412,7 @@ impl<R: Waiter> FilesBelow<R> {
         match aside.put(stored.number, link) {
             Ok(()) => {}
             Err(error) if error.kind() == ErrorKind::CrossesDevices => {
-                self.put_copy(name, place, generation, former)?;
+                self.put_copy(name, place, generation)?;
                 self.remove_aside(stored.number);
             }
             Err(error) if error.kind() == ErrorKind::IsADirectory => {
@@ -449,24 +453,23 @@ impl<R: Waiter> FilesBelow<R> {
     }
 
     /// Puts a copy of a file that isn't present in a place on another mount. The copy is whole and
-    /// at rest before it has the name.
+    /// at rest before it has the name, and until then its owner's alone.
     fn put_copy(
         &mut self,
         name: &FileName,
         place: &Place<'_>,
         generation: u64,
-        former: Option<Metadata>,
     ) -> Result<(), TreeError> {
         let folder = place.folder.number();
         let mark = self.numbers.name(&name.path, name.generation);
         let Ok(copied) = format!(in self.alloc; "/proc/self/fd/{folder}/{COPY}{mark}") else {
             return Err(TreeError::Memory);
         };
-        let file = match File::create_new(&self.system, copied.as_str()) {
+        let file = match new_copy(&self.system, copied.as_str()) {
             Ok(file) => file,
             Err(error) => return Err(fault(error.kind())),
         };
-        let outcome = self.put_file(place, generation, former, copied.as_str(), &file);
+        let outcome = self.put_file(place, generation, copied.as_str(), &file);
         if outcome.is_err() {
             let _ = fs::remove_file(&self.system, copied.as_str());
             return outcome;
@@ -481,16 +484,12 @@ impl<R: Waiter> FilesBelow<R> {
         &mut self,
         place: &Place<'_>,
         generation: u64,
-        former: Option<Metadata>,
         copied: &str,
         file: &File,
     ) -> Result<(), TreeError> {
         match self.kept.get(generation) {
             Some(from) => content::copy(self.alloc, from, file)?,
             None => return Err(TreeError::System),
-        }
-        if let Some(former) = &former {
-            content::set_like(file, former)?;
         }
         content::sync(file)?;
         let link = self.way.link_to(place.folder.number(), place.name)?;
@@ -679,6 +678,13 @@ impl<R: Waiter> FilesBelow<R> {
             Err(_) => Err(io::Error::from(ErrorKind::OutOfMemory)),
         }
     }
+}
+
+/// An empty file at a path where nothing stands, of its owner alone.
+fn new_copy(system: &HostRuntime, path: &str) -> io::Result<File> {
+    let mut how = OpenOptions::new();
+    how.read(true).write(true).create_new(true).mode(COPY_MODE);
+    how.open(system, path)
 }
 
 /// The folder of files that aren't present. Where it can't be had, it is told, and files are only
