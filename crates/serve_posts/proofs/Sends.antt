@@ -26,6 +26,7 @@ use Rattle.portal_model.proofs.request.AddRequest.TheSendSync as add
 use Rattle.portal_model.proofs.request.NodeRequest.TheSendSync as node
 use Rattle.portal_model.proofs.request.RightsCall.TheSendSync as rights
 use Rattle.portal_model.proofs.temporary.OwnTemp.TheSendSync as temporary
+use Rattle.save_files.proofs.temps.Temps.TheSendSync as temps
 use Rattle.change_signals.specs.contracts.outboxes.Outboxes as Outboxes
 use Rattle.dbus_types.specs.contracts.shared.Shared as Shared
 use Rattle.permission_table.specs.contracts.indexed.IndexedEntries as IndexedEntries
@@ -94,4 +95,4 @@ pub connections : IsSend (List.the_row Connection.the_row)
 connections = list.the_send Connection.the_row connection
 
 -- all of a portal but its devices, as a set for `search`
-pub ruleset portal_parts = (opening, documents.the_send, grants.the_send, applications.the_send, tables, outboxes, connections, handles.the_send, namings.the_send, counts.the_send, rooms.the_send, history, crosses, sendable)
+pub ruleset portal_parts = (opening, documents.the_send, grants.the_send, applications.the_send, tables, outboxes, connections, handles.the_send, namings.the_send, temps.the_send, counts.the_send, rooms.the_send, history, crosses, sendable)
