@@ -22,4 +22,4 @@ pub returns : goal.returns
 returns c =
     let p = is_ahead c.args.name.now in
     let all : list_all p c.args.names.now ≡ true = sym (ap (list_all p) (take_all c.loop-at.at c.args.names.now (omega arith))) ∙ c.loop-at.invariant in
-    c.len.ensures ∙ all-ahead p c.args.names.now all
+    all-ahead p c.args.names.now all
