@@ -200,8 +200,8 @@ module _ (r : NodeRequest) (view : ℕ) (d : Document) (path : List ℕ) (w : Bo
   abbrev opens : Room → List ChildName → NodeVerdict
   opens room children = opened_folder r room (parent_of_exported view d path) (names_of_children children)
 
-  abbrev there : Walk NodeVerdict
-  there = open_dir_in r (room_in table seat) temps (Exported view d path w)
+  abbrev below : Walk NodeVerdict
+  below = open_dir_in r (room_in table seat) temps (Exported view d path w)
 
   abbrev listing : Walk NodeVerdict
   listing = Lists path (opens (room_in table seat)) (Errs enoent)
@@ -209,13 +209,13 @@ module _ (r : NodeRequest) (view : ℕ) (d : Document) (path : List ℕ) (w : Bo
   abbrev came : Answer → Option (List ChildName) → Fault → NodeDone
   came answer listed fault = record { answer = answer; looks = []; listed = listed; now = None; generation = None; fault = fault }
 
-  lists-there : (room_in table seat).full ≡ false → there ≡ listing
+  lists-there : (room_in table seat).full ≡ false → below ≡ listing
   lists-there free = ap (λ (b : Bool). errs_if b emfile listing) free
 
   same-files : Asks kind.List old false new → new.told ≡ option_map (files_after true FilesStay) old.told
   same-files a = ap (λ (t : TreeIs). t.told) a.goes ∙ sym (told-still old.told)
 
-  pub full-below : (answer : Answer) → answer ≡ Answer.Refused (Code.Errno emfile) → (room_in table seat).full ≡ true → old ≡ new → DoneBy there NodeOp.OpenDir seat table old (came answer None Fault.None) mid new
+  pub full-below : (answer : Answer) → answer ≡ Answer.Refused (Code.Errno emfile) → (room_in table seat).full ≡ true → old ≡ new → DoneBy below NodeOp.OpenDir seat table old (came answer None Fault.None) mid new
   full-below answer told full e = subst (λ (b : Bool). DoneBy (errs_if b emfile listing) NodeOp.OpenDir seat table old (came answer None Fault.None) mid new) (sym full)
       (record {
         verdict = Some (Errs emfile);
@@ -234,7 +234,7 @@ module _ (r : NodeRequest) (view : ℕ) (d : Document) (path : List ℕ) (w : Bo
       })
 
   pub names-below : (children : List ChildName) (answer : Answer) (after : HandleTable) → (room_in table seat).full ≡ false → NamesOf old.told path (list.Names children) → Asks kind.List old false new → ListedBelow r view d path children seat mid answer after →
-      DoneBy there NodeOp.OpenDir seat table old (came answer (Some children) Fault.None) after new
+      DoneBy below NodeOp.OpenDir seat table old (came answer (Some children) Fault.None) after new
   names-below children answer after free l a f = subst (λ (v : Walk NodeVerdict). DoneBy v NodeOp.OpenDir seat table old (came answer (Some children) Fault.None) after new) (sym (lists-there free))
       (record {
         verdict = Some (opens (room_in table seat) children);
@@ -253,7 +253,7 @@ module _ (r : NodeRequest) (view : ℕ) (d : Document) (path : List ℕ) (w : Bo
         handled = handled-after seat (Opens (Handle.Folder r.node (with_dots r.node (parent_of_exported view d path) (names_of_children children)))) table mid after kept f.handled;
       })
 
-  pub nothing-below : (answer : Answer) → answer ≡ Answer.Refused (Code.Errno enoent) → (room_in table seat).full ≡ false → NamesOf old.told path list.NotFolder → Asks kind.List old false new → DoneBy there NodeOp.OpenDir seat table old (came answer None Fault.None) mid new
+  pub nothing-below : (answer : Answer) → answer ≡ Answer.Refused (Code.Errno enoent) → (room_in table seat).full ≡ false → NamesOf old.told path list.NotFolder → Asks kind.List old false new → DoneBy below NodeOp.OpenDir seat table old (came answer None Fault.None) mid new
   nothing-below answer told free l a = subst (λ (v : Walk NodeVerdict). DoneBy v NodeOp.OpenDir seat table old (came answer None Fault.None) mid new) (sym (lists-there free))
       (record {
         verdict = Some (Errs enoent);
@@ -271,7 +271,7 @@ module _ (r : NodeRequest) (view : ℕ) (d : Document) (path : List ℕ) (w : Bo
         handled = kept;
       })
 
-  pub failed-below : (answer : Answer) → answer ≡ Answer.Refused (Code.Errno eio) → (room_in table seat).full ≡ false → Asks kind.List old true new → DoneBy there NodeOp.OpenDir seat table old (came answer None Fault.Tree) mid new
+  pub failed-below : (answer : Answer) → answer ≡ Answer.Refused (Code.Errno eio) → (room_in table seat).full ≡ false → Asks kind.List old true new → DoneBy below NodeOp.OpenDir seat table old (came answer None Fault.Tree) mid new
   failed-below answer told free a = subst (λ (v : Walk NodeVerdict). DoneBy v NodeOp.OpenDir seat table old (came answer None Fault.Tree) mid new) (sym (lists-there free))
       (record {
         verdict = None;

@@ -24,11 +24,12 @@ ghost use Rattle.file_ops.specs.Wanting.{may_be_below};
 ghost use Rattle.file_ops.specs.SeatTemps.{HeldTemps, temps_on};
 ghost use Rattle.node_looks.specs.Sights.{naming_by, sight_of, temp_by, view_of};
 
+use crate::opened::look_named;
 use crate::temps_listed::names_of_temps;
 use app_view::{SeenBelow, ViewBook, listing, listing_below, place_of};
 use document_records::Document;
 use host_tree::{HostTree, ListAnswer, LookAnswer};
-use node_looks::asked::{Asked, done, look_of_attr, refusal, refusal_on_file, room_for_look};
+use node_looks::asked::{Asked, done, refusal, refusal_on_file, room_for_look};
 use node_looks::handed::{hand_out, take_room};
 use node_looks::served::{ByNumber, FileBook, NodeCall, NodeDone};
 use node_looks::sight::{SeenPlace, seen_at};
@@ -273,8 +274,7 @@ fn in_named<T: HostTree>(tree: &mut T, name: &FileName) -> Asked
     ensures { (seat : ℕ) (table : HandleTable) → DoneBy (at_name name.now (errs_on_file enotdir))
         NodeOp.OpenDir seat table (T.is tree.old) (done_with result) table (T.is tree.new) }
 {
-    let answer = tree.attr(name);
-    let look = look_of_attr(name, answer);
+    let look = look_named(tree, name);
     Asked {
         answer: refusal_on_file(look, ENOTDIR),
         look: Some(look),

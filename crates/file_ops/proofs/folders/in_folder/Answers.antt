@@ -31,13 +31,13 @@ returns-in_ok-by_look-in-Some-clause-ok g c = λ has e s named temp l.
     c.take_room.ensures.kept c.look-look.ensures.asks c.look-look.ensures.looks
     (subst (λ (o : Option Sight). ListsBehind c.args.call.now.request.now o c.args.call.now.seat c.look-look.result c.in_ok-own-in-Some.own c.take_room.new.handles c.in_ok-by_look-in-Some.field-0 c.by_look.new.handles) (c.requires.seen s None None l) (c.in_ok-by_look-in-Some.ensures.ok s l)))
 
-pub returns-in_ok-listed-in-None-clause-ok : goal.returns-in_ok-listed-in-None-clause-ok
-returns-in_ok-listed-in-None-clause-ok g c = λ has e s named temp l.
+pub returns-in_ok-answer-in-None-clause-ok : goal.returns-in_ok-answer-in-None-clause-ok
+returns-in_ok-answer-in-None-clause-ok g c = λ has e s named temp l.
     let sight = sight_of c.args.book.now c.args.call.now.who.now c.args.folder in
     subst (λ (o : Option Sight). DoneBy (open_dir c.args.call.now.request.now o (room_in c.args.handles.now c.args.call.now.seat) has.temps) NodeOp.OpenDir c.args.call.now.seat c.args.handles.now (g.T.HostTree.is c.args.tree.now) (done_with c.unlooked-in-None.result) c.listed.new.handles
     (g.T.HostTree.is c.args.tree.now)) (sym (c.requires.seen s named temp l))
     (subst (λ (asked : Asked). DoneBy (open_dir c.args.call.now.request.now (Some sight) (room_in c.args.handles.now c.args.call.now.seat) has.temps) NodeOp.OpenDir c.args.call.now.seat c.args.handles.now (g.T.HostTree.is c.args.tree.now) (done_with asked) c.listed.new.handles
     (g.T.HostTree.is c.args.tree.now)) (sym c.unlooked-in-None.ensures)
-    (dir-at-once c.args.call.now.request.now sight c.args.call.now.seat c.in_ok-listed-in-None.field-0 c.args.handles.now c.take_room.new.handles c.listed.new.handles (g.T.HostTree.is c.args.tree.now) has.temps c.new-none.result c.new-none.ensures
+    (dir-at-once c.args.call.now.request.now sight c.args.call.now.seat c.in_ok-answer-in-None.answer c.args.handles.now c.take_room.new.handles c.listed.new.handles (g.T.HostTree.is c.args.tree.now) has.temps c.new-none.result c.new-none.ensures
     (sym (rw c.in-None.is at c.document_in.ensures.home c.args.book.now c.args.call.now.who.now)) c.requires.folder (c.in_ok-take_room.ensures.full ∙ ap not c.if-not-branch.false) c.take_room.ensures.kept
-    (subst (λ (o : Option Sight). Lists c.args.call.now.request.now o c.args.call.now.seat Look.Missing c.new-none.result c.take_room.new.handles c.in_ok-listed-in-None.field-0 c.listed.new.handles) (c.requires.seen s None None l) (c.in_ok-listed-in-None.ensures.ok s l))))
+    (subst (λ (o : Option Sight). Lists c.args.call.now.request.now o c.args.call.now.seat Look.Missing c.new-none.result c.take_room.new.handles c.in_ok-answer-in-None.answer c.listed.new.handles) (c.requires.seen s None None l) (c.in_ok-answer-in-None.ensures.ok s l))))
