@@ -1,5 +1,5 @@
 -- The temporaries of a connection, by their places and by their numbers.
-use Rattle.std.proofs.Common.{◌≡◌, ℕ, ◌<◌, ◌≤◌, ◌==◌, suc, zero, List, [], ◌∷◌, length, map, Bool, true, false, ◌||◌, cond, Option, Some, None, option_map, nat_eq, IfSome, refl, sym, ap, ◌∙◌, arith}
+use Rattle.std.proofs.Common.{◌≡◌, ℕ, ◌<◌, ◌≤◌, ◌==◌, suc, zero, List, [], ◌∷◌, length, Bool, true, false, ◌||◌, cond, Option, Some, None, option_map, nat_eq, IfSome, refl, sym, ap, ◌∙◌, arith}
 use Rattle.std.proofs.lemmas.Bool.Decides.{nat_tests}
 use Rattle.std.specs.List.{list_any, slice_get, IsDistinct, AllByRecursion}
 use Rattle.std.specs.Map.{lookup, keys_of}
