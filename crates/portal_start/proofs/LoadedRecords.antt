@@ -10,7 +10,7 @@ use Rattle.portal_model.specs.declared.records.Records.{Records}
 use Rattle.portal_model.specs.declared.state.Document.{Document}
 use Rattle.portal_model.specs.Kept.{records_of}
 use Rattle.portal_model.specs.RecordChanges.{records_version}
-use Rattle.portal_model.specs.Opening.{SoundOpening, document_kept, id_of, opened_over}
+use Rattle.portal_model.specs.Opening.{SoundOpening, document_kept, opened_over}
 use Rattle.portal_model.specs.Store.{Entries}
 use Rattle.portal_model.specs.Valid.{Valid}
 use Rattle.record_keeper.specs.BadRecords.{AreGood}

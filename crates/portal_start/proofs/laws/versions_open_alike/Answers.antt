@@ -1,13 +1,9 @@
-use Rattle.std.proofs.Common.{◌≡◌, List, sym, ap, subst, ◌∙◌}
-use Rattle.portal_base.specs.declared.limits.Limits.{Limits}
-use Rattle.portal_model.specs.declared.opening.OpeningState.{OpeningState}
+use Rattle.std.proofs.Common.{◌≡◌, List, sym, subst, ◌∙◌}
 use Rattle.portal_model.specs.declared.records.EntryRecord.{EntryRecord}
-use Rattle.portal_model.specs.declared.records.Records.{Records}
-use Rattle.portal_model.specs.Store.{Entries}
 use Rattle.record_keeper.specs.KeptEntries.{KeepEntries}
 use Rattle.record_keeper.proofs.KeptFacts.{kept_in_one_way}
 use Rattle.portal_start.specs.Laws.{VersionsOpenAlike}
-use Rattle.portal_start.specs.Loading.{IsOpening, opening_loaded}
+use Rattle.portal_start.specs.Loading.{opening_loaded}
 use Rattle.portal_start.proofs.laws.versions_open_alike.Goals as goal
 
 alike : VersionsOpenAlike
