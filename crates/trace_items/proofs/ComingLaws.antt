@@ -1,6 +1,6 @@
 -- What comes of an entry, over the lists that are lent ahead of it.
 use Rattle.std.proofs.Common.{◌≡◌, ◌==◌, ◌||◌, ℕ, List, [], ◌∷◌, map, Bool, true, false, cond, Option, Some, None, option_map, refl, sym, ap, ◌∙◌}
-use Rattle.portal_base.specs.declared.files.File.{File}
+use Rattle.file_generations.specs.Generations.{Held}
 use Rattle.portal_base.specs.declared.files.FileName.{FileName}
 use Rattle.portal_base.specs.declared.names.doc_id.DocId.{DocId}
 use Rattle.portal_model.specs.declared.entry.Entry.{Entry}
@@ -11,7 +11,7 @@ use Rattle.portal_model.specs.declared.state.Connection.{Connection}
 use Rattle.portal_model.specs.AddArguments.{document_paths}
 use Rattle.portal_model.specs.History.{made_by}
 use Rattle.portal_model.specs.NodeVerdict.{FileChange}
-use Rattle.portal_model.specs.State.{State, connection_of, held_of, is_app, is_mount}
+use Rattle.portal_model.specs.State.{State, connection_of, held_in, held_of, is_app, is_mount}
 use Rattle.portal_model.specs.Step.{after, bus_of, mount_of, reply_at}
 use Rattle.portal_model.specs.Valid.{Valid}
 use Rattle.app_world.specs.Add.{add_touch, names_app}
@@ -22,20 +22,22 @@ use Rattle.app_world.specs.Revoke.{revoke_touch}
 use Rattle.app_world.specs.Touched.{is_done}
 use Rattle.app_world.specs.TraceItem as item
 use Rattle.app_world.specs.TraceItem.{item_of}
-use Rattle.app_world.specs.View.{AppView, held_documents, knows, own_connections, view}
+use Rattle.app_world.specs.View.{AppView, held_documents, holds_name, knows, own_connections, view}
 use Rattle.app_world.specs.World.{items_of, own_of, request_touch, touch}
 use Rattle.trace_items.specs.declared.changes.FileUpdate.{FileUpdate}
 use Rattle.trace_items.specs.declared.coming.News.{News}
 use Rattle.trace_items.specs.declared.coming.News.TheVariants.{Own, Touches, Changed}
 use Rattle.trace_items.specs.declared.lent.Lent.{Lent}
 use Rattle.app_trace.specs.declared.trace.TraceItem.{TraceItem}
-use Rattle.trace_items.specs.Awaited.{Awaits, Comes, IsTold, Shows, change_of, file_told, is_node, silent, told_items}
-use Rattle.trace_items.specs.FilesChanged.{changed_name, named_by, told_alone, told_of_file}
-use Rattle.named_paths.specs.Named.{any_has_open, are_of}
+use Rattle.trace_items.specs.Awaited.{Awaits, Comes, IsTold, Shows, change_of, is_node, silent, told_items}
+use Rattle.trace_items.specs.FilesChanged.{IsThere, is_news_to, news_of, told_of_change}
+use Rattle.named_paths.specs.Named.{any_has_open, any_names, are_of}
 use Rattle.trace_items.specs.OwnAdds.{shared_files}
 use Rattle.app_trace.specs.Told.{item_told}
 use Rattle.trace_items.specs.Touches.{shown_in}
+use Rattle.named_paths.proofs.NamesHeld.{TempsOn, held-named}
 use Rattle.named_paths.proofs.OpenPaths.{known-of, open-named}
+use Rattle.save_files.specs.Own.{own_on, owned}
 use Rattle.trace_items.proofs.SharedFiles.{touch-shared}
 
 -- ---- connections that wait for nothing
@@ -102,8 +104,15 @@ knows-lent lent s app path shows v =
     ∙ (ap (λ (b : Bool). are_of (held_documents (held_of s.rights app) s.documents) path || b) (open-named s v lent.numbers.now shows.covered lent.handles.now.seats shows.handles app path)
     ∙ sym (known-of path (held_documents (held_of s.rights app) s.documents) (own_connections app s.handles s.connections)))
 
-pub named-some : (v : AppView) (o : Option FileName) (name : FileName) → o ≡ Some name → knows v name.path ≡ named_by v o
-named-some v o name e = ap (named_by v) (sym e)
+-- and the files that its connections name
+temps-lent : (lent : Lent) (s : State) → Shows lent s → (seat : ℕ) (c : Connection) → connection_of s.connections seat ≡ Some c → TempsOn c (own_on lent.temps.now.seats seat)
+temps-lent lent s shows seat c e = shows.temps seat ∙ ap (option_map (λ (x : Connection). x.temps)) e
+
+pub names-lent : (lent : Lent) (s : State) (app : List ℕ) (name : FileName) → Shows lent s → Valid s →
+    any_names lent.numbers.now lent.handles.now.seats lent.temps.now.seats app name lent.connections.now ≡ holds_name (view s app) name
+names-lent lent s app name shows v =
+    (λ i. any_names lent.numbers.now lent.handles.now.seats lent.temps.now.seats app name (sym shows.connections i))
+    ∙ held-named s v lent.numbers.now shows.covered lent.handles.now.seats shows.handles lent.temps.now.seats (temps-lent lent s shows) app name
 
 -- ---- what is told
 
@@ -126,32 +135,26 @@ told-touches app s e change xs m h =
     others app s e m ∙ touched (is_done (reply_at s e).answer) (request_touch app s e.seat e.request e.given) (map item_told xs) (λ d. sym (h d))
 
 pub told-on-node : (app : List ℕ) (s : State) (e : Entry) (change : FileChange) (told : News) → made_by app (connection_of s.connections e.seat) e.request ≡ false → is_node e.request ≡ true → Comes s e change →
-    ((done : Bool) (behind : List File) → told_items change told done behind ≡ cond done (map item_of (told_of_file (view s app) (changed_name change) behind)) []) → IsTold app s e change told
+    ((done : Bool) (behind : Held) → (done ≡ true → IsThere change (held_in s)) → told_items change told done behind ≡ cond done (map item_of (told_of_change (view s app) change behind)) []) → IsTold app s e change told
 told-on-node app s e change told m n comes h =
     others app s e m
-    ∙ (touched (is_done (reply_at s e).answer) (request_touch app s e.seat e.request e.given) (map item_of (told_of_file (view s app) (changed_name change) (after s e).files)) (λ d. ap (map item_of) (comes.node app n d))
-    ∙ sym (h (is_done (reply_at s e).answer) (after s e).files))
+    ∙ (touched (is_done (reply_at s e).answer) (request_touch app s e.seat e.request e.given) (map item_of (told_of_change (view s app) change (held_in (after s e)))) (λ d. ap (map item_of) (comes.node app n d))
+    ∙ sym (h (is_done (reply_at s e).answer) (held_in (after s e)) comes.there))
 
--- a change of a file that the view names, or doesn't
-pub told-changed : (v : AppView) (change : FileChange) → named_by v (changed_name change) ≡ true → (done : Bool) (behind : List File) → told_items change Changed done behind ≡ cond done (map item_of (told_of_file v (changed_name change) behind)) []
-told-changed v change e done behind = by_name (changed_name change) e
-  where
-    by_name : (o : Option FileName) → named_by v o ≡ true → cond done (map item_of (file_told o behind)) [] ≡ cond done (map item_of (told_of_file v o behind)) []
-    by_name None f = refl
-    by_name (Some name) f = ap (λ (b : Bool). cond done (map item_of (cond b (told_alone name behind) [])) []) (sym f)
+-- a change of which the view is told, or isn't
+pub told-changed : (v : AppView) (change : FileChange) (done : Bool) (behind : Held) → (done ≡ true → is_news_to v change ≡ true) → told_items change Changed done behind ≡ cond done (map item_of (told_of_change v change behind)) []
+told-changed v change true behind h = ap (λ (b : Bool). map item_of (cond b (news_of change behind) [])) (sym (h refl))
+told-changed v change false behind h = refl
 
-pub told-unnamed : (v : AppView) (change : FileChange) → named_by v (changed_name change) ≡ false → (done : Bool) (behind : List File) → told_items change (Touches []) done behind ≡ cond done (map item_of (told_of_file v (changed_name change) behind)) []
-told-unnamed v change e done behind = by_name (changed_name change) e
-  where
-    by_name : (o : Option FileName) → named_by v o ≡ false → cond done [] [] ≡ cond done (map item_of (told_of_file v o behind)) []
-    by_name None f = refl
-    by_name (Some name) f = ap (λ (b : Bool). cond done (map item_of (cond b (told_alone name behind) [])) []) (sym f)
+pub told-unnamed : (v : AppView) (change : FileChange) (done : Bool) (behind : Held) → (done ≡ true → is_news_to v change ≡ false) → told_items change (Touches []) done behind ≡ cond done (map item_of (told_of_change v change behind)) []
+told-unnamed v change true behind h = ap (λ (b : Bool). map item_of (cond b (news_of change behind) [])) (sym (h refl))
+told-unnamed v change false behind h = refl
 
 -- ---- calls of another, over the lists that are lent
 
 module _ (lent : Lent) (s : State) (shows : Shows lent s) (app : List ℕ) where
-  pub grant-lent : (call : RightsCall) → map item_of (grant_touch app (shown_in lent.book.documents.now.live lent.book.grants.now lent.files.now) call) ≡ map item_of (grant_touch app s call)
-  grant-lent call = λ i. map item_of (grant_touch app (shown_in (sym shows.documents i) (sym shows.rights i) (sym shows.files i)) call)
+  pub grant-lent : (call : RightsCall) → map item_of (grant_touch app (shown_in lent.book.documents.now.live lent.book.grants.now lent.files.now.present) call) ≡ map item_of (grant_touch app s call)
+  grant-lent call = λ i. map item_of (grant_touch app (shown_in (sym shows.documents i) (sym shows.rights i) (sym (ap (λ (h : Held). h.present) shows.files) i)) call)
 
   pub revoke-lent : (call : RightsCall) → map item_of (revoke_touch app (shown_in lent.book.documents.now.live lent.book.grants.now []) call) ≡ map item_of (revoke_touch app s call)
   revoke-lent call = λ i. map item_of (revoke_touch app (shown_in (sym shows.documents i) (sym shows.rights i) []) call)
@@ -160,15 +163,15 @@ module _ (lent : Lent) (s : State) (shows : Shows lent s) (app : List ℕ) where
   delete-lent doc = λ i. map item_of (delete_touch app (shown_in (sym shows.documents i) (sym shows.rights i) []) doc)
 
   pub add-lent : (c : Connection) (a : AddRequest) (numbers : List DocId) (paths : List (List ℕ)) → paths ≡ document_paths c.queue a → is_app app c.who ≡ false → names_app app a ≡ true →
-      map item_of (shared_files app (shown_in lent.book.documents.now.live lent.book.grants.now lent.files.now) a numbers paths).effects ≡ map item_of (add_touch app s c a numbers)
+      map item_of (shared_files app (shown_in lent.book.documents.now.live lent.book.grants.now lent.files.now.present) a numbers paths).effects ≡ map item_of (add_touch app s c a numbers)
   add-lent c a numbers paths p other named =
-      (λ i. map item_of (shared_files app (shown_in (sym shows.documents i) (sym shows.rights i) (sym shows.files i)) a numbers (p i)).effects)
+      (λ i. map item_of (shared_files app (shown_in (sym shows.documents i) (sym shows.rights i) (sym (ap (λ (h : Held). h.present) shows.files) i)) a numbers (p i)).effects)
       ∙ ap (map item_of) (sym (touch-shared app s c a numbers other named))
 
 -- ---- an entry
 
 pub awaits : (app : List ℕ) (s : State) (e : Entry) (told : News) (u : FileUpdate) → Comes s e (change_of u) → IsTold app s e (change_of u) told → Awaits app s e (record { told = told; change = u })
 awaits app s e told u comes items = record {
-  items = items ∙ ap (λ (files : List File). told_items (change_of u) told (is_done (reply_at s e).answer) files) comes.files;
+  items = items ∙ ap (λ (files : Held). told_items (change_of u) told (is_done (reply_at s e).answer) files) comes.files;
   files = comes.files;
 }

@@ -26,7 +26,7 @@ use Rattle.trace_items.specs.declared.coming.News.TheVariants.{Own, Touches, Cha
 use Rattle.trace_items.specs.declared.changes.FileUpdate.{FileUpdate}
 use Rattle.trace_items.specs.declared.changes.FileUpdate.TheVariants.{Stay, Write, Resize, Create, Freshen, Turn}
 use Rattle.trace_items.specs.declared.lent.Lent.{Lent}
-use Rattle.trace_items.specs.FilesChanged.{news_of, told_of_change}
+use Rattle.trace_items.specs.FilesChanged.{IsThere, news_of, told_of_change}
 use Rattle.app_trace.specs.Told.{item_told}
 
 -- ---- the lists
@@ -104,11 +104,12 @@ is_node (Request.Info doc) = false
 is_node (Request.ListDocuments app) = false
 is_node (Request.Store call) = false
 
--- the files behind the entry are those of this change, where it is done; and so is what a view is
--- told of a request on a node
+-- the files behind the entry are those of this change, where it is done, and the file is there that
+-- changes; and so is what a view is told of a request on a node
 pub record Comes (s : State) (e : Entry) (change : FileChange) : Type 0 where
   pub files : held_in (after s e)
       ≡ cond (is_done (reply_at s e).answer) (files_after true change (held_in s)) (held_in s)
+  pub there : is_done (reply_at s e).answer ≡ true → IsThere change (held_in s)
   pub node : (app : List ℕ) → is_node e.request ≡ true → is_done (reply_at s e).answer ≡ true →
       request_touch app s e.seat e.request e.given
       ≡ told_of_change (view s app) change (held_in (after s e))

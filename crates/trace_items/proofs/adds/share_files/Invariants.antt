@@ -8,4 +8,4 @@ use Rattle.trace_items.proofs.adds.share_files.Given as goal
 abbrev pub invariant-loop-item : goal.invariant-loop-item
 invariant-loop-item l =
     Tells l.initial.sharing none_shared →
-    Tells l.sharing (fold (share_file l.app (shown_in l.lent.book.documents.now.live l.lent.book.grants.now l.lent.files.now) l.add l.numbers) none_shared (map (λ item. item.path) (take l.item-index l.item-items)))
+    Tells l.sharing (fold (share_file l.app (shown_in l.lent.book.documents.now.live l.lent.book.grants.now l.lent.files.now.present) l.add l.numbers) none_shared (map (λ item. item.path) (take l.item-index l.item-items)))

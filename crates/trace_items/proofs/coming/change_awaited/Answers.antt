@@ -7,7 +7,7 @@ pub returns-in-Some : goal.returns-in-Some
 returns-in-Some c = if-ok c.update_of.result c.update_of.ensures (λ u f s shows v l lend.
     mount-come c.args.lent.now s c.args.entry.now c.in-Node.request (option_copied c.args.connection) c.in-Some.mount.now _ shows v l c.in-Node.is lend
     (sym c.mount_of.ensures ∙ ap option_copied c.in-Some.is)
-    (λ has there. f s has (lends-book c.args.lent.now s shows) there))
+    (λ has own there mine. f s has own (lends-book c.args.lent.now s shows) there mine))
 
 pub returns-in-None : goal.returns-in-None
 returns-in-None c = λ s shows v l lend.
