@@ -11,8 +11,8 @@ use vector_lines::notation::{cut, debug, number, small_number, text};
 
 /// `items ITEMS || ITEMS`: how two traces compare that open with nothing, and in
 /// which these happen. Items are written with `, ` between them: `gone NUMBER`,
-/// `bytes PATH GENERATION GENERATION MOMENT TEXT` of a file, and `own SEAT leave` and
-/// `own SEAT collect`.
+/// `bytes PATH GENERATION GENERATION MOMENT TEXT` and `turned` with the same of a file, and
+/// `own SEAT leave` and `own SEAT collect`, which a generation may follow.
 pub fn items(alloc: Global, rest: &str) -> Result<String, VectorError> {
     let Some((first, second)) = rest.split_once(" || ") else {
         return bad();
@@ -42,6 +42,7 @@ fn trace_of(alloc: Global, words: &str) -> Result<Trace, VectorError> {
             connections: List::new(alloc),
             contents: List::new(alloc),
             below: List::new(alloc),
+            files: List::new(alloc),
         },
         items: List::new(alloc),
     };
@@ -71,6 +72,7 @@ fn item_of(alloc: Global, words: &str) -> Result<TraceItem, VectorError> {
             },
         }),
         "bytes" => bytes(alloc, rest),
+        "turned" => turned(alloc, rest),
         "own" => Ok(own(alloc, rest)?),
         _ => bad(),
     }
@@ -80,27 +82,51 @@ fn item_of(alloc: Global, words: &str) -> Result<TraceItem, VectorError> {
 fn bytes(alloc: Global, words: &str) -> Result<TraceItem, VectorError> {
     let (path, rest) = cut(words);
     let (of, rest) = cut(rest);
-    let (generation, rest) = cut(rest);
-    let (moment, content) = cut(rest);
-    let of = number(of)?;
-    let generation = number(generation)?;
-    let moment = number(moment)?;
-    let path = given(alloc, HostPath::read(alloc, path.as_bytes()))?;
+    let generation = number(of)?;
+    let content = content(alloc, rest)?;
     Ok(TraceItem::Bytes {
-        path,
-        generation: of,
-        content: Content::File {
-            generation,
-            bytes: text(alloc, content)?,
-            moment,
-        },
+        path: given(alloc, HostPath::read(alloc, path.as_bytes()))?,
+        generation,
+        content,
     })
 }
 
-/// A request of the application, to which the outside gave nothing.
+/// A file that was renamed to the path.
+fn turned(alloc: Global, words: &str) -> Result<TraceItem, VectorError> {
+    let (path, rest) = cut(words);
+    let (of, rest) = cut(rest);
+    let generation = number(of)?;
+    let content = content(alloc, rest)?;
+    Ok(TraceItem::Turned {
+        path: given(alloc, HostPath::read(alloc, path.as_bytes()))?,
+        generation,
+        content,
+    })
+}
+
+/// A file of this generation and moment.
+fn content(alloc: Global, words: &str) -> Result<Content, VectorError> {
+    let (generation, rest) = cut(words);
+    let (moment, content) = cut(rest);
+    let generation = number(generation)?;
+    let moment = number(moment)?;
+    Ok(Content::File {
+        generation,
+        bytes: text(alloc, content)?,
+        moment,
+    })
+}
+
+/// A request of the application, to which the outside gave nothing, or a generation.
 fn own(alloc: Global, words: &str) -> Result<TraceItem, LineError> {
-    let (seat, kind) = cut(words);
+    let (seat, rest) = cut(words);
+    let (kind, generation) = cut(rest);
     let seat = small_number(seat)?;
+    let generation = if generation.is_empty() {
+        None
+    } else {
+        Some(number(generation)?)
+    };
     Ok(TraceItem::Own {
         seat,
         request: if kind == "leave" {
@@ -115,6 +141,6 @@ fn own(alloc: Global, words: &str) -> Result<TraceItem, LineError> {
         looks: 0,
         full: false,
         fault: Fault::None,
-        generation: None,
+        generation,
     })
 }
