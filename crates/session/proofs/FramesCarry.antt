@@ -1,14 +1,16 @@
 -- What a frame asks carries no more bytes than stand behind the frame's header.
-use Rattle.std.proofs.Common.{◌≡◌, ℕ, zero, suc, ◌+◌, ◌*◌, ◌-◌, ◌≤◌, List, length, drop, Bool, true, false, Option, Some, None, refl, arith, length-take}
+use Rattle.std.proofs.Common.{◌≡◌, ℕ, zero, suc, ◌+◌, ◌*◌, ◌-◌, ◌≤◌, List, length, drop, take, Bool, true, false, Option, Some, None, refl, arith, length-take}
+use Rattle.std.specs.List.{position}
 use Rattle.std.specs.Option.{option_map}
 use Rattle.std.specs.Prelude.{◌==◌, IfSome, nat_le, if◌then◌else◌}
 use Rattle.std.proofs.lemmas.Bool.Decides.{nat_tests}
 use Rattle.std.proofs.lemmas.List.{length-drop}
-use Rattle.fuse_wire.specs.Asks.{IsFuse, ask_of, batch_forget_op, create_op, local, lookup_op, portal, quiet, sized, write_op}
-use Rattle.fuse_wire.specs.Bodies.{access_in, batch_forget_in, create_in, flush_in, forget_in, forget_ones, fsync_in, getattr_in, is_name, name_in, open_in, read_in, release_in, setattr_in, write_in}
+use Rattle.fuse_wire.specs.Asks.{IsFuse, ask_of, batch_forget_op, create_op, local, lookup_op, portal, quiet, rename_op, rename2_op, renames, sized, unlink_op, write_op}
+use Rattle.fuse_wire.specs.Bodies.{access_in, batch_forget_in, create_in, flush_in, forget_in, forget_ones, fsync_in, getattr_in, is_name, name_in, name_of, names_at, names_of, open_in, read_in, release_in, rename_in, rename2_in, setattr_in, two_names, write_in}
 use Rattle.fuse_wire.specs.Frames.{header_of}
 use Rattle.fuse_wire.specs.Init.{init_ask}
 use Rattle.fuse_wire.specs.Opcodes.{opcode_of}
+use Rattle.fuse_wire.specs.declared.body.TwoNames.{TwoNames}
 use Rattle.fuse_wire.specs.declared.frame.InHeader.{InHeader}
 use Rattle.fuse_wire.specs.declared.opcode.Opcode.{Opcode}
 use Rattle.fuse_wire.specs.declared.request.FuseAsk.{FuseAsk}
@@ -48,12 +50,52 @@ name_short bytes = let e = length-take (length bytes - 1) bytes in omega (arith,
 lookup_carries : (body : List ℕ) → MayCarry (length body) (lookup_op body)
 lookup_carries body = name_carries (length body) (is_name body) (name_in body) op.Lookup (name_short body)
 
+unlink_carries : (body : List ℕ) → MayCarry (length body) (unlink_op body)
+unlink_carries body = name_carries (length body) (is_name body) (name_in body) op.Unlink (name_short body)
+
 create_carries : (body : List ℕ) → MayCarry (length body) (create_op body)
 create_carries body =
     let rest : List ℕ = drop 16 body in
     let short = name_short rest in
     let part = length-drop 16 body in
     name_carries (length body) (is_name rest) (name_in rest) (λ name. op.Create name (create_in body).flags) (omega (arith, short, part))
+
+-- two names have no more bytes than what they stand in
+abbrev AreShort : ℕ → Option TwoNames → Type 0
+AreShort n asked = IfSome asked (λ t. length t.old + length t.new ≤ n)
+
+second_short : (n : ℕ) (b : Bool) (old new : List ℕ) → length old + length new ≤ n → AreShort n (option_map (two_names old) (if b then Some new else None))
+second_short n true old new h = h
+second_short n false old new h = tt
+
+both_short : (bytes : List ℕ) (b : Bool) (end : ℕ) → AreShort (length bytes) (if b then None else option_map (two_names (take end bytes)) (name_of (drop (end + 1) bytes)))
+both_short bytes true end = tt
+both_short bytes false end =
+    let rest : List ℕ = drop (end + 1) bytes in
+    let short = name_short rest in
+    let first = length-take end bytes in
+    let left = length-drop (end + 1) bytes in
+    second_short (length bytes) (is_name rest) (take end bytes) (name_in rest) (omega (arith, short, first, left))
+
+names_short : (bytes : List ℕ) (end : Option ℕ) → AreShort (length bytes) (names_at bytes end)
+names_short bytes None = tt
+names_short bytes (Some end) = both_short bytes (end == 0) end
+
+names_carry : (n m newdir flags : ℕ) (names : Option TwoNames) → n ≤ m → AreShort n names → MayCarry m (option_map (renames newdir flags) names)
+names_carry n m newdir flags None h k = tt
+names_carry n m newdir flags (Some names) h k = let short : length names.old + length names.new ≤ n = k in omega (arith, h, short)
+
+rename_carries : (body : List ℕ) → MayCarry (length body) (rename_op body)
+rename_carries body =
+    let part = length-drop 8 body in
+    let names : List ℕ = drop 8 body in
+    names_carry (length names) (length body) (rename_in body).newdir 0 (names_of names) (omega (arith, part)) (names_short names (position (λ b. b == 0) names))
+
+rename2_carries : (body : List ℕ) → MayCarry (length body) (rename2_op body)
+rename2_carries body =
+    let part = length-drop 16 body in
+    let names : List ℕ = drop 16 body in
+    names_carry (length names) (length body) (rename2_in body).newdir (rename2_in body).flags (names_of names) (omega (arith, part)) (names_short names (position (λ b. b == 0) names))
 
 write_carries_by : (b : Bool) (body : List ℕ) → MayCarry (length body) (if b then sized (40 + (write_in body).size) body (op.Write (write_in body).fh (write_in body).offset (drop 40 body)) else None)
 write_carries_by true body =
@@ -97,9 +139,9 @@ fuse_carries Opcode.SetAttr header body =
     let o = op.SetAttr (setattr_in body).valid (setattr_in body).fh (setattr_in body).size in portal_carries (length body) header (sized 88 body o) (struct_carries 88 body o refl)
 fuse_carries Opcode.MkNod header body = tt
 fuse_carries Opcode.MkDir header body = tt
-fuse_carries Opcode.Unlink header body = tt
+fuse_carries Opcode.Unlink header body = portal_carries (length body) header (unlink_op body) (unlink_carries body)
 fuse_carries Opcode.RmDir header body = tt
-fuse_carries Opcode.Rename header body = tt
+fuse_carries Opcode.Rename header body = portal_carries (length body) header (rename_op body) (rename_carries body)
 fuse_carries Opcode.Open header body = let o = op.Open (open_in body).flags in portal_carries (length body) header (sized 8 body o) (struct_carries 8 body o refl)
 fuse_carries Opcode.Read header body =
     let o = op.Read (read_in body).fh (read_in body).offset (read_in body).size in portal_carries (length body) header (sized 40 body o) (struct_carries 40 body o refl)
@@ -118,7 +160,7 @@ fuse_carries Opcode.Create header body = portal_carries (length body) header (cr
 fuse_carries Opcode.Interrupt header body = tt
 fuse_carries Opcode.Destroy header body = tt
 fuse_carries Opcode.BatchForget header body = quiet_carries (length body) header (batch_forget_op body) (forget_carries_by (nat_le 8 (length body)) body)
-fuse_carries Opcode.Rename2 header body = tt
+fuse_carries Opcode.Rename2 header body = portal_carries (length body) header (rename2_op body) (rename2_carries body)
 fuse_carries Opcode.Other header body = tt
 
 pub frame_carries : (frame : List ℕ) → Carries (length (drop 40 frame)) (ask_of frame)
