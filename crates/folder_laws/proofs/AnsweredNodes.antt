@@ -2,7 +2,7 @@
 -- what the connection has named.
 use Rattle.std.proofs.Common.{◌≡◌, ◌<◌, ◌≤◌, ℕ, ◌^◌, List, length, Bool, not, ◌||◌, Option, Some, None, refl, sym, ap, subst, ◌∙◌, arith}
 use Rattle.portal_base.specs.Names.{named_child}
-use Rattle.portal_base.specs.declared.files.File.{File}
+use Rattle.file_generations.specs.Generations.{Held}
 use Rattle.portal_base.specs.declared.files.Look.{Look}
 use Rattle.portal_model.specs.declared.entry.Given.{Given}
 use Rattle.portal_model.specs.declared.naming.Naming.{Naming}
@@ -41,7 +41,7 @@ use Rattle.folder_laws.proofs.SeatNamings.{grown, mount-here, names_of, node-own
 
 -- ---- what the walk does
 
-module _ (tree : Option (List File)) (f : NodeFacts) (r : NodeRequest) (view : ℕ) (d : Document) (path name : List ℕ) (w : Bool) where
+module _ (tree : Option Held) (f : NodeFacts) (r : NodeRequest) (view : ℕ) (d : Document) (path name : List ℕ) (w : Bool) where
   -- the child is named, and its node is answered
   abbrev pub Numbers : NodeDoing → Type 0
   Numbers done = (child : List ℕ) × (named_child path name ≡ Some child) × (done.names ≡ Names (naming_in view d child)) × (node_answered (Answer.Node done.answer) ≡ Some (node_of_naming f.namings (naming_in view d child)))
@@ -61,13 +61,13 @@ module _ (tree : Option (List File)) (f : NodeFacts) (r : NodeRequest) (view : �
   lookup-child None e = tt
   lookup-child (Some child) e = λ look shown. child-numbers child e look
 
-  lookup-look : (look : Look) → On (by_look view (spot d path w) (no_file enotdir) (lookup_in r f.namings name) look)
+  lookup-look : (look : Look) → On (by_look view (spot d path w) (no_file enotdir) (lookup_in r f.namings f.temps.temps name) look)
   lookup-look (Look.File g size moment) = tt
   lookup-look Look.Folder = lookup-child (named_child path name) refl
   lookup-look Look.Missing = tt
 
-  lookup-place : (o : Option Sight) → o ≡ Some (SightBelow view d path w) → On (by_place o (no_file enotdir) (lookup_in r f.namings name))
-  lookup-place o e = subst (λ (x : Option Sight). On (by_place x (no_file enotdir) (lookup_in r f.namings name))) (sym e) (λ look shown. lookup-look look)
+  lookup-place : (o : Option Sight) → o ≡ Some (SightBelow view d path w) → On (by_place o (no_file enotdir) (lookup_in r f.namings f.temps.temps name))
+  lookup-place o e = subst (λ (x : Option Sight). On (by_place x (no_file enotdir) (lookup_in r f.namings f.temps.temps name))) (sym e) (λ look shown. lookup-look look)
 
   there-numbers : (flags : ℕ) (child : List ℕ) → named_child path name ≡ Some child → (look : Look) → On (create_there r flags f.room (child_made f.namings d (naming_in view d child)) look)
   there-numbers flags child e (Look.File g size moment) = tt
@@ -82,22 +82,22 @@ module _ (tree : Option (List File)) (f : NodeFacts) (r : NodeRequest) (view : �
       errs_if-on tree Numbers (not w) eacces (errs_if (f.room.full || lacks_number f.namings naming) emfile there) (λ a.
       errs_if-on tree Numbers (f.room.full || lacks_number f.namings naming) emfile there (λ b. λ look shown. there-numbers flags child e look))
 
-  create-look : (flags : ℕ) (look : Look) → On (by_look view (spot d path w) (no_file enotdir) (create_in r name flags f.room f.namings) look)
+  create-look : (flags : ℕ) (look : Look) → On (by_look view (spot d path w) (no_file enotdir) (create_in r name flags f.room f.namings f.temps) look)
   create-look flags (Look.File g size moment) = tt
   create-look flags Look.Folder = create-child flags (named_child path name) refl
   create-look flags Look.Missing = tt
 
-  create-place : (flags : ℕ) (o : Option Sight) → o ≡ Some (SightBelow view d path w) → On (by_place o (no_file enotdir) (create_in r name flags f.room f.namings))
-  create-place flags o e = subst (λ (x : Option Sight). On (by_place x (no_file enotdir) (create_in r name flags f.room f.namings))) (sym e) (λ look shown. create-look flags look)
+  create-place : (flags : ℕ) (o : Option Sight) → o ≡ Some (SightBelow view d path w) → On (by_place o (no_file enotdir) (create_in r name flags f.room f.namings f.temps))
+  create-place flags o e = subst (λ (x : Option Sight). On (by_place x (no_file enotdir) (create_in r name flags f.room f.namings f.temps))) (sym e) (λ look shown. create-look flags look)
 
   pub walk-numbers : (op : NodeOp) → name_asked op ≡ Some name → f.sight ≡ Some (SightBelow view d path w) → On (node_walk f r op)
   walk-numbers (NodeOp.Lookup asked) n e =
       let same : asked ≡ name = cc in
       subst (λ (x : List ℕ). On (node_walk f r (NodeOp.Lookup x))) (sym same)
-      (errs_if-on tree Numbers (is_too_long name) enametoolong (by_place f.sight (no_file enotdir) (lookup_in r f.namings name)) (λ k. lookup-place f.sight e))
+      (errs_if-on tree Numbers (is_too_long name) enametoolong (by_place f.sight (no_file enotdir) (lookup_in r f.namings f.temps.temps name)) (λ k. lookup-place f.sight e))
   walk-numbers (NodeOp.Create asked flags) n e =
       let same : asked ≡ name = cc in
-      let place = by_place f.sight (no_file enotdir) (create_in r name flags f.room f.namings) in
+      let place = by_place f.sight (no_file enotdir) (create_in r name flags f.room f.namings f.temps) in
       subst (λ (x : List ℕ). On (node_walk f r (NodeOp.Create x flags))) (sym same)
       (errs_if-on tree Numbers (has_no_mode flags) einval (errs_if (is_too_long name) enametoolong place) (λ a.
       errs_if-on tree Numbers (is_too_long name) enametoolong place (λ b. create-place flags f.sight e)))
@@ -115,6 +115,8 @@ module _ (tree : Option (List File)) (f : NodeFacts) (r : NodeRequest) (view : �
   walk-numbers (NodeOp.ReadDir fh offset size) n e = cc
   walk-numbers (NodeOp.ReleaseDir fh) n e = cc
   walk-numbers (NodeOp.Access mask) n e = cc
+  walk-numbers (NodeOp.Rename new_parent flags old_name new_name) n e = cc
+  walk-numbers (NodeOp.Unlink asked) n e = cc
 
 -- ---- what comes of it
 

@@ -7,7 +7,7 @@ use Rattle.portal_model.specs.declared.place.Place.{Place}
 use Rattle.portal_model.specs.declared.rights.Right.TheVariants.{Read, Write}
 use Rattle.portal_model.specs.declared.state.Connection.{Connection}
 use Rattle.portal_model.specs.declared.state.Document.{Document}
-use Rattle.portal_model.specs.Place.{Sight, SightBelow, id_of_node, kind_of_node, named_node, place_from_one, place_named, place_of_kind_0, place_of_parts, seen_by, sight_at, sight_below, sight_of_naming, sight_on, subject_of, view_of_node}
+use Rattle.portal_model.specs.Place.{Sight, SightBelow, id_of_node, kind_of_node, named_node, place_from_one, place_named, place_of_kind_0, place_of_parts, seen_by, sight_at, sight_below, sight_of_naming, sight_on, subject_of, temp_on, view_of_node}
 use Rattle.portal_model.specs.SeatNames.{naming_of}
 use Rattle.portal_model.specs.State.{State, document_of, who_has}
 use Rattle.portal_model.proofs.ListLookups.{nat_is}
@@ -41,6 +41,7 @@ Fits view id (Some Place.ByApp) = Unit {0}
 Fits view id (Some (Place.Folder v d)) = Unit {0}
 Fits view id (Some (Place.File v d)) = Unit {0}
 Fits view id (Some (Place.Named v k)) = id ≡ k
+Fits view id (Some (Place.Temporary v k)) = Unit {0}
 
 top-fits : (view id : ℕ) (a b : Bool) → Fits view id (cond a (Some (Place.Root view)) (cond b (Some Place.ByApp) None))
 top-fits view id true b = tt
@@ -51,17 +52,22 @@ name-fits : (view id : ℕ) (b : Bool) → Fits view id (cond b None (Some (Plac
 name-fits view id true = tt
 name-fits view id false = refl
 
-parts-fit : (view id : ℕ) (a b c d : Bool) → Fits view id (cond a (place_of_kind_0 view id) (cond b (Some (Place.Folder view (record { number = id }))) (cond c (Some (Place.File view (record { number = id }))) (cond d (place_from_one (Place.Named view) id) None))))
-parts-fit view id true b c d = top-fits view id (id == 1) (id == 2 && view == 0)
-parts-fit view id false true c d = tt
-parts-fit view id false false true d = tt
-parts-fit view id false false false true = name-fits view id (id == 0)
-parts-fit view id false false false false = tt
+temp-fits : (view id : ℕ) (b : Bool) → Fits view id (cond b None (Some (Place.Temporary view id)))
+temp-fits view id true = tt
+temp-fits view id false = tt
+
+parts-fit : (view id : ℕ) (a b c d e : Bool) → Fits view id (cond a (place_of_kind_0 view id) (cond b (Some (Place.Folder view (record { number = id }))) (cond c (Some (Place.File view (record { number = id }))) (cond d (place_from_one (Place.Named view) id) (cond e (place_from_one (Place.Temporary view) id) None)))))
+parts-fit view id true b c d e = top-fits view id (id == 1) (id == 2 && view == 0)
+parts-fit view id false true c d e = tt
+parts-fit view id false false true d e = tt
+parts-fit view id false false false true e = name-fits view id (id == 0)
+parts-fit view id false false false false true = temp-fits view id (id == 0)
+parts-fit view id false false false false false = tt
 
 number-is : (node view k : ℕ) → place_named node ≡ Some (Place.Named view k) → id_of_node node ≡ k
 number-is node view k e =
     subst (Fits (view_of_node node) (id_of_node node)) e
-    (parts-fit (view_of_node node) (id_of_node node) (kind_of_node node == 0) (kind_of_node node == 1) (kind_of_node node == 2) (kind_of_node node == 4))
+    (parts-fit (view_of_node node) (id_of_node node) (kind_of_node node == 0) (kind_of_node node == 1) (kind_of_node node == 2) (kind_of_node node == 4) (kind_of_node node == 5))
 
 -- ---- what is seen there
 
@@ -90,5 +96,5 @@ module _ (s : State) (namings : List Naming) (view k : ℕ) (sight : Sight) wher
 pub seen-by-naming : (s : State) (c : Connection) (node view k : ℕ) (sight : Sight) → place_named node ≡ Some (Place.Named view k) → sight_on s c node ≡ Some sight → IsSeenByNaming s c.namings view k sight
 seen-by-naming s c node view k sight place e =
     let number : id_of_node node ≡ k = number-is node view k place in
-    let there : sight_at s c.who (naming_of c.namings k) (Some (Place.Named view k)) ≡ Some sight = (λ i. sight_at s c.who (naming_of c.namings (sym number i)) (sym place i)) ∙ e in
+    let there : sight_at s c.who (naming_of c.namings k) (temp_on c node) (Some (Place.Named view k)) ≡ Some sight = (λ i. sight_at s c.who (naming_of c.namings (sym number i)) (temp_on c node) (sym place i)) ∙ e in
     seen-subject s c.namings view k sight (subject_of s.applications c.who view) there

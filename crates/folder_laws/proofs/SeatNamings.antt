@@ -11,10 +11,10 @@ use Rattle.portal_model.specs.declared.request.Request.{Request}
 use Rattle.portal_model.specs.declared.state.Connection.{Connection}
 use Rattle.portal_model.specs.Enter.{entered, new_connection}
 use Rattle.portal_model.specs.Leave.{left, of_others}
-use Rattle.portal_model.specs.Node.{connections_after, connections_named, counted, named_on, node_given, settled_on_node, walk_on_node}
-use Rattle.portal_model.specs.NodeVerdict.{HandleChange, HandlesStay, Opens, Closes, NameChange, NamesStay, Names, NodeVerdict, Errs, Yields}
+use Rattle.portal_model.specs.Node.{connections_after, connections_named, counted, named_on, node_given, settled_on_node, temps_changed, walk_on_node, with_temps}
+use Rattle.portal_model.specs.NodeVerdict.{HandleChange, HandlesStay, Opens, Closes, NameChange, NamesStay, Names, Temps, NodeVerdict, Errs, Yields}
 use Rattle.portal_model.specs.Present.{requeued}
-use Rattle.portal_model.specs.SeatNames.{naming_of, with_naming}
+use Rattle.portal_model.specs.SeatNames.{TempChange, naming_of, with_naming}
 use Rattle.portal_model.specs.State.{State, connection_of, is_mount}
 use Rattle.portal_model.specs.Step.{all_told, bus_of, bus_step, collect_step, mount_of, node_step, request_step, told_of}
 use Rattle.portal_model.specs.StoreRequest.{told_change}
@@ -62,6 +62,13 @@ changed_seat change c = elim (is_host_bus c.who c.kind) as (λ b. (cond b (recor
 changed_names : (change : Change) (c : Connection) → (told_change change c).namings ≡ c.namings
 changed_names change c = elim (is_host_bus c.who c.kind) as (λ b. (cond b (record c { unsent = c.unsent ++ change ∷ [] }) c).namings ≡ c.namings) [ true ↦ refl | false ↦ refl ]
 
+-- temporaries that change
+temped_seat : (seat : ℕ) (change : TempChange) (c : Connection) → (temps_changed seat change c).seat ≡ c.seat
+temped_seat seat change c = elim (c.seat == seat) as (λ b. (cond b (with_temps change c) c).seat ≡ c.seat) [ true ↦ refl | false ↦ refl ]
+
+temped_names : (seat : ℕ) (change : TempChange) (c : Connection) → (temps_changed seat change c).namings ≡ c.namings
+temped_names seat change c = elim (c.seat == seat) as (λ b. (cond b (with_temps change c) c).namings ≡ c.namings) [ true ↦ refl | false ↦ refl ]
+
 names-told : (told seat : ℕ) (cs : List Connection) → names_at (map (told_of told) cs) seat ≡ names_at cs seat
 names-told told seat cs = mapped-names (told_of told) (told_seat told) (told_names told) seat cs
 
@@ -84,6 +91,7 @@ collect-names s (Some c) seat = names-told c.seat seat s.connections
 abbrev pub grown : NameChange → List Naming → List Naming
 grown NamesStay ns = ns
 grown (Names new) ns = with_naming ns new
+grown (Temps change) ns = ns
 
 abbrev pub names_of : Option NodeVerdict → NameChange
 names_of None = NamesStay
@@ -130,10 +138,12 @@ after-open c (Closes fh) seat cs = refl
 done-own : (c : Connection) (names : NameChange) (cs : List Connection) → is_some (connection_of cs c.seat) ≡ true → names_at (connections_named c names cs) c.seat ≡ grown names (names_at cs c.seat)
 done-own c NamesStay cs h = refl
 done-own c (Names new) cs h = named-own c.seat new cs h
+done-own c (Temps change) cs h = mapped-names (temps_changed c.seat change) (temped_seat c.seat change) (temped_names c.seat change) c.seat cs
 
 done-other : (c : Connection) (names : NameChange) (seat : ℕ) (cs : List Connection) → (c.seat == seat) ≡ false → names_at (connections_named c names cs) seat ≡ names_at cs seat
 done-other c NamesStay seat cs n = refl
 done-other c (Names new) seat cs n = named-other c.seat seat new n cs
+done-other c (Temps change) seat cs n = mapped-names (temps_changed c.seat change) (temped_seat c.seat change) (temped_names c.seat change) seat cs
 
 settled-own : (s : State) (c : Connection) → is_some (connection_of s.connections c.seat) ≡ true → (o : Option NodeVerdict) → named_by (settled_on_node s c o).0 c.seat ≡ grown (names_of o) (named_by s c.seat)
 settled-own s c here None = refl
@@ -169,6 +179,7 @@ mount-here cs seat c m = by_found (connection_of cs seat) refl m
 grown-stays : (names : NameChange) (ns : List Naming) (k : ℕ) (n : Naming) → naming_of ns k ≡ Some n → naming_of (grown names ns) k ≡ Some n
 grown-stays NamesStay ns k n e = e
 grown-stays (Names new) ns k n e = number-stays ns new k n e
+grown-stays (Temps change) ns k n e = e
 
 node-stays : (s : State) (seat : ℕ) (r : NodeRequest) (given : Given) (o : Option Connection) → mount_of (connection_of s.connections seat) ≡ o → (k : ℕ) (n : Naming) → naming_of (named_by s seat) k ≡ Some n → naming_of (named_by (node_step s r given o).0 seat) k ≡ Some n
 node-stays s seat r given None e k n h = h

@@ -12,7 +12,7 @@ use Rattle.portal_model.specs.declared.state.Connection.{Connection}
 use Rattle.portal_model.specs.Content.{content_at, is_folder}
 use Rattle.portal_model.specs.Lawful.{Lawful}
 use Rattle.portal_model.specs.Node.{node_given, walk_on_node}
-use Rattle.portal_model.specs.NodeVerdict.{FileChange, FilesStay, Writes, Resizes, Creates, NodeVerdict, Errs, Yields}
+use Rattle.portal_model.specs.NodeVerdict.{FileChange, FilesStay, Writes, Resizes, Creates, Adds, Stands, NodeVerdict, Errs, Yields}
 use Rattle.portal_model.specs.State.{State, connection_of}
 use Rattle.portal_model.specs.Step.{after, all_told, mount_of}
 use Rattle.portal_model.specs.Valid.{Valid}
@@ -36,13 +36,16 @@ change_by s seat (Request.Node r) given =
     change_on s r given (mount_of (connection_of s.connections seat))
 change_by s seat request given = FilesStay
 
--- the path of the file that is written, cut or made; a write of no bytes changes none
+-- The path of the file that is written, cut or made, or that another file comes to stand at. A write
+-- of no bytes changes none, and a file that is made beside the present ones stands at no path.
 abbrev pub path_of_change : FileChange → Option (List ℕ)
 path_of_change FilesStay = None
 path_of_change (Writes name offset [] now) = None
 path_of_change (Writes name offset (b ∷ bs) now) = Some name.path
 path_of_change (Resizes name size now) = Some name.path
 path_of_change (Creates path now) = Some path
+path_of_change (Adds name now) = None
+path_of_change (Stands name) = Some name.path
 
 -- the path of the file that an entry changes
 abbrev pub path_changed : State → Entry → Option (List ℕ)
