@@ -1,7 +1,7 @@
 -- An entry in which a device failed does what a Collect of its seat does.
 use Rattle.std.specs.Prelude.{◌≢◌}
 use Rattle.std.proofs.Common.{◌≡◌, ℕ, ◌≤◌, ◌==◌, List, [], ◌∷◌, length, Bool, true, false, cond, Option, Some, None, refl, ap, subst, ◌∙◌, arith}
-use Rattle.portal_base.specs.declared.files.File.{File}
+use Rattle.file_generations.specs.Generations.{Held}
 use Rattle.portal_base.specs.declared.files.ChildName.{ChildName}
 use Rattle.portal_base.specs.declared.files.Look.{Look}
 use Rattle.portal_model.specs.declared.entry.Fault.{Fault}
@@ -35,7 +35,7 @@ none_failed : {X : Type 0} (given : Given) → given ≡ nothing_given → given
 none_failed given e f = absurd (f (ap (λ (g : Given). g.fault) e))
 
 -- where a call of the tree failed the walk comes to nothing
-failed_none : {X : Type 0} (tree : Option (List File)) (w : Walk X) (now : ℕ) (listed : Option (List ChildName)) (looks : List Look) → Gives tree w looks true → walked_with w now listed looks true ≡ None
+failed_none : {X : Type 0} (tree : Option Held) (w : Walk X) (now : ℕ) (listed : Option (List ChildName)) (looks : List Look) → Gives tree w looks true → walked_with w now listed looks true ≡ None
 failed_none tree (Answers x) now listed looks g = cc
 failed_none tree (Looks target next) now listed [] g = refl
 failed_none tree (Looks target next) now listed (look ∷ looks) g = failed_none tree (next look) now listed looks g.1

@@ -13,7 +13,7 @@ use Rattle.portal_model.specs.Node.{walk_on_node}
 use Rattle.portal_model.specs.Outside.{AreDrawn, meets_limit, verdict_of, words_drawn}
 use Rattle.portal_model.specs.State.{State, connection_of}
 use Rattle.portal_model.specs.Step.{all_told, bus_of, mount_of}
-use Rattle.portal_model.specs.Walk.{reads_clock, walked}
+use Rattle.portal_model.specs.Walk.{generation_reached, reads_clock, walked}
 use Rattle.portal_model.proofs.LooksTaken.{looks-are-taken, walk_listed}
 use Rattle.given_laws.specs.OneGiven.{AreFirst, LawfulEntriesAreOne}
 use Rattle.given_laws.proofs.DrawnAlike.{bus-draws}
@@ -44,7 +44,7 @@ module _ (s : State) (g h : Given) (looks : h.looks ≡ g.looks) (moment : IfSom
       let walk = walk_on_node at c r in
       let read : is_some h.now ≡ is_some g.now = k.clock ∙ (ap (reads_clock walk) looks ∙ sym l.clock) in
       let names : h.listed ≡ g.listed = walk_listed at walk h tells also k.looks k.listed ∙ sym (walk_listed at walk g tells whole l.looks l.listed) in
-      given_is h g (moment_is g.now h.now read moment) (k.words ∙ sym l.words) (k.numbers ∙ sym l.numbers) looks names (k.generation ∙ sym l.generation) (k.full ∙ sym l.full) fault
+      given_is h g (moment_is g.now h.now read moment) (k.words ∙ sym l.words) (k.numbers ∙ sym l.numbers) looks names (k.generation ∙ (ap (generation_reached walk) looks ∙ sym l.generation)) (k.full ∙ sym l.full) fault
 
   bus_one : (request : Request) (o : Option Connection) → AreFirst g.words h.words → LawfulOnBus s request g o → LawfulOnBus s request h o → h ≡ g
   bus_one request None first l k = k ∙ sym l
