@@ -78,18 +78,15 @@ module _ (f : FileItem) where
 
   first_in : is_first_item f ≡ true → (es : Table) → AreFirst es → AreFirst (insert_entry path_order es f.path f)
   first_in is [] h = λ i. is i && true
-  first_in is (e ∷ es) h = step (path_order f.path e.0)
+  first_in is (e ∷ es) h =
+      let parts = and_parts (is_first_item e.1) (list_all is_first_item (map (λ (x : List ℕ × FileItem). x.1) es)) h in
+      step (path_order f.path e.0) parts.0 parts.1 (first_in is es parts.1)
     where
-      parts : (is_first_item e.1 ≡ true) × AreFirst es
-      parts = and_parts (is_first_item e.1) (list_all is_first_item (map (λ (x : List ℕ × FileItem). x.1) es)) h
-
-      more : AreFirst (insert_entry path_order es f.path f)
-      more = first_in is es parts.1
-
-      step : (o : Ordering) → AreFirst (match_ordering o ((f.path, f) ∷ e ∷ es) ((e.0, f) ∷ es) (e ∷ insert_entry path_order es f.path f))
-      step Less = λ i. is i && h i
-      step Equal = λ i. is i && parts.1 i
-      step Greater = λ i. parts.0 i && more i
+      step : (o : Ordering) → is_first_item e.1 ≡ true → AreFirst es → AreFirst (insert_entry path_order es f.path f)
+          → AreFirst (match_ordering o ((f.path, f) ∷ e ∷ es) ((e.0, f) ∷ es) (e ∷ insert_entry path_order es f.path f))
+      step Less here rest more = λ i. is i && h i
+      step Equal here rest more = λ i. is i && rest i
+      step Greater here rest more = λ i. here i && more i
 
 -- a file that is added where the paths then are those of a tree
 module _ (item g : FileItem) (k : List ℕ) (old new : Table) (same : g ≡ item) (at : k ≡ item.path) (keyed : AreAtTheirs old) (placed : ArePlaced (paths_of (put_file (file_of item) (files_in old)))) (is : new ≡ insert_entry path_order old k g) where

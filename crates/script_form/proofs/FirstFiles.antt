@@ -19,17 +19,13 @@ is_first f = f.generation == 0
 
 put_first : (f : File) (fs : List File) → is_first f ≡ true → list_all is_first fs ≡ true → list_all is_first (put_file f fs) ≡ true
 put_first f [] first all = λ i. first i && true
-put_first f (g ∷ gs) first all = step (is_lt (path_order f.path g.path))
+put_first f (g ∷ gs) first all =
+    let parts = and_parts (is_first g) (list_all is_first gs) all in
+    step (is_lt (path_order f.path g.path)) parts.0 (put_first f gs first parts.1)
   where
-    parts : (is_first g ≡ true) × (list_all is_first gs ≡ true)
-    parts = and_parts (is_first g) (list_all is_first gs) all
-
-    rest : list_all is_first (put_file f gs) ≡ true
-    rest = put_first f gs first parts.1
-
-    step : (b : Bool) → list_all is_first (cond b (f ∷ g ∷ gs) (g ∷ put_file f gs)) ≡ true
-    step true = λ i. first i && all i
-    step false = λ i. parts.0 i && rest i
+    step : (b : Bool) → is_first g ≡ true → list_all is_first (put_file f gs) ≡ true → list_all is_first (cond b (f ∷ g ∷ gs) (g ∷ put_file f gs)) ≡ true
+    step true here rest = λ i. first i && all i
+    step false here rest = λ i. here i && rest i
 
 with_first : (items : List FileItem) (fs : List File) → list_all is_first_item items ≡ true → list_all is_first fs ≡ true → list_all is_first (with_files fs items) ≡ true
 with_first [] fs items all = all
