@@ -71,13 +71,16 @@ def open_folder(mount, node):
 
 def entries(mount, handle):
     """What an open folder has: the name, the inode number and the type of each."""
-    got = mount.ask(Opcode.READDIR, ROOT, struct.pack("<QQIIQII", handle, 0, 1 << 20, 0, 0, 0, 0))
-    found, at = [], 0
-    while at < len(got):
-        ino, _, length, kind = struct.unpack_from("<QQII", got, at)
-        found.append((got[at + 24:at + 24 + length].decode(), ino, kind))
-        at += 24 + length + -length % 8
-    return found
+    found, offset = [], 0
+    while True:
+        got, at = mount.ask(Opcode.READDIR, ROOT,
+                            struct.pack("<QQIIQII", handle, offset, 1 << 16, 0, 0, 0, 0)), 0
+        if not got:
+            return found
+        while at < len(got):
+            ino, offset, length, kind = struct.unpack_from("<QQII", got, at)
+            found.append((got[at + 24:at + 24 + length].decode(), ino, kind))
+            at += 24 + length + -length % 8
 
 
 def state_of(folder):
@@ -121,6 +124,39 @@ def what_isnt_shown(see, service, folder):
         see("none of these took a number", mount.lookup(node, "a.txt").st_ino, (4 << 32) + 1)
     see("what was there is as it was", state_of(folder) == before)
     return document
+
+
+def large_folder(see, service):
+    """Of what stands in a large folder only files and folders are listed, whatever their names."""
+    at = os.path.join(service.root, "large")
+    os.makedirs(at)
+    shown = []
+    for number in range(2_000):
+        # (names of all lengths)
+        name = ("%04d" % number).ljust(4 + number % 252, "n")
+        path, kind = os.path.join(at, name), number % 10
+        if kind < 5:
+            lay(path)
+            shown.append((name, UNKNOWN_INO, 8))
+        elif kind == 5:
+            os.mkdir(path)
+            shown.append((name, UNKNOWN_INO, 4))
+        elif kind == 6:
+            os.symlink("%04d" % 0, path)
+        elif kind == 7:
+            os.symlink(".", path)
+        elif kind == 8:
+            os.mkfifo(path)
+        else:
+            lay(os.fsencode(path[:-1]) + b"\xff")
+            lay(os.path.join(at, ".docportal-%d" % number))
+    with service.bus() as bus:
+        document = bus.documents.add_folder("/large", app=APP, permissions=["read"])
+    with service.mount(APP) as mount:
+        node = mount.lookup(mount.lookup(ROOT, document).st_ino, "large").st_ino
+        see("what is listed of a large folder", entries(mount, open_folder(mount, node))[2:],
+            sorted(shown))
+    shutil.rmtree(at)
 
 
 def what_goes(see, service, document):
@@ -219,6 +255,7 @@ def check(see):
         try:
             document = what_isnt_shown(see, service, folder)
             what_goes(see, service, document)
+            large_folder(see, service)
             most_names(see, service)
             service.kill()
             service.start()

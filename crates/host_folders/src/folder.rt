@@ -29,7 +29,8 @@ impl Folder {
 
     /// The next of its names, `.` and `..` among them, at the front of the buffer, each
     /// ended by a zero byte: how many bytes they take, none behind the last name. The buffer
-    /// has room for any name of 4,096 bytes.
+    /// has room for any name of 4,096 bytes. Behind the names stands what they leave of that
+    /// which the system told of them.
     pub fn read_names(&self, buffer: &mut [u8]) -> io::Result<usize>
         ensures { IfOk result (λ len. len ≤ length buffer.new) }
     {

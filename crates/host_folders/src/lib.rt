@@ -6,7 +6,7 @@
 //! | Room | Holds |
 //! |---|---|
 //! | `way`, `folder` | the one way down to a name: [`way::Way`], and [`folder::Folder`] |
-//! | `mounts`, `own` | the devices and the names that no way leads to |
+//! | `mounts`, `own` | what is mounted, and the devices and names that no way leads to |
 //! | `sight` | what stands at a name, and which file it is |
 //! | `numbers` | the numbers by which files and paths are told apart |
 //! | `content` | the bytes of a file that is open |

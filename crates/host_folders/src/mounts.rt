@@ -1,4 +1,4 @@
-//! The devices that a way down doesn't step onto.
+//! What is mounted, and the devices that a way down doesn't step onto.
 
 use crate::error::OpenError;
 use portal_base::list::List;
@@ -35,14 +35,7 @@ const KERNELS_OWN: [&str; 22] = [
 
 /// The devices of the kernel's own file systems, as they are mounted now.
 pub fn kernels_own<R: Files>(files: &R, alloc: Global) -> Result<List<u64>, OpenError> {
-    let Ok(mut file) = File::open(files, "/proc/self/mountinfo") else {
-        return Err(OpenError::NoProc);
-    };
-    let mut bytes = Vec::new(alloc);
-    if file.read_to_end(&mut bytes).is_err() {
-        return Err(OpenError::NoProc);
-    }
-    let text = String::from_utf8_lossy(alloc, bytes.as_slice())?;
+    let text = mounts(files, alloc)?;
     let mut devices = List::new(alloc);
     for line in text.as_str().lines() {
         if let Some(found) = kernels_device(line) {
@@ -50,6 +43,40 @@ pub fn kernels_own<R: Files>(files: &R, alloc: Global) -> Result<List<u64>, Open
         }
     }
     Ok(devices)
+}
+
+/// Says whether something may be mounted at a name in the folder of a path just now.
+pub fn are_in<R: Files>(files: &R, alloc: Global, folder: &[u8]) -> bool {
+    // The root of the system has its own slash at the end; no other folder has one.
+    let folder = folder.strip_suffix(b"/").unwrap_or(folder);
+    match mounts(files, alloc) {
+        Ok(text) => text.as_str().lines().any(|line| may_be_in(line, folder)),
+        Err(_) => true,
+    }
+}
+
+/// Says whether a mount may be in the folder of a path. Where it is mounted is the fifth word of
+/// the line, in which a backslash stands for a byte that a word can't have.
+fn may_be_in(line: &str, folder: &[u8]) -> bool {
+    let Some(place) = line.split(' ').nth(4) else {
+        return true;
+    };
+    match place.rsplit_once('/') {
+        Some((above, _)) => above.as_bytes() == folder || place.contains('\\'),
+        None => true,
+    }
+}
+
+/// The lines of all mounts.
+fn mounts<R: Files>(files: &R, alloc: Global) -> Result<String, OpenError> {
+    let Ok(mut file) = File::open(files, "/proc/self/mountinfo") else {
+        return Err(OpenError::NoProc);
+    };
+    let mut bytes = Vec::new(alloc);
+    if file.read_to_end(&mut bytes).is_err() {
+        return Err(OpenError::NoProc);
+    }
+    Ok(String::from_utf8_lossy(alloc, bytes.as_slice())?)
 }
 
 /// The device of a mount that is the kernel's own. Its numbers are the third word of the

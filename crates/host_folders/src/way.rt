@@ -2,7 +2,7 @@
 
 use crate::error::{OpenError, TreeError, is_missing, is_refused};
 use crate::folder::{Folder, write_link};
-use crate::mounts::kernels_own;
+use crate::mounts::{are_in, kernels_own};
 use crate::own::{is_own, leads_by_own};
 use crate::sight::{Kind, Sight, seen};
 use libc::PATH_MAX;
@@ -178,6 +178,16 @@ impl Way {
     /// Says whether a device is one of the kernel's own.
     pub fn is_kernels_own(&self, device: u64) -> bool {
         self.kernels_own.iter().any(|own| *own == device)
+    }
+
+    /// Says whether something may be mounted at a name in a folder just now.
+    pub fn has_mounts_in(&mut self, alloc: Global, folder: &Folder) -> bool {
+        let mut path = [0; PATH_MAX];
+        let system = self.system;
+        match self.real_path(folder.number(), &mut path) {
+            Ok(Some(path)) => are_in(&system, alloc, path),
+            _ => true,
+        }
     }
 
     /// Says whether what is open by a number stands at a path below the root just now.
