@@ -17,6 +17,9 @@ from docportal_client import Bus, Mount, socket_path  # noqa: E402
 PROGRAM = os.environ.get("DOCPORTAL") or os.path.join(
     TOP, "crates", "docportal", "out", "docportal")
 
+# Words that each service is given too, as `--polled`.
+WORDS = os.environ.get("DOCPORTAL_SERVE", "").split()
+
 # As the unit runs it (contrib/docportal.service), where nothing else is told.
 ENVIRONMENT = {"MALLOC_ARENA_MAX": "1"}
 
@@ -30,7 +33,7 @@ class Service:
         self.sockets = os.path.join(folder, "sockets")
         os.makedirs(self.root, exist_ok=True)
         self.words = ["--root", self.root, "--store", self.store,
-                      "--sockets", self.sockets, *options, *apps]
+                      "--sockets", self.sockets, *WORDS, *options, *apps]
         self.process = None
 
     def start(self, seconds=60, limits=()):

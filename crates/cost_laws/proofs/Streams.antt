@@ -1,10 +1,11 @@
 -- What a connection made costs no more than what its stream asks.
-use Rattle.std.proofs.Common.{◌≡◌, inl, inr, ℕ, ◌+◌, ◌≤◌, List, [], ◌∷◌, ◌++◌, map, drop, length, refl, sym, ap, ◌∙◌, subst, arith}
+use Rattle.std.proofs.Common.{◌≡◌, inl, inr, ℕ, ◌+◌, ◌≤◌, List, [], ◌∷◌, ◌++◌, map, drop, length, Bool, true, false, Some, None, refl, sym, ap, ◌∙◌, subst, arith}
 use Rattle.std.proofs.Math.Seq.{drop-append_seam}
 use Rattle.std.proofs.lemmas.List.{append_assoc, append-nil}
 use Rattle.std.proofs.lemmas.List.Sums.{sum_by-append, sum_by-cons}
 use Rattle.portal_model.specs.declared.entry.Entry.{Entry}
 use Rattle.portal_model.specs.declared.reply.Refused.{Refused}
+use Rattle.portal_model.specs.declared.reply.Refused.TheVariants as refused
 use Rattle.portal_model.specs.declared.request.Request.{Request}
 use Rattle.portal_model.specs.History.{cost, cost_of}
 use Rattle.portal_model.specs.Seated.{Exchange, Seated}
@@ -15,18 +16,22 @@ use Rattle.session.specs.declared.served.Served.TheVariants as served
 use Rattle.session.specs.declared.served.Stop.{Stop}
 use Rattle.session.specs.Answers.{AreOf, Denied, IsOf, Made, Outcome, kept}
 use Rattle.session.specs.Asked.{asked, asked_by, requests_of}
-use Rattle.session.specs.Connections.{Answered, Enclosed, EndsAs, Front, Half, IsRefused, Whole, between}
+use Rattle.session.specs.Connections.{Answered, Encloses, Enclosed, EndsAs as EndsWaiting, Front, Half, IsRefused, Whole, between}
 use Rattle.session.specs.Cuts.{first_phase}
 use Rattle.session.specs.Items.{AreItems, joined}
-use Rattle.session.specs.Ledger.{Grew, World}
+use Rattle.session.specs.Ledger.{Grew, World, world}
 use Rattle.session.specs.Pumps.{Spring}
 use Rattle.session.specs.Sessions.{enter}
 use Rattle.session.proofs.AnswersAsked.{asked_go, of-append}
+use Rattle.session.proofs.ConnectionStaysOpen.{ArePlain, IsPlain, items_plain}
 use Rattle.session.proofs.DidItems.{items-append, joined-append}
 use Rattle.session.proofs.Grew.{alike-entries, grew_none}
 use Rattle.session.proofs.ItemsAreFound.{are_found, first_come}
 use Rattle.session.proofs.ItemsAreOne.{are_one}
 use Rattle.session.proofs.WholeInputsEnd.{read_of}
+use Rattle.poll_laws.specs.Courses.{Around, Gone, Outside, Sight, Standing}
+use Rattle.poll_laws.specs.Polls.{EndsAs}
+use Rattle.worker_gate.specs.Polled.{ServesBy, ServesPolled, sight_of}
 use Rattle.cost_laws.specs.Streams.{StreamAsks, StreamsAskOnce, StreamsCostAsAsked, costs, made_cost, refused_cost}
 
 -- ---- what requests cost
@@ -209,7 +214,7 @@ module _ (c : Client) (v w : World) (stream : List ℕ) (total : ℕ) (made : Li
     no_more : made_cost made ≤ total → made_cost made + 0 ≤ total
     no_more h = omega (arith, h)
 
-    ends_within : (r : Served) → EndsAs c r read a b v w → made_cost made + refused_cost c r ≤ total
+    ends_within : (r : Served) → EndsWaiting c r read a b v w → made_cost made + refused_cost c r ≤ total
     ends_within served.Ended h = no_more (whole_within read rest parts _ _ h.1)
     ends_within (served.Cut n) h = no_more (whole_within read rest parts _ _ h.2.2)
     ends_within (served.Malformed at rule) h = no_more (whole_within read rest parts _ _ h.2)
@@ -230,6 +235,136 @@ pub streams-cost-as-asked : StreamsCostAsAsked
 streams-cost-as-asked c r a b v w stream total made h told asks mine =
     let rest = read_of stream h.0 a.left b.left told h.1 in
     ends_within c v w stream total made asks mine a b h.0 rest.0 rest.2 r h.3
+
+-- ---- connections that were polled
+
+-- no Enter of this client is refused among these outcomes
+abbrev NoneRefused : Client → List Outcome → Type 0
+NoneRefused c [] = Unit {0}
+NoneRefused c (Made x ∷ os) = NoneRefused c os
+NoneRefused c (Denied request why ∷ os) = (request ≡ enter c → ⊥) × NoneRefused c os
+
+none_refused : (before after : List Outcome) (c : Client) (why : Refused)
+    → NoneRefused c (before ++ (Denied (enter c) why ∷ after)) → ⊥
+none_refused [] after c why h = h.0 refl
+none_refused (Made x ∷ os) after c why h = none_refused os after c why h
+none_refused (Denied request cause ∷ os) after c why h = none_refused os after c why h.1
+
+none_then : (os : List Outcome) (c : Client) (l : Exchange) → NoneRefused c os
+    → NoneRefused c (os ++ (Made l ∷ []))
+none_then [] c l h = tt
+none_then (Made x ∷ os) c l h = none_then os c l h
+none_then (Denied request why ∷ os) c l h = (h.0, none_then os c l h.1)
+
+plain_one : (r : Request) (o : Outcome) (os : List Outcome) (c : Client) → IsPlain r → IsOf r o
+    → NoneRefused c os → NoneRefused c (o ∷ os)
+plain_one r (Made x) os c plain is rest = rest
+plain_one r (Denied request why) os c plain is rest =
+    ((λ same. subst (λ (z : Request). IsPlain z) (sym is ∙ same) plain), rest)
+
+-- what items ask is no Enter
+plain_all : (rs : List Request) (os : List Outcome) (c : Client) → ArePlain rs → AreOf rs os
+    → NoneRefused c os
+plain_all [] os c plain are = subst (λ (z : List Outcome). NoneRefused c z) (sym are) tt
+plain_all (r ∷ rs) os c plain (o, us, e, is, more) =
+    subst (λ (z : List Outcome). NoneRefused c z) (sym e)
+    (plain_one r o us c plain.0 is (plain_all rs us c plain.1 more))
+
+refused_most : (c : Client) (r : Served) → refused_cost c r ≤ cost_of (enter c)
+refused_most c (served.Full now limit) = omega arith
+refused_most c served.Ended = omega arith
+refused_most c (served.Cut rest) = omega arith
+refused_most c (served.Malformed at rule) = omega arith
+refused_most c (served.LineTooLong at) = omega arith
+refused_most c served.ReadFault = omega arith
+refused_most c served.WriteFault = omega arith
+refused_most c served.Spent = omega arith
+refused_most c served.Memory = omega arith
+
+-- where no Enter was refused
+refused_none : (c : Client) (r : Served) (t : Standing) (v w : Sight) (passed : List ℕ)
+    (came : List Outcome) → t.client ≡ c → NoneRefused c came → EndsAs r t v w passed came
+    → refused_cost c r ≡ 0
+refused_none c (served.Full now limit) t v w passed came same none ((before, after, is), left, idle) =
+    let at : came ≡ before ++ (Denied (enter c) (refused.Full now limit) ∷ after) =
+    is ∙ ap (λ (z : Client). before ++ (Denied (enter z) (refused.Full now limit) ∷ after)) same in
+    absurd (none_refused before after c (refused.Full now limit)
+    (subst (λ (z : List Outcome). NoneRefused c z) at none))
+refused_none c served.Ended t v w passed came same none h = refl
+refused_none c (served.Cut rest) t v w passed came same none h = refl
+refused_none c (served.Malformed at rule) t v w passed came same none h = refl
+refused_none c (served.LineTooLong at) t v w passed came same none h = refl
+refused_none c served.ReadFault t v w passed came same none h = refl
+refused_none c served.WriteFault t v w passed came same none h = refl
+refused_none c served.Spent t v w passed came same none h = refl
+refused_none c served.Memory t v w passed came same none h = refl
+
+module _ (c : Client) (r : Served) (a b : Spring) (v w : World) (stream : List ℕ) (total : ℕ)
+    (made : List Exchange) (h : ServesPolled c r a b v w) (told : a.left ≡ Some stream)
+    (asks : StreamAsks c stream total) (mine : w.seated.mine ≡ v.seated.mine ++ made) where
+  grew_as : (os : List Outcome) → h.deeds.came ≡ os → Grew v.seated os w.seated
+  grew_as os is = subst (λ (z : List Outcome). Grew v.seated z w.seated) is h.is.grew
+
+  -- nothing was made
+  none_within : (os : List Outcome) → h.deeds.came ≡ os → made_cost (kept os) ≡ 0
+      → made_cost made + refused_cost c r ≤ total
+  none_within os is none =
+      let made_so = kept_cost v.seated w.seated os made (grew_as os is) mine in
+      let most = refused_most c r in
+      let all = asks.total_is in
+      let asked_so = asked_cost c asks.acts in
+      omega (arith, made_so, none, most, all, asked_so)
+
+  inside_within : (x l : Exchange) → Encloses c x l → h.deeds.came ≡ between x h.deeds.outcomes l
+      → made_cost made ≤ total
+  inside_within x l both is =
+      let rest = read_of stream h.deeds.read a.left b.left told h.is.came_in in
+      let after : List ℕ = h.stands.left ++ h.deeds.passed in
+      let bytes : stream ≡ joined h.deeds.items ++ (after ++ rest.0) =
+      rest.2 ∙ (ap (λ (z : List ℕ). z ++ rest.0) h.is.bytes
+      ∙ append_assoc (joined h.deeds.items) after rest.0) in
+      enclosed_within c (world v.seated None 0) (world w.seated None 0) stream total made asks mine
+      h.deeds.items h.deeds.acts h.deeds.outcomes h.deeds.pieces (after ++ rest.0) bytes h.is.each
+      (asked_go h.deeds.acts c 0 h.is.last h.deeds.outcomes h.deeds.pieces h.is.answers) (record {
+        entered = x;
+        leaving = l;
+        encloses = both;
+        grows = record {
+          desk = grew_as (between x h.deeds.outcomes l) is;
+          told = refl;
+          faults = omega arith;
+        };
+      })
+
+  none_inside : (x l : Exchange) → h.deeds.came ≡ between x h.deeds.outcomes l
+      → refused_cost c r ≡ 0
+  none_inside x l is =
+      let are =
+      asked_go h.deeds.acts c 0 h.is.last h.deeds.outcomes h.deeds.pieces h.is.answers in
+      let plain = items_plain h.deeds.items c (first_phase c.kind) h.deeds.acts h.is.each in
+      let none : NoneRefused c h.deeds.came =
+      subst (λ (z : List Outcome). NoneRefused c z) (sym is)
+      (none_then h.deeds.outcomes c l (plain_all (requests_of h.deeds.acts) h.deeds.outcomes c plain are)) in
+      refused_none c r h.stands (sight_of h.before a v) (sight_of h.after b w) h.deeds.passed
+      h.deeds.came h.is.client none h.is.ends
+
+  around_within : Around c Outside h.deeds.came h.deeds.outcomes Gone
+      → made_cost made + refused_cost c r ≤ total
+  around_within (inl (none, inl is)) = none_within [] is refl
+  around_within (inl (none, inr (why, is))) = none_within (Denied (enter c) why ∷ []) is refl
+  around_within (inr (x, l, both, is)) =
+      let within = inside_within x l both is in
+      let free = none_inside x l is in
+      omega (arith, within, free)
+
+pub polled-cost-as-asked : (polled : Bool) (c : Client) (r : Served) (a b : Spring) (v w : World)
+    (stream : List ℕ) (total : ℕ) (made : List Exchange) → ServesBy polled c r a b v w
+    → a.left ≡ Some stream → StreamAsks c stream total → w.seated.mine ≡ v.seated.mine ++ made
+    → made_cost made + refused_cost c r ≤ total
+polled-cost-as-asked true c r a b v w stream total made h told asks mine =
+    around_within c r a b v w stream total made h told asks mine h.is.around
+polled-cost-as-asked false c r a b v w stream total made h told asks mine =
+    streams-cost-as-asked c r a b v w stream total made h told asks mine
 
 pub streams-ask-once : StreamsAskOnce
 streams-ask-once = record {

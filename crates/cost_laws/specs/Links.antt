@@ -1,5 +1,5 @@
 -- What the links of a listener ask of the history together, and that a worker makes no more of it.
-use Rattle.std.specs.Prelude.{◌≡◌, ℕ, ◌+◌, ◌≤◌, ◌++◌, List, Some}
+use Rattle.std.specs.Prelude.{◌≡◌, ℕ, ◌+◌, ◌≤◌, ◌++◌, Bool, List, Some}
 use Rattle.portal_model.specs.History.{cost_of}
 use Rattle.portal_model.specs.Seated.{Exchange, Seated}
 use Rattle.session.specs.declared.act.Client.{Client}
@@ -32,7 +32,7 @@ end_cost c end.Memory = 0
 -- However a worker ended, over a listener and sources that told what was to come: what it made and
 -- an Enter that the history had no room for cost together at most what the links ask.
 abbrev pub WorkersCostAsAsked : Type 0 → Type 0 → Type 0
-WorkersCostAsAsked S K = (s : Sides S K) (c : Client) (ended : WorkEnd) (a b : Hall S K)
-    (v w : Seated) (total : ℕ) (made : List Exchange)
-    → Works s c ended a v b w → HallAsks s c a total → w.mine ≡ v.mine ++ made
+WorkersCostAsAsked S K = (s : Sides S K) (polled : Bool) (c : Client) (ended : WorkEnd)
+    (a b : Hall S K) (v w : Seated) (total : ℕ) (made : List Exchange)
+    → Works s polled c ended a v b w → HallAsks s c a total → w.mine ≡ v.mine ++ made
     → made_cost made + end_cost c ended ≤ total

@@ -10,7 +10,9 @@ use host_real::System;
 use portal_base::list::List;
 use portal_base::text::Text;
 use script_command::status::Status;
+use std::alloc::AllocGlobal;
 use std::process::ExitCode;
+use std::random::RandomSource;
 use std::{env, io};
 
 fn main(rt: HostRuntime) -> ExitCode {
@@ -21,7 +23,11 @@ fn main(rt: HostRuntime) -> ExitCode {
 }
 
 /// Does what the words ask for: the number that the program ends with.
-fn answer<R: System + Sync>(rt: &R, system: &HostRuntime, words: &[Text]) -> u8 {
+fn answer<R: System + RandomSource + AllocGlobal + Sync>(
+    rt: &R,
+    system: &HostRuntime,
+    words: &[Text],
+) -> u8 {
     if let Some((first, others)) = words.split_first() {
         if first.as_str() == "serve" {
             return serve_command::answer::answer(rt, system, others);

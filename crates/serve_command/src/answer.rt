@@ -14,6 +14,8 @@ use portal_base::outside::{Sink, StdSink, WriteAnswer};
 use portal_base::text::Text;
 use serve_start::end::ServeEnd;
 use serve_start::obey::{Obeyed, obey};
+use std::alloc::AllocGlobal;
+use std::random::RandomSource;
 
 /// The number that the program ends with where help can't be written.
 const WRITE_FAULT: u8 = 4;
@@ -23,7 +25,11 @@ const WRITE_FAULT: u8 = 4;
 /// One line on standard output tells that all sockets stand, once each post is about to
 /// accept. It returns only where the sockets, the connections and the devices do. What isn't
 /// 0 is told by one line on standard error.
-pub fn answer<R: System + Sync>(rt: &R, system: &HostRuntime, words: &[Text]) -> u8 {
+pub fn answer<R: System + RandomSource + AllocGlobal + Sync>(
+    rt: &R,
+    system: &HostRuntime,
+    words: &[Text],
+) -> u8 {
     let standing = Standing::new(system);
     let held = files_open(system);
     let root = root_of_words(rt, system, held, words);

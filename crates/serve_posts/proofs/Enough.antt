@@ -57,7 +57,7 @@ module _ {L S K : Type 0} (s : Sides S K) (hall_of : L → Hall S K) (settings :
       let mine : h.last.mine ≡ exchanges seat o base ++ made =
       sym h.mine ∙ (ap (exchanges seat o) parts ∙ exchanges-append seat base more o) in
       let within =
-      workers-cost-as-asked s (client_of p) e (hall_of p.listener) (hall_of q.listener)
+      workers-cost-as-asked s p.polled (client_of p) e (hall_of p.listener) (hall_of q.listener)
       (newcomer o base seat) h.last total made h.works asks mine in
       subst (λ (es : List Entry). cost es + end_cost (client_of p) e ≤ total)
       (exchanges-entries seat more (run o base)) within

@@ -92,8 +92,9 @@ module _ {L S K X : Type 0} (s : Sides S K) (hall_of : L → Hall S K) (settings
       record {
         who = attends.who;
         kind = attends.kind;
+        polled = attends.polled;
         last = seated_of b;
-        works = subst (λ v. Works s (client p.who p.kind settings) e (hall_of p.listener) v (hall_of q.listener) (seated_of b)) new attends.works;
+        works = subst (λ v. Works s p.polled (client p.who p.kind settings) e (hall_of p.listener) v (hall_of q.listener) (seated_of b)) new attends.works;
         known = attends.known;
         seen = subst (λ (v : View). BeginsWith log v.seen) same stands.seen;
         mine = subst (λ (i : ℕ). exchanges i o log ≡ b.knows.mine) number mine;

@@ -65,7 +65,9 @@ module _ {L S K : Type 0} (s : Sides S K) (hall_of : L → Hall S K) (settings :
       Type 0 where
     pub who : after.who ≡ before.who
     pub kind : after.kind ≡ before.kind
-    pub works : Works s (client before.who before.kind settings) ended (hall_of before.listener)
+    pub polled : after.polled ≡ before.polled
+    pub works : Works s before.polled (client before.who before.kind settings) ended
+        (hall_of before.listener)
         (seated_of a) (hall_of after.listener) (seated_of b)
     pub known : Known (seated_of b)
     pub closed : is_open (state_seen (seated_of b)) b.knows.number ≡ false
@@ -85,8 +87,10 @@ module _ {L S K : Type 0} (s : Sides S K) (hall_of : L → Hall S K) (settings :
       (ended : WorkEnd) (after : Post L) : Type 0 where
     pub who : after.who ≡ before.who
     pub kind : after.kind ≡ before.kind
+    pub polled : after.polled ≡ before.polled
     pub last : Seated
-    pub works : Works s (client before.who before.kind settings) ended (hall_of before.listener)
+    pub works : Works s before.polled (client before.who before.kind settings) ended
+        (hall_of before.listener)
         (newcomer o base seat) (hall_of after.listener) last
     pub known : Known last
     pub seen : BeginsWith log last.seen

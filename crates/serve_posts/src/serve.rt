@@ -15,7 +15,8 @@ use portal_base::memory::WantOfMemory;
 use portal_base::outside::{Clock, Words};
 use portal_core::portal::Portal;
 use record_keeper::Keeper;
-use std::alloc::Global;
+use std::alloc::{AllocGlobal, Global};
+use std::random::RandomSource;
 use std::sync::Wait;
 use std::thread::Threads;
 use worker_gate::gate::Gate;
@@ -47,10 +48,10 @@ pub fn serve<R, L, T, K, C, W, G>(
     gate: &G,
 ) -> ServeStatus<L, T, K, C, W>
 where
-    R: Threads + Wait + Sync,
+    R: Threads + Wait + RandomSource + AllocGlobal + Sync,
     L: Listener + Send + Drop,
-    L::In: Send,
-    L::Out: Send,
+    L::In: Send + Drop,
+    L::Out: Send + Drop,
     T: HostTree + Send + Drop,
     K: Keeper + Send + Drop,
     C: Clock + Send + Drop,

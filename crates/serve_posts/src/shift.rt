@@ -14,7 +14,8 @@ use portal_base::limits::Settings;
 use portal_base::list::List;
 use portal_base::memory::WantOfMemory;
 use portal_core::storied::{Renews, Storied};
-use std::alloc::Global;
+use std::alloc::{AllocGlobal, Global};
+use std::random::RandomSource;
 use std::sync::Wait;
 use std::thread::Threads;
 use turn_desk::end::close;
@@ -53,10 +54,10 @@ pub(crate) fn serve_over<R, L, S, G>(
     gate: &G,
 ) -> Result<(Shift<L, S>, u64), WantOfMemory>
 where
-    R: Threads + Wait + Sync,
+    R: Threads + Wait + RandomSource + AllocGlobal + Sync,
     L: Listener + Send + Drop,
-    L::In: Send,
-    L::Out: Send,
+    L::In: Send + Drop,
+    L::Out: Send + Drop,
     S: Renews + Send + Drop,
     G: Gate + Sync,
     requires count { (1 ≤ length posts) × (length posts ≤ 65535) }
@@ -87,10 +88,10 @@ fn serve_all<R, L, S, G>(
     gate: &G,
 ) -> Result<(Shift<L, S>, u64), WantOfMemory>
 where
-    R: Threads + Wait + Sync,
+    R: Threads + Wait + RandomSource + AllocGlobal + Sync,
     L: Listener + Send + Drop,
-    L::In: Send,
-    L::Out: Send,
+    L::In: Send + Drop,
+    L::Out: Send + Drop,
     S: Renews + Send + Drop,
     G: Gate + Sync,
     requires count { (1 ≤ length posts) × (length posts ≤ 65535) }
@@ -182,10 +183,10 @@ fn serve_turn<R, L, S, G>(
     gate: &G,
 ) -> Result<Shift<L, S>, WantOfMemory>
 where
-    R: Threads + Wait + Sync,
+    R: Threads + Wait + RandomSource + AllocGlobal + Sync,
     L: Listener + Send + Drop,
-    L::In: Send,
-    L::Out: Send,
+    L::In: Send + Drop,
+    L::Out: Send + Drop,
     S: Storied + Send + Drop,
     G: Gate + Sync,
     requires count { (1 ≤ length posts) × (length posts ≤ 65535) }

@@ -10,7 +10,8 @@ use portal_base::limits::Settings;
 use portal_base::list::List;
 use portal_base::memory::WantOfMemory;
 use portal_core::storied::Storied;
-use std::alloc::Global;
+use std::alloc::{AllocGlobal, Global};
+use std::random::RandomSource;
 use std::sync::Wait;
 use std::thread;
 use std::thread::Threads;
@@ -120,13 +121,16 @@ pub(crate) fn is_left(end: WorkEnd) -> bool
 }
 
 /// A worker serves its post, where that is left.
-fn work_at<R: Wait, L: Listener, S: Storied, G: Gate>(
+fn work_at<R: Wait + RandomSource + AllocGlobal, L: Listener, S: Storied, G: Gate>(
     alloc: Global,
     rt: &R,
     settings: &Settings,
     gate: &G,
     worker: &mut Worker<'_, R, L, S>,
 )
+where
+    L::In: Drop,
+    L::Out: Drop,
     requires { is_open (state_seen (seated_of worker.old.desk)) worker.old.desk.knows.number
         ≡ false }
     ensures { AttendsLeft (sides L.In.left L.In.faults L.Out.told L.Out.faults)
@@ -150,14 +154,14 @@ fn work_at<R: Wait, L: Listener, S: Storied, G: Gate>(
 /// All workers serve their posts, where those are left, each in a thread of its
 /// own where one can be started.
 pub(crate) fn work_all<
-    R: Threads + Wait + Sync,
+    R: Threads + Wait + RandomSource + AllocGlobal + Sync,
     L: Listener + Send,
     S: Storied + Send,
     G: Gate + Sync,
 >(alloc: Global, rt: &R, settings: &Settings, gate: &G, workers: &mut [Worker<'_, R, L, S>])
 where
-    L::In: Send,
-    L::Out: Send,
+    L::In: Send + Drop,
+    L::Out: Send + Drop,
     requires some { 0 < length workers.old }
     requires closed { (k : ℕ) (w : _) → slice_get workers.old k ≡ Some w
         → is_open (state_seen (seated_of w.desk)) w.desk.knows.number ≡ false }

@@ -15,7 +15,8 @@
 //! - a mount of three links is served over a history that has room for one
 //!   connection, so that the second is refused and the third is answered in a
 //!   second round, in which the other mount, whose listener gave none, stays
-//!   closed.
+//!   closed;
+//! - the same services, whose connections are polled.
 //!
 //! A `serve` whose workers run one after another lets a hold run out; one that
 //! hands links back unread answers none; a session that reads its input to the end
@@ -46,16 +47,19 @@ fn main(rt: HostRuntime) -> io::Result<()> {
         let text = shown(rt.alloc(), turns(&rt, rt.alloc(), run))?;
         println!(rt; "{text}")?;
     }
-    for hold in [
-        Hold::AtFirst,
-        Hold::AtSecond { worker: 1 },
-        Hold::AtSecond { worker: 2 },
-        Hold::Nobody,
-        Hold::NobodyInRounds,
-    ] {
-        println!(rt; "{hold}")?;
-        let text = shown(rt.alloc(), served(&rt, rt.alloc(), hold))?;
-        println!(rt; "{text}")?;
+    for polled in [false, true] {
+        for hold in [
+            Hold::AtFirst,
+            Hold::AtSecond { worker: 1 },
+            Hold::AtSecond { worker: 2 },
+            Hold::Nobody,
+            Hold::NobodyInRounds,
+        ] {
+            let how = if polled { ", polled" } else { "" };
+            println!(rt; "{hold}{how}")?;
+            let text = shown(rt.alloc(), served(&rt, rt.alloc(), hold, polled))?;
+            println!(rt; "{text}")?;
+        }
     }
     Ok(())
 }

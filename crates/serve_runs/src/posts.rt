@@ -28,17 +28,19 @@ const PING: &str = "6c010001 00000000 01000000 45000000 01016f00 01000000 2f0000
 /// Puts the posts of a service behind others: a bus of the host, whose message comes only once
 /// the handshake is answered; or a mount of the host and one of an application, on each link of
 /// which the attributes of the document's file are asked. Where workers are held each has one
-/// link; in rounds the host's has three, and the application's none.
+/// link; in rounds the host's has three, and the application's none. Their connections are polled
+/// or not.
 pub fn put_posts<'a>(
     alloc: Global,
     posts: &mut Posts<'a>,
     answered: &'a Steps,
     hold: Hold,
+    polled: bool,
 ) -> Result<(), VectorError> {
     let (of_host, of_app) = match hold {
         Hold::Nobody => {
             let bus = links(alloc, answered, 1, HANDSHAKE, PING);
-            return put(posts, bus, Who::Host, Kind::Bus);
+            return put(posts, bus, Who::Host, Kind::Bus, polled);
         }
         Hold::NobodyInRounds => (3, 0),
         Hold::AtFirst | Hold::AtSecond { worker: _ } => (1, 1),
@@ -49,12 +51,14 @@ pub fn put_posts<'a>(
         links(alloc, answered, of_host, GETATTR, ""),
         Who::Host,
         Kind::Mount,
+        polled,
     )?;
     put(
         posts,
         links(alloc, answered, of_app, GETATTR, ""),
         Who::App(app),
         Kind::Mount,
+        polled,
     )
 }
 
@@ -63,12 +67,14 @@ fn put<'a>(
     listener: Result<Links<'a>, VectorError>,
     who: Who,
     kind: Kind,
+    polled: bool,
 ) -> Result<(), VectorError> {
     match listener {
         Ok(listener) => match posts.push(Post {
             listener,
             who,
             kind,
+            polled,
         }) {
             Ok(()) => Ok(()),
             Err(error) => Err(VectorError::from(error)),

@@ -14,23 +14,26 @@ use portal_base::outside::SetClock;
 use portal_lines::PLENTY;
 use script_form::devices::ScriptDevices;
 use serve_posts::serve::serve;
-use std::alloc::Global;
+use std::alloc::{AllocGlobal, Global};
+use std::random::RandomSource;
 use std::sync::Wait;
 use std::thread::Threads;
 use std::time::Clock;
 use vector_lines::error::{VectorError, bad};
 
-/// What the posts of a service are answered, whose workers are held so.
-pub fn served<R: Threads + Wait + Clock + Sync>(
+/// What the posts of a service are answered, whose workers are held so, and whose connections
+/// are polled or not.
+pub fn served<R: Threads + Wait + Clock + RandomSource + AllocGlobal + Sync>(
     rt: &R,
     alloc: Global,
     hold: Hold,
+    polled: bool,
 ) -> Result<String, VectorError> {
     let settings = settings(alloc, history_of(hold))?;
     let answered = Steps::new();
     let gate = HoldGate::new(rt, hold);
     let mut posts = List::new(alloc);
-    let told = match put_posts(alloc, &mut posts, &answered, hold) {
+    let told = match put_posts(alloc, &mut posts, &answered, hold, polled) {
         Ok(()) => served_at(rt, alloc, posts, &settings, &gate),
         Err(error) => {
             drop(posts);
@@ -50,7 +53,7 @@ fn history_of(hold: Hold) -> u64 {
 }
 
 /// The same of two posts, or of one.
-fn served_at<R: Threads + Wait + Clock + Sync>(
+fn served_at<R: Threads + Wait + Clock + RandomSource + AllocGlobal + Sync>(
     rt: &R,
     alloc: Global,
     posts: Posts<'_>,
@@ -75,7 +78,7 @@ fn served_at<R: Threads + Wait + Clock + Sync>(
 }
 
 /// The same over devices.
-fn served_over<R: Threads + Wait + Clock + Sync>(
+fn served_over<R: Threads + Wait + Clock + RandomSource + AllocGlobal + Sync>(
     rt: &R,
     alloc: Global,
     posts: Posts<'_>,

@@ -1,25 +1,27 @@
 -- The posts of a service: whose each is, what its connections speak, and where it listens.
-use Rattle.std.specs.Prelude.{ℕ, List, [], ◌∷◌, replicate}
+use Rattle.std.specs.Prelude.{ℕ, Bool, List, [], ◌∷◌, replicate}
 use Rattle.std.specs.List.{flat_map}
 use Rattle.portal_base.specs.declared.who.Who.{Who}
 use Rattle.portal_base.specs.declared.who.Kind.{Kind}
 use Rattle.worker_gate.specs.declared.worker.Post.{Post}
 use Rattle.serve_start.specs.declared.sockets.Socket.{Socket}
 
--- whose something is, and what its connections speak
+-- whose something is, what its connections speak, and whether they are polled
 pub record Bound : Type 0 where
   pub who : Who
   pub kind : Kind
+  pub polled : Bool
 
 abbrev pub bound_of : {L : Type 0} → Post L → Bound
-bound_of post = record { who = post.who; kind = post.kind }
+bound_of post = record { who = post.who; kind = post.kind; polled = post.polled }
 
-abbrev pub bound_at : Socket → Bound
-bound_at socket = record { who = socket.who; kind = socket.kind }
+abbrev pub bound_at : Bool → Socket → Bound
+bound_at polled socket = record { who = socket.who; kind = socket.kind; polled = polled }
 
 -- at each socket, in order, so many posts that are bound as it is
-abbrev pub posts_of : ℕ → List Socket → List Bound
-posts_of workers sockets = flat_map (λ socket. replicate workers (bound_at socket)) sockets
+abbrev pub posts_of : ℕ → Bool → List Socket → List Bound
+posts_of workers polled sockets =
+    flat_map (λ socket. replicate workers (bound_at polled socket)) sockets
 
 -- and the path of each of them, which is that of its socket
 abbrev pub paths_of : ℕ → List Socket → List (List ℕ)

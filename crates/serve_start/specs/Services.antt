@@ -13,11 +13,13 @@ use Rattle.serve_start.specs.Sockets.{sockets_in}
 module _ {L T W : Type 0} (at : L → List ℕ → Type 0) (tree_is : T → TreeIs)
     (told : W → Option (List ℕ)) where
   -- At the path of each socket that the words ask for, in order, so many posts listen as they say,
-  -- bound as the socket is. The tree is as it began, with first files alone. The guid was drawn of
-  -- the words, and the settings are those of the history's limit and the guid.
+  -- bound as the socket is, and polled where they ask for it. The tree is as it began, with first
+  -- files alone. The guid was drawn of the words, and the settings are those of the history's limit
+  -- and the guid.
   pub record IsService (words : ServeWords) (posts : List (Post L)) (tree : T) (drawn : W)
       (settings : Settings) : Type 0 where
-    pub bound : map bound_of posts ≡ posts_of words.workers (sockets_in words.sockets words.apps)
+    pub bound : map bound_of posts
+        ≡ posts_of words.workers words.polled (sockets_in words.sockets words.apps)
     pub listen : ListenAt at posts (paths_of words.workers (sockets_in words.sockets words.apps))
     pub began : (tree_is tree).told ≡ (tree_is tree).began
     pub first : BeganFirst (tree_is tree).began

@@ -14,7 +14,8 @@ use portal_base::outside::{Clock, Words};
 use portal_base::text::Text;
 use record_keeper::Keeper;
 use serve_words::words::{ServeAsk, WordsError, read_words};
-use std::alloc::Global;
+use std::alloc::{AllocGlobal, Global};
+use std::random::RandomSource;
 use std::sync::Wait;
 use std::thread::Threads;
 use worker_gate::gate::Gate;
@@ -38,11 +39,11 @@ pub fn obey<R, O, L, T, K, C, W, G>(
     gate: &G,
 ) -> Obeyed
 where
-    R: Threads + Wait + Sync,
+    R: Threads + Wait + RandomSource + AllocGlobal + Sync,
     O: Openers<L, T, K, C, W>,
     L: Listener + Send + Drop,
-    L::In: Send,
-    L::Out: Send,
+    L::In: Send + Drop,
+    L::Out: Send + Drop,
     T: HostTree + Send + Drop,
     K: Keeper + Send + Drop,
     C: Clock + Send + Drop,

@@ -62,7 +62,13 @@ where
     openers.tell(words);
     openers.make_sockets(&words.sockets, sockets.as_slice())?;
     let keeper = openers.open_store(&words.store)?;
-    let posts = posts_at(alloc, openers, sockets.as_slice(), words.workers)?;
+    let posts = posts_at(
+        alloc,
+        openers,
+        sockets.as_slice(),
+        words.workers,
+        words.polled,
+    )?;
     Ok(Prepared {
         posts,
         tree,
@@ -122,19 +128,20 @@ fn posts_at<O, L, T, K, C, W>(
     openers: &mut O,
     sockets: &[Socket],
     workers: u32,
+    polled: bool,
 ) -> Result<List<Post<L>>, ServeEnd>
 where
     O: Openers<L, T, K, C, W>,
     L: Drop,
     T: HostTree,
     ensures opens { Opens (O.faults openers.old) result (O.faults openers.new) }
-    ensures bound { IfOk result (λ posts. map bound_of posts ≡ posts_of workers sockets.now) }
+    ensures bound { IfOk result (λ posts. map bound_of posts ≡ posts_of workers polled sockets.now) }
     ensures listen { IfOk result (λ posts. ListenAt O.at posts (paths_of workers sockets.now)) }
     ensures count { IfOk result (λ posts. length posts ≡ workers * length sockets.now) }
 {
     let mut posts = List::new(alloc);
     for socket in sockets {
-        add_posts(alloc, openers, &mut posts, socket, workers)?;
+        add_posts(alloc, openers, &mut posts, socket, workers, polled)?;
     }
     Ok(posts)
 }
@@ -146,6 +153,7 @@ fn add_posts<O, L, T, K, C, W>(
     posts: &mut List<Post<L>>,
     socket: &Socket,
     workers: u32,
+    polled: bool,
 ) -> Result<(), ServeEnd>
 where
     O: Openers<L, T, K, C, W>,
@@ -153,7 +161,7 @@ where
     T: HostTree,
     ensures opens { Opens (O.faults openers.old) result (O.faults openers.new) }
     ensures bound { OnOk result (map bound_of posts.new
-        ≡ map bound_of posts.old ++ replicate workers (bound_at socket.now)) }
+        ≡ map bound_of posts.old ++ replicate workers (bound_at polled socket.now)) }
     ensures listen { (paths : List (List ℕ)) → ListenAt O.at posts.old paths
         → OnOk result (ListenAt O.at posts.new (paths ++ replicate workers socket.now.path)) }
     ensures count { OnOk result (length posts.new ≡ length posts.old + workers) }
@@ -163,6 +171,7 @@ where
             listener: openers.listen(socket)?,
             who: socket.who.replica(alloc)?,
             kind: socket.kind,
+            polled,
         })?;
     }
     Ok(())

@@ -14,7 +14,8 @@ use record_keeper::Keeper;
 use serve_posts::serve::serve;
 use serve_posts::status::ServeStatus;
 use serve_words::words::ServeWords;
-use std::alloc::Global;
+use std::alloc::{AllocGlobal, Global};
+use std::random::RandomSource;
 use std::sync::Wait;
 use std::thread::Threads;
 use worker_gate::gate::Gate;
@@ -41,11 +42,11 @@ pub fn run<R, O, L, T, K, C, W, G>(
     gate: &G,
 ) -> ServeRun<L, T, K, C, W>
 where
-    R: Threads + Wait + Sync,
+    R: Threads + Wait + RandomSource + AllocGlobal + Sync,
     O: Openers<L, T, K, C, W>,
     L: Listener + Send + Drop,
-    L::In: Send,
-    L::Out: Send,
+    L::In: Send + Drop,
+    L::Out: Send + Drop,
     T: HostTree + Send + Drop,
     K: Keeper + Send + Drop,
     C: Clock + Send + Drop,

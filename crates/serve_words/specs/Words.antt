@@ -9,7 +9,7 @@ use Rattle.serve_words.specs.declared.words.ServeAsk.{ServeAsk}
 use Rattle.serve_words.specs.declared.words.ServeAsk.TheVariants.{Serve, Tell}
 use Rattle.serve_words.specs.declared.words.WordsError.{WordsError}
 use Rattle.serve_words.specs.declared.words.WordsError.TheVariants.{Faulty, Memory}
-use Rattle.serve_words.specs.Form.{are_taken, found_in, value_in, values_in}
+use Rattle.serve_words.specs.Form.{are_taken, flag_in, found_in, value_in, values_in}
 
 -- the most posts of a listener
 abbrev pub most_workers : ℕ
@@ -62,6 +62,7 @@ pub record AsksFor (found : List Row) (service : ServeWords) : Type 0 where
   pub sockets : GivesPath found (codes "sockets") service.sockets
   pub workers : GivesNumber found (codes "workers") 1 most_workers service.workers
   pub history : GivesNumber found (codes "history") 0 most_history service.history
+  pub polled : service.polled ≡ flag_in found (codes "polled")
   pub apps : service.apps ≡ values_in found (codes "app")
   pub named : AreNamed service.apps
 

@@ -3,7 +3,7 @@
 ghost use Rattle.std.specs.Prelude.{◌≡◌, IfOk, codes, false};
 ghost use Rattle.clap.specs.Simple.{app_of};
 ghost use Rattle.clap.specs.Walk.{rule_of};
-ghost use Rattle.serve_words.specs.Form.{number_rule, path_rule, serve_form, words_rule};
+ghost use Rattle.serve_words.specs.Form.{flag_rule, number_rule, path_rule, serve_form, words_rule};
 
 use clap::{Arg, ArgAction, Command};
 use std::alloc::{AllocError, Global};
@@ -67,6 +67,7 @@ pub fn form<'a>(alloc: Global) -> Result<Command<'a>, AllocError>
             "How many bytes the history of requests may cost, up to 4294967296",
             "536870912",
         ))?
+        .arg(flag(alloc, "polled", "Serves each connection poll by poll"))?
         .arg(apps(alloc))?;
     Ok(command)
 }
@@ -100,6 +101,17 @@ fn number<'a>(
         .value_name(value)
         .action(ArgAction::Set)
         .default_value(usual)
+        .help(help)
+}
+
+/// An option that is given or not.
+fn flag<'a>(alloc: Global, name: &'static str, help: &'static str) -> Arg<'a>
+    ensures rule { rule_of result ≡ flag_rule name.now }
+    ensures own { result.global ≡ false }
+{
+    Arg::new(alloc, name)
+        .long(name)
+        .action(ArgAction::SetTrue)
         .help(help)
 }
 

@@ -11,7 +11,7 @@ ghost use Rattle.clap.specs.Walk.{rows_of};
 ghost use Rattle.portal_base.specs.Names.{is_app_name, is_same};
 ghost use Rattle.clap.specs.declared.error.kind.ErrorKind.TheVariants.{OutOfMemory};
 ghost use Rattle.serve_words.specs.Digits.{are_digits_in, leads_with_zero_in};
-ghost use Rattle.serve_words.specs.Form.{value_in, values_in};
+ghost use Rattle.serve_words.specs.Form.{flag_in, value_in, values_in};
 ghost use Rattle.serve_words.specs.declared.words.ServeWords.{ServeWords};
 ghost use Rattle.serve_words.specs.Words.{AreNamed, Asks, AsksFor, AsksInForm, AsksOneOf, GivesNumber, GivesPath, IsFaulty, IsInForm, IsText, TellsFault, most_history, most_workers};
 
@@ -47,6 +47,8 @@ pub struct ServeWords {
     pub workers: u32,
     /// What the history may cost, in bytes.
     pub history: u64,
+    /// Whether connections are polled.
+    pub polled: bool,
     /// The applications, each once, in the order of the words.
     pub apps: List<AppId>,
 }
@@ -190,6 +192,7 @@ fn service_of(alloc: Global, matches: &ArgMatches<'_>) -> Result<ServeWords, Wor
         sockets,
         workers,
         history,
+        polled: is_polled(matches),
         apps,
     })
 }
@@ -252,6 +255,16 @@ fn history_of(alloc: Global, matches: &ArgMatches<'_>) -> Result<u64, WordsError
             )?;
             Err(WordsError::Faulty(why))
         }
+    }
+}
+
+/// Whether connections are to be polled.
+fn is_polled(matches: &ArgMatches<'_>) -> bool
+    ensures { result ≡ flag_in (rows_of (found_of matches.now)) (codes "polled") }
+{
+    match value_of(matches, "polled") {
+        Some(value) => value == "true",
+        None => false,
     }
 }
 

@@ -3,6 +3,7 @@
 ghost use Rattle.std.specs.Prelude.{◌≡◌};
 
 use crate::seats::Seat;
+use once_desk::OnceDesk;
 use portal_core::storied::Storied;
 use portal_desk::Desk;
 use portal_model::asked::Asked;
@@ -13,7 +14,7 @@ use std::marker::Model;
 use std::sync::Wait;
 
 /// A seat that waits while another holds the turn, and asks again until it has
-/// an answer.
+/// an answer; or that asks once, and hands the request back behind the wait.
 ///
 /// Contracts see it as its seat.
 #[derive(Drop)]
@@ -86,4 +87,17 @@ impl<'a, R: Wait, S: Storied> Desk for WaitingSeat<'a, R, S> {
     ghost stands = { stays_put };
 
     ghost follows = { stays_further };
+}
+
+impl<'a, R: Wait, S: Storied> OnceDesk for WaitingSeat<'a, R, S> {
+    ghost busy = { λ w. w.knows.losses };
+
+    fn ask_once(&mut self, alloc: Global, request: Request) -> Asked {
+        let asked = self.seat.try_ask(alloc, request);
+        if let Asked::Busy { .. } = &asked {
+            // Another held the turn as it was asked for.
+            self.seat.wait_for_turn(self.rt);
+        }
+        asked
+    }
 }

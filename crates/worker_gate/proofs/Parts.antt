@@ -1,5 +1,5 @@
 -- What a seat made while a connection was served.
-use Rattle.std.proofs.Common.{◌≡◌, ℕ, ◌≤◌, List, [], ◌++◌, inl, inr, refl, sym, ap, ◌∙◌, subst, arith}
+use Rattle.std.proofs.Common.{◌≡◌, ℕ, ◌≤◌, List, [], ◌++◌, Bool, true, false, inl, inr, refl, sym, ap, ◌∙◌, subst, arith}
 use Rattle.std.specs.Prelude.{◌⊎◌}
 use Rattle.std.proofs.Math.Nat.{le-max_left}
 use Rattle.std.proofs.lemmas.List.{append-nil}
@@ -11,6 +11,7 @@ use Rattle.session.specs.Answers.{Outcome}
 use Rattle.session.specs.Connections.{EndsAs, Front, HalfUnsaid, Serves}
 use Rattle.session.specs.Ledger.{Grew, World}
 use Rattle.session.specs.Pumps.{Spring}
+use Rattle.worker_gate.specs.Polled.{ServesBy}
 
 -- the history goes on, this is new of the seat's own, and no refusal is forgotten
 pub record Part (v w : Seated) : Type 0 where
@@ -58,3 +59,8 @@ ends_part c served.Memory read a b v w (inr h) = half c read v w h.0
 -- whatever a connection came to
 pub part_of : (c : Client) (r : Served) (a b : Spring) (v w : World) → Serves c r a b v w → Part v.seated w.seated
 part_of c r a b v w h = ends_part c r h.0 a b v w h.3
+
+-- the same, where it was polled too
+pub part_by : (polled : Bool) (c : Client) (r : Served) (a b : Spring) (v w : World) → ServesBy polled c r a b v w → Part v.seated w.seated
+part_by true c r a b v w h = grown v.seated w.seated _ h.is.grew
+part_by false c r a b v w h = part_of c r a b v w h

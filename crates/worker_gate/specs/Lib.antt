@@ -1,4 +1,5 @@
 pub mod Listening
 pub mod InMemory
 pub mod Gates
+pub mod Polled
 pub mod Working

@@ -3,9 +3,11 @@
 ghost use Rattle.std.specs.Prelude.{◌≡◌};
 ghost use Rattle.worker_gate.specs.Gates.{desk_of, name_of_desk, sink_of};
 
+use once_desk::OnceDesk;
 use portal_base::outside::{Sink, WriteAnswer};
-use portal_desk::Desk;
+use portal_desk::{Desk, TryDesk};
 use portal_history::cost_of;
+use portal_model::asked::Asked;
 use portal_model::reply::{Refused, Reply};
 use portal_model::request::Request;
 use std::alloc::Global;
@@ -83,6 +85,43 @@ impl<'a, D: Desk, G: Gate> Desk for GateDesk<'a, D, G> {
             Err(why) => self.gate.refused(self.worker, why),
         }
         answer
+    }
+
+    fn known(&self) {
+        self.desk.known();
+    }
+
+    ghost stands = { λ d. (refl, D.stands d.desk.now) };
+
+    ghost follows = { λ d e f h k. (
+      k.0 ∙ h.0,
+      D.follows d.desk.now e.desk.now f.desk.now h.1 k.1,
+    ) };
+}
+
+impl<'a, D: OnceDesk, G: Gate> TryDesk for GateDesk<'a, D, G> {
+    ghost use Rattle.std.specs.Prelude.{◌≡◌, refl};
+    ghost use Rattle.std.proofs.Common.{◌∙◌};
+
+    ghost seated = { λ d. D.seated d.desk.now };
+
+    ghost busy = { λ d. D.busy d.desk.now };
+
+    // It is the same desk, which goes as it goes.
+    ghost goes = { λ d e. (e.desk.ghost_name ≡ d.desk.ghost_name)
+        × D.goes d.desk.now e.desk.now };
+
+    // A request that is put off is told `Read` again as it is asked again.
+    fn try_ask(&mut self, alloc: Global, request: Request) -> Asked {
+        self.gate.at(self.worker, Point::Read);
+        let cost = cost_of(&request);
+        let asked = self.desk.ask_once(alloc, request);
+        match &asked {
+            Asked::Answered(_) => self.gate.answered(self.worker, cost),
+            Asked::Busy { .. } => {}
+            Asked::Refused(why) => self.gate.refused(self.worker, why),
+        }
+        asked
     }
 
     fn known(&self) {

@@ -7,6 +7,6 @@ abbrev pub invariant-loop-socket : goal.invariant-loop-socket
 invariant-loop-socket g l = record {
   faults : g.O.Openers.faults l.openers ≡ g.O.Openers.faults l.initial.openers;
   count : length l.posts ≡ l.workers * l.socket-index;
-  bound : map bound_of l.posts ≡ posts_of l.workers (take l.socket-index l.sockets);
+  bound : map bound_of l.posts ≡ posts_of l.workers l.polled (take l.socket-index l.sockets);
   listen : ListenAt g.O.Openers.at l.posts (paths_of l.workers (take l.socket-index l.sockets));
 }

@@ -1,7 +1,7 @@
 use Rattle.std.proofs.Common.{◌≡◌, [], ◌∙◌, true, ap}
 use Rattle.std.specs.Prelude.{codes}
 use Rattle.clap.specs.Simple.{App, app_of, app_of_fields, new_shape, on_top}
-use Rattle.serve_words.specs.Form.{number_rule, path_rule, serve_form, words_rule}
+use Rattle.serve_words.specs.Form.{flag_rule, number_rule, path_rule, serve_form, words_rule}
 use Rattle.serve_words.proofs.Forms.{adds}
 use Rattle.serve_words.proofs.form.form.Goals as goal
 
@@ -25,4 +25,5 @@ returns c =
     let sockets = adds c.in_ok-arg-2.field-0 c.in_ok-arg-3.field-0 c.folder-3.result _ (path_rule (codes "sockets")) c.in_ok-arg-3.ensures c.folder-3.ensures.own c.folder-3.ensures.rule store in
     let workers = adds c.in_ok-arg-3.field-0 c.in_ok-arg-4.field-0 c.number.result _ (number_rule (codes "workers") (codes "2")) c.in_ok-arg-4.ensures c.number.ensures.own c.number.ensures.rule sockets in
     let history = adds c.in_ok-arg-4.field-0 c.in_ok-arg-5.field-0 c.number-2.result _ (number_rule (codes "history") (codes "536870912")) c.in_ok-arg-5.ensures c.number-2.ensures.own c.number-2.ensures.rule workers in
-    adds c.in_ok-arg-5.field-0 c.in_ok-command.command c.apps.result _ (words_rule (codes "app")) c.in_ok-command.ensures c.apps.ensures.own c.apps.ensures.rule history
+    let polled = adds c.in_ok-arg-5.field-0 c.in_ok-arg-6.field-0 c.flag.result _ (flag_rule (codes "polled")) c.in_ok-arg-6.ensures c.flag.ensures.own c.flag.ensures.rule history in
+    adds c.in_ok-arg-6.field-0 c.in_ok-command.command c.apps.result _ (words_rule (codes "app")) c.in_ok-command.ensures c.apps.ensures.own c.apps.ensures.rule polled

@@ -11,6 +11,7 @@ invariant-links g l =
     (goal.iterator-links g).can_next l.iterator'
     × (goal.iterator-links g).is_finite l.iterator'
     × SoFar (sides g.L.In.Source.left g.L.In.Source.faults g.L.Out.Sink.told g.L.Out.Sink.faults)
+    l.fn.post.polled
     (client l.fn.post.who l.fn.post.kind l.settings)
     (hall (g.L.Listener.links l.fn.post.listener) (g.L.Listener.ends l.fn.post.listener) (g.L.Listener.faults l.fn.post.listener))
     (g.D.Desk.seated l.fn.desk)
@@ -20,4 +21,5 @@ invariant-links g l =
     × Known (g.D.Desk.seated l.desk)
     × (l.post.who ≡ l.fn.post.who)
     × (l.post.kind ≡ l.fn.post.kind)
+    × (l.post.polled ≡ l.fn.post.polled)
     × g.D.Desk.goes l.fn.desk l.desk

@@ -1,0 +1,3 @@
+pub mod StageRuns
+pub mod Serving
+pub mod Attending

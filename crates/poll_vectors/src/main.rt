@@ -1,0 +1,40 @@
+//! Vectors of connections that are polled.
+//!
+//! Reads lines from standard input. A line names a call, and what the call is
+//! given; its answer is printed as a line. Empty lines and lines that begin with
+//! `#` are printed as they are, so that the lines of the output stand at the
+//! numbers of those of the input. The modules say which lines there are.
+#![tactic(auto)]
+
+mod alike;
+mod client;
+mod cuts;
+mod outside;
+mod polled;
+mod served;
+
+use futures::test::MockTask;
+use std::alloc::Global;
+use std::io;
+use vector_lines::error::{VectorError, bad};
+use vector_lines::notation::cut;
+use vector_lines::program::run;
+
+fn main(rt: HostRuntime) -> io::Result<()> {
+    let task = MockTask::new(&rt)?;
+    run(
+        &rt,
+        |alloc: Global, line: &str| -> Result<String, VectorError> { answer(&task, alloc, line) },
+    )
+}
+
+/// The answer of a line.
+fn answer(task: &MockTask, alloc: Global, line: &str) -> Result<String, VectorError> {
+    let (kind, rest) = cut(line);
+    match kind {
+        "poll" => polled::poll(task, alloc, rest),
+        "cuts" => cuts::cuts(task, alloc, rest),
+        "alike" => alike::alike(task, alloc, rest),
+        _ => bad(),
+    }
+}
