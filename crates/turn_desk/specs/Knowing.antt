@@ -75,6 +75,7 @@ nowhere = record {
   handles = [];
   told = false;
   files = [];
+  hidden = [];
   taken = [];
   entries = [];
 }
