@@ -44,7 +44,7 @@ items-preserved g c = record {
 }
 
 pub returns-in-NoItem-clause-serves : goal.returns-in-NoItem-clause-serves
-returns-in-NoItem-clause-serves g c l r = none_asked _ _ _ _ _ _ l r _ _ _ _ (all_sent _ _ _ _ _ _ l r _ _ _ _ (c.items.invariant.going l r) _ _ _ c.in-All.ensures.flushes) _ _ _ _ (c.in-NoItem.ensures.asks l r _ _)
+returns-in-NoItem-clause-serves g c l r = none_asked _ _ _ _ _ _ l r _ _ _ _ (all_sent _ _ _ _ _ _ l r _ _ _ _ (c.items.invariant.going l r) _ _ _ c.in-All.ensures.flushes) _ _ _ c.flush.new.context.is_woken (c.in-NoItem.ensures.asks l r _ _)
 
 pub returns-in-Busy-clause-serves : goal.returns-in-Busy-clause-serves
 returns-in-Busy-clause-serves g c l r = desk_busy _ _ _ _ _ _ l r _ _ _ _ (all_sent _ _ _ _ _ _ l r _ _ _ _ (c.items.invariant.going l r) _ _ _ c.in-All.ensures.flushes) _ _ _ _ c.yield_now.ensures.woken (c.in-Busy.ensures.asks l r _ _)
