@@ -58,12 +58,12 @@ pub fn opened_by(alloc: Global, script: &[u8], limits: Limits) -> Result<ScriptP
     requires queued { limits.queued < 2 ^ 32 }
     ensures { IfOk result (λ portal. portal.story.history ≡ []) }
 {
-    let script = given(alloc, read_script(alloc, script))?;
+    let read = given(alloc, read_script(alloc, script))?;
     let ScriptDevices {
         tree,
         keeper,
         words,
-    } = devices_of(alloc, &script)?;
+    } = devices_of(alloc, &read)?;
     let clock = SetClock::new(0);
     match Portal::start(alloc, tree, keeper, clock, words, limits) {
         Ok(portal) => Ok(portal),

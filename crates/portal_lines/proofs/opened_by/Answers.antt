@@ -5,4 +5,5 @@ pub start-requires-clause-first : goal.start-requires-clause-first
 start-requires-clause-first c =
     let tree = c.in_ok-tree.field-0.tree in
     let is = c.in_ok-tree.ensures.tree in
-    record { none_hidden = none_beside _ tree is; first = first_alone _ tree is }
+    let lines = c.in_ok-read.read.lines in
+    record { none_hidden = none_beside lines tree is; first = first_alone lines tree is }
