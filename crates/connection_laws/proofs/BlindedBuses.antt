@@ -66,11 +66,11 @@ module _ (sees : FileName → Bool) where
     use-same : (path : List ℕ) (x y : OwnAdded) (o : Option DocId) → seen_added x ≡ seen_added y → seen_added (own_use_document a content path x o) ≡ seen_added (own_use_document a other path y o)
     use-same path x y (Some id) h =
         let gained : blind_but sees (apply x.view (Gained (new_document a id path) (adding_rights a) (content path))) ≡ blind_but sees (apply y.view (Gained (new_document a id path) (adding_rights a) (other path))) =
-        apply-same sees x.view y.view (Gained (new_document a id path) (adding_rights a) (content path)) (Gained (new_document a id path) (adding_rights a) (other path)) (ap (λ (d : OwnAdded). d.view) h) (ap (λ (c : Holding). Gained (new_document a id path) (adding_rights a) c) (alike path)) in
+        apply-same sees x.view y.view (Gained (new_document a id path) (adding_rights a) (content path)) (Gained (new_document a id path) (adding_rights a) (other path)) tt tt (ap (λ (d : OwnAdded). d.view) h) (ap (λ (c : Holding). Gained (new_document a id path) (adding_rights a) c) (alike path)) in
         λ i. record (own_use_document a content path (h i) (Some id)) { view = gained i }
     use-same path x y None h =
         let gained : blind_but sees (apply x.view (Gained (new_document a (first_number x.numbers) path) (adding_rights a) (content path))) ≡ blind_but sees (apply y.view (Gained (new_document a (first_number y.numbers) path) (adding_rights a) (other path))) =
-        apply-same sees x.view y.view (Gained (new_document a (first_number x.numbers) path) (adding_rights a) (content path)) (Gained (new_document a (first_number y.numbers) path) (adding_rights a) (other path)) (ap (λ (d : OwnAdded). d.view) h) (λ i. Gained (new_document a (first_number (h i).numbers) path) (adding_rights a) (alike path i)) in
+        apply-same sees x.view y.view (Gained (new_document a (first_number x.numbers) path) (adding_rights a) (content path)) (Gained (new_document a (first_number y.numbers) path) (adding_rights a) (other path)) tt tt (ap (λ (d : OwnAdded). d.view) h) (λ i. Gained (new_document a (first_number (h i).numbers) path) (adding_rights a) (alike path i)) in
         λ i. record (own_use_document a content path (h i) None) { view = gained i }
 
     file-same : (f : OwnFile) (x y : OwnAdded) → seen_added x ≡ seen_added y → seen_added (own_add_file a content x f) ≡ seen_added (own_add_file a other y f)
@@ -126,7 +126,7 @@ module _ (sees : FileName → Bool) where
     grant-same call (Some d) = unless-same (not (may_grant d.rights (rights_named call.names))) code.NotAllowed (OwnDoes b Answer.Done) (OwnDoes v Answer.Done) (λ i. OwnDoes (view-twice sees v i) Answer.Done)
 
     revoked-same : (call : RightsCall) (d : HeldDocument) (itself : Bool) → blind_but sees (own_revoked b call d itself) ≡ blind_but sees (own_revoked v call d itself)
-    revoked-same call d true = apply-same sees b v (Lost d.document.id (rights_named call.names)) (Lost d.document.id (rights_named call.names)) (view-twice sees v) refl
+    revoked-same call d true = apply-same sees b v (Lost d.document.id (rights_named call.names)) (Lost d.document.id (rights_named call.names)) tt tt (view-twice sees v) refl
     revoked-same call d false = view-twice sees v
 
     revoke-same : (call : RightsCall) (o : Option HeldDocument) → seen_verdict (own_revoke_reached c.app b call o) ≡ seen_verdict (own_revoke_reached c.app v call o)
@@ -138,7 +138,7 @@ module _ (sees : FileName → Bool) where
     delete-same : (o : Option HeldDocument) → seen_verdict (own_delete_reached b o) ≡ seen_verdict (own_delete_reached v o)
     delete-same None = refl
     delete-same (Some d) =
-        unless-same (not d.rights.delete) code.NotAllowed (OwnDoes (apply b (Gone d.document.id)) Answer.Done) (OwnDoes (apply v (Gone d.document.id)) Answer.Done) (λ i. OwnDoes (apply-same sees b v (Gone d.document.id) (Gone d.document.id) (view-twice sees v) refl i) Answer.Done)
+        unless-same (not d.rights.delete) code.NotAllowed (OwnDoes (apply b (Gone d.document.id)) Answer.Done) (OwnDoes (apply v (Gone d.document.id)) Answer.Done) (λ i. OwnDoes (apply-same sees b v (Gone d.document.id) (Gone d.document.id) tt tt (view-twice sees v) refl i) Answer.Done)
 
     then-same : (a : AddRequest) (o : Option DocId) → own_rights_then b a o ≡ own_rights_then v a o
     then-same a None = refl

@@ -13,25 +13,26 @@ use Rattle.portal_model.specs.declared.place.Place.{Place}
 use Rattle.portal_model.specs.declared.reply.Answer.{Answer}
 use Rattle.portal_model.specs.declared.request.NodeOp.{NodeOp}
 use Rattle.portal_model.specs.declared.request.NodeRequest.{NodeRequest}
+use Rattle.portal_model.specs.declared.temporary.Temp.{Temp}
 use Rattle.portal_model.specs.Bus.{is_tree, moment_given}
 use Rattle.portal_model.specs.Content.{Content, OfFile, look_of}
 use Rattle.portal_model.specs.Errno.{eacces, ebadf, einval}
 use Rattle.portal_model.specs.Node.{NodeFacts, node_walk}
 use Rattle.portal_model.specs.Ordered.{put}
-use Rattle.portal_model.specs.NodeVerdict.{FileChange, FilesStay, Writes, Resizes, Creates, HandleChange, HandlesStay, Opens, Closes, NodeDoing, NodeVerdict, Errs, Yields, errs_if}
+use Rattle.portal_model.specs.NodeVerdict.{FileChange, FilesStay, Writes, Resizes, Creates, Adds, Stands, HandleChange, HandlesStay, Opens, Closes, NodeDoing, NodeVerdict, Errs, Yields, errs_if}
 use Rattle.portal_model.specs.Place.{id_of_node, place_named}
-use Rattle.portal_model.specs.SeatNames.{naming_of}
+use Rattle.portal_model.specs.SeatNames.{naming_of, temp_of}
 use Rattle.portal_model.specs.Reach.{Reaching, may_read_now, open_file_of}
 use Rattle.portal_model.specs.Read.{read, read_limit, read_name}
-use Rattle.portal_model.specs.Walk.{Walk, Answers, Looks, Ends, Lists, Target, AtPath, Named, LastCall, Uses, Changes, Makes, walked_with}
+use Rattle.portal_model.specs.Walk.{Walk, Answers, Looks, Ends, Lists, Target, AtPath, Named, LastCall, Uses, Changes, Makes, Freshens, Turns, walked_with}
 use Rattle.portal_model.proofs.ListLookups.{is_same-refl}
-use Rattle.app_world.specs.Effect.{Bytes, with_content}
-use Rattle.app_world.specs.Node.{bytes_effects, own_connections_then, own_facts, own_handle_of, own_node_answer, own_node_done, own_node_given, own_reach, own_settled_on_node, own_sight_at, own_walk, with_handles}
+use Rattle.app_world.specs.Effect.{Bytes, Turned, with_content, with_named}
+use Rattle.app_world.specs.Node.{has_bytes, has_file, own_connections_then, own_effects, own_facts, own_handle_of, own_node_answer, own_node_done, own_node_given, own_place, own_reach, own_settled_on_node, own_sight_at, own_walk, with_handles}
 use Rattle.app_world.specs.Own.{Own}
-use Rattle.app_world.specs.Shown.{is_file, is_place, own_bytes, own_content, own_file, own_found, own_listed, own_looks, own_shown_at, succeeding}
+use Rattle.app_world.specs.Shown.{has_parent, is_file, is_folder_there, is_place, own_bytes, own_content, own_file, own_found, own_listed, own_looks, own_shown_at, succeeding}
 use Rattle.app_world.specs.View.{AppView, OwnConnection, OwnHandle, ahead, found_connection, found_content, knows, prune}
-use Rattle.connection_laws.specs.Blinded.{blind_but, reads, reads_connection, reads_handle}
-use Rattle.connection_laws.proofs.BlindedViews.{apply_all-same, blind-same, blind_effect, connections-same, content-blind, file-blind, gained-blind, listed-blind, look-blind, own_bytes-long, own_bytes-seen, own_file-blind, place-blind, seen_pair, view-twice}
+use Rattle.connection_laws.specs.Blinded.{blind_at, blind_but, reads, reads_connection, reads_handle}
+use Rattle.connection_laws.proofs.BlindedViews.{AllFit, apply_all-same, blind-same, blind-twice, blind_effect, connections-same, content-blind, file-blind, gained-blind, listed-blind, look-blind, own_bytes-long, own_bytes-seen, own_file-blind, own_file-fits, parent-blind, place-blind, seen_pair, there-blind, view-twice, with_named-blind}
 
 -- ---- what is read is in sight
 
@@ -101,6 +102,10 @@ module _ (sees : FileName → Bool) (v : AppView) where
   found-at (Uses name) = ap is_file (own_file-blind sees v name) ∙ file-blind sees name.path (own_file v name)
   found-at (Changes name) = ap is_file (own_file-blind sees v name) ∙ file-blind sees name.path (own_file v name)
   found-at (Makes path) = ap is_place (content-blind sees v path) ∙ place-blind sees path (own_content v path)
+  found-at (Freshens name) = ap has_parent (content-blind sees v name.path) ∙ parent-blind sees name.path (own_content v name.path)
+  found-at (Turns name) = λ i.
+      (ap is_file (own_file-blind sees v name) ∙ file-blind sees name.path (own_file v name)) i
+      && not ((ap is_folder_there (content-blind sees v name.path) ∙ there-blind sees name.path (own_content v name.path)) i)
 
   looks-blind : (w : Walk NodeVerdict) → own_looks b w ≡ own_looks v w
   looks-blind (Answers x) = refl
@@ -116,16 +121,20 @@ module _ (sees : FileName → Bool) (v : AppView) where
 
   -- ---- the walk
 
-  sight-at : (naming : Option Naming) (p : Option Place) → own_sight_at b naming p ≡ own_sight_at v naming p
-  sight-at naming None = refl
-  sight-at naming (Some (Place.Root view)) = refl
-  sight-at naming (Some Place.ByApp) = refl
-  sight-at naming (Some (Place.Folder view id)) = refl
-  sight-at naming (Some (Place.File view id)) = refl
-  sight-at naming (Some (Place.Named view k)) = refl
+  sight-at : (naming : Option Naming) (temp : Option Temp) (p : Option Place) → own_sight_at b naming temp p ≡ own_sight_at v naming temp p
+  sight-at naming temp None = refl
+  sight-at naming temp (Some (Place.Root view)) = refl
+  sight-at naming temp (Some Place.ByApp) = refl
+  sight-at naming temp (Some (Place.Folder view id)) = refl
+  sight-at naming temp (Some (Place.File view id)) = refl
+  sight-at naming temp (Some (Place.Named view k)) = refl
+  sight-at naming temp (Some (Place.Temporary view k)) = refl
 
-  facts-are : (c : OwnConnection) (node : ℕ) → own_facts b c node ≡ record (own_facts v c node) { bytes = own_bytes b }
-  facts-are c node = λ i. record (own_facts b c node) { sight = sight-at (naming_of c.namings (id_of_node node)) (place_named node) i }
+  place-at : (c : OwnConnection) (node : ℕ) → own_place b c node ≡ own_place v c node
+  place-at c node = sight-at (naming_of c.namings (id_of_node node)) (temp_of c.temps (id_of_node node)) (place_named node)
+
+  facts-are : (c : OwnConnection) (generation : Option ℕ) (node : ℕ) → own_facts b c generation node ≡ record (own_facts v c generation node) { bytes = own_bytes b }
+  facts-are c generation node = λ i. record (own_facts b c generation node) { sight = place-at c node i; sight_of = λ n. place-at c n i }
 
   module _ (c : OwnConnection) (seat : ℕ) (found : found_connection v.connections seat ≡ Some c) (wide : (name : FileName) → reads v name ≡ true → sees name ≡ true) where
     or-right : (x y : Bool) → y ≡ true → (x || y) ≡ true
@@ -144,29 +153,44 @@ module _ (sees : FileName → Bool) (v : AppView) where
     handle-alike fh (Some (Handle.File name node document strict read write)) e = λ m. own_bytes-seen sees v name (wide name (handle-reads fh name node document strict read write e m))
     handle-alike fh (Some (Handle.Folder node entries)) e = tt
 
-    walk-blind : (r : NodeRequest) → own_walk b c r ≡ own_walk v c r
-    walk-blind r =
-        ap (λ (f : NodeFacts). node_walk f r r.op) (facts-are c r.node)
-        ∙ walk-alike (own_facts v c r.node) (own_bytes b) r r.op (λ fh. handle-alike fh (own_handle_of c.handles fh) refl)
+    walk-blind : (generation : Option ℕ) (r : NodeRequest) → own_walk b c generation r ≡ own_walk v c generation r
+    walk-blind generation r =
+        ap (λ (f : NodeFacts). node_walk f r r.op) (facts-are c generation r.node)
+        ∙ walk-alike (own_facts v c generation r.node) (own_bytes b) r r.op (λ fh. handle-alike fh (own_handle_of c.handles fh) refl)
 
   -- ---- the view after
 
   effect-same : (name : FileName) (xs ys : List ℕ) (now : ℕ) (x : Bool) → (sees name ≡ true → xs ≡ ys) → length xs ≡ length ys →
-      map (blind_effect sees) (cond x (Bytes name.path name.generation (OfFile name.generation xs now) ∷ []) [])
-      ≡ map (blind_effect sees) (cond x (Bytes name.path name.generation (OfFile name.generation ys now) ∷ []) [])
+      map (blind_effect sees) (cond x (has_bytes name xs now ∷ []) []) ≡ map (blind_effect sees) (cond x (has_bytes name ys now ∷ []) [])
   effect-same name xs ys now true e l = ap (λ (c : Content). Bytes name.path name.generation c ∷ []) (blind-same sees name.path name.generation xs ys now e l)
   effect-same name xs ys now false e l = refl
 
-  effects-blind : (change : FileChange) → map (blind_effect sees) (bytes_effects b (own_bytes b) change) ≡ map (blind_effect sees) (bytes_effects v (own_bytes v) change)
+  has-same : (name : FileName) → has_file b name ≡ has_file v name
+  has-same name = ap is_file (own_file-blind sees v name) ∙ file-blind sees name.path (own_file v name)
+
+  bytes-same : (name : FileName) (xs ys : List ℕ) (now : ℕ) → (sees name ≡ true → xs ≡ ys) → length xs ≡ length ys →
+      map (blind_effect sees) (cond (has_file b name) (has_bytes name xs now ∷ []) []) ≡ map (blind_effect sees) (cond (has_file v name) (has_bytes name ys now ∷ []) [])
+  bytes-same name xs ys now e l =
+      ap (λ (x : Bool). map (blind_effect sees) (cond x (has_bytes name xs now ∷ []) [])) (has-same name) ∙ effect-same name xs ys now (has_file v name) e l
+
+  turned-same : (name : FileName) (x : Bool) → map (blind_effect sees) (cond x (Turned name.path name.generation (own_file b name) ∷ []) []) ≡ map (blind_effect sees) (cond x (Turned name.path name.generation (own_file v name) ∷ []) [])
+  turned-same name true =
+      ap (λ (c : Content). Turned name.path name.generation c ∷ [])
+      (ap (blind_at sees name.path) (own_file-blind sees v name) ∙ blind-twice sees name.path (own_file v name))
+  turned-same name false = refl
+
+  effects-blind : (change : FileChange) → map (blind_effect sees) (own_effects b change) ≡ map (blind_effect sees) (own_effects v change)
   effects-blind FilesStay = refl
   effects-blind (Writes name offset [] now) = refl
   effects-blind (Writes name offset (x ∷ xs) now) =
-      effect-same name (overlaid (own_bytes b name) offset (x ∷ xs)) (overlaid (own_bytes v name) offset (x ∷ xs)) now (knows v name.path)
+      bytes-same name (overlaid (own_bytes b name) offset (x ∷ xs)) (overlaid (own_bytes v name) offset (x ∷ xs)) now
       (λ e. ap (λ (bytes : List ℕ). overlaid bytes offset (x ∷ xs)) (own_bytes-seen sees v name e)) (overlaid-long offset (x ∷ xs) _ _ (own_bytes-long sees v name))
   effects-blind (Resizes name size now) =
-      effect-same name (cut_to size (own_bytes b name)) (cut_to size (own_bytes v name)) now (knows v name.path)
+      bytes-same name (cut_to size (own_bytes b name)) (cut_to size (own_bytes v name)) now
       (λ e. ap (cut_to size) (own_bytes-seen sees v name e)) (cut-long size _ _ (own_bytes-long sees v name))
   effects-blind (Creates path now) = refl
+  effects-blind (Adds name now) = refl
+  effects-blind (Stands name) = turned-same name (knows v name.path)
 
   -- with the path of a file that is opened
   handles-blind : (change : HandleChange) → with_handles change b ≡ blind_but sees (with_handles change v)
@@ -175,14 +199,30 @@ module _ (sees : FileName → Bool) (v : AppView) where
     contents =
         (ap (λ (content : Content). put ahead (with_content name.path content (found_content b.contents name.path)) b.contents) (content-blind sees v name.path)
         ∙ gained-blind sees name.path (own_content v name.path) v.contents) i;
+    files =
+        (ap (λ (content : Content). with_named name content b.files) (own_file-blind sees v name)
+        ∙ with_named-blind sees name (own_file v name) v.files (own_file-fits sees v name)) i;
   }
   handles-blind (Opens (Handle.Folder node entries)) = refl
   handles-blind (Closes fh) = refl
 
+  bytes-fit : (name : FileName) (bytes : List ℕ) (now : ℕ) (x : Bool) → AllFit sees (cond x (has_bytes name bytes now ∷ []) [])
+  bytes-fit name bytes now true = (refl, tt)
+  bytes-fit name bytes now false = tt
+
+  effects-fit : (x : AppView) (change : FileChange) → AllFit sees (own_effects x change)
+  effects-fit x FilesStay = tt
+  effects-fit x (Writes name offset [] now) = tt
+  effects-fit x (Writes name offset (y ∷ ys) now) = bytes-fit name (overlaid (own_bytes x name) offset (y ∷ ys)) now (has_file x name)
+  effects-fit x (Resizes name size now) = bytes-fit name (cut_to size (own_bytes x name)) now (has_file x name)
+  effects-fit x (Creates path now) = bytes-fit (record { path = path; generation = 0 }) [] now (knows x path)
+  effects-fit x (Adds name now) = (refl, tt)
+  effects-fit x (Stands name) = elim (knows x name.path) as (λ k. AllFit sees (cond k (Turned name.path name.generation (own_file x name) ∷ []) [])) [ true ↦ (tt, tt) | false ↦ tt ]
+
   done-blind : (c : OwnConnection) (d : NodeDoing) → blind_but sees (own_node_done b c d) ≡ blind_but sees (own_node_done v c d)
   done-blind c d =
       let cs : List OwnConnection = own_connections_then c d v.connections in
-      apply_all-same sees _ _ _ _
+      apply_all-same sees _ _ _ _ (effects-fit b d.file) (effects-fit v d.file)
       (ap (λ (x : AppView). blind_but sees (prune (record x { connections = cs }))) (handles-blind d.handle) ∙ connections-same sees (with_handles d.handle v) cs)
       (effects-blind d.file)
 
@@ -197,5 +237,5 @@ module _ (sees : FileName → Bool) (v : AppView) where
   pub node-blind : (c : OwnConnection) (seat : ℕ) → found_connection v.connections seat ≡ Some c → ((name : FileName) → reads v name ≡ true → sees name ≡ true) →
       (r : NodeRequest) (own : Own) → seen_pair sees (own_node_answer b c r own) ≡ seen_pair sees (own_node_answer v c r own)
   node-blind c seat found wide r own =
-      ap (λ (o : Option NodeVerdict). seen_pair sees (own_settled_on_node b c o)) (ap (λ (w : Walk NodeVerdict). own_node_given b w own) (walk-blind c seat found wide r) ∙ given-blind (own_walk v c r) own)
-      ∙ settled-blind c (own_node_given v (own_walk v c r) own)
+      ap (λ (o : Option NodeVerdict). seen_pair sees (own_settled_on_node b c o)) (ap (λ (w : Walk NodeVerdict). own_node_given b w own) (walk-blind c seat found wide own.generation r) ∙ given-blind (own_walk v c own.generation r) own)
+      ∙ settled-blind c (own_node_given v (own_walk v c own.generation r) own)

@@ -28,6 +28,7 @@ seats-behind (effect.Gained d rights content ∷ fs) more = seats-behind fs more
 seats-behind (effect.Lost id rights ∷ fs) more = seats-behind fs more
 seats-behind (effect.Gone id ∷ fs) more = seats-behind fs more
 seats-behind (effect.Bytes path generation content ∷ fs) more = seats-behind fs more
+seats-behind (effect.Turned path generation content ∷ fs) more = seats-behind fs more
 
 seats-told : (own : Own) (b : Bool) (sights told effects : List Effect) (more rest : List TraceItem) → own_seats more ≡ own_seats rest →
     own_seats (cond b (item.Own (own_blinded own) ∷ map item_of sights) (map item_of told) ++ more) ≡ own_seats (cond b (item.Own own ∷ []) (map item_of effects) ++ rest)

@@ -20,10 +20,10 @@ use Rattle.app_world.specs.Enter.{own_enter}
 use Rattle.app_world.specs.Leave.{own_leave, own_left}
 use Rattle.app_world.specs.Own.{Own}
 use Rattle.app_world.specs.Effect.{file_of as file_made}
-use Rattle.app_world.specs.View.{Alone, AppView, Below, Holding, OwnConnection, PathBelow, PathContent, found_connection}
+use Rattle.app_world.specs.View.{Alone, AppView, Below, Holding, NamedFile, OwnConnection, PathBelow, PathContent, found_connection}
 use Rattle.app_world.specs.World.{app_step, own_bus, own_collect_step, own_mount_of, own_node_step, own_request_step}
-use Rattle.connection_laws.specs.Blinded.{blind_at, blind_below, blind_but, blind_content, blind_file, blinded, file_of, hidden, hidden_file, hidden_holding, nothing, own_blinded, reads}
-use Rattle.connection_laws.specs.Unread.{with_file, with_file_below}
+use Rattle.connection_laws.specs.Blinded.{blind_at, blind_below, blind_but, blind_content, blind_file, blind_named, blinded, file_of, hidden, hidden_file, hidden_holding, hidden_named, nothing, own_blinded, reads}
+use Rattle.connection_laws.specs.Unread.{with_file, with_file_below, with_file_named}
 use Rattle.connection_laws.proofs.BlindedBuses.{ShownAlike, answer-same}
 use Rattle.connection_laws.proofs.BlindedNodes.{node-blind}
 use Rattle.connection_laws.proofs.BlindedViews.{blind-same, blind_holding, connections-same, seen_pair, view-twice}
@@ -195,8 +195,18 @@ none_below : (sees : FileName → Bool) (bs : List PathBelow) → map (blind_bel
 none_below sees [] = refl
 none_below sees (b ∷ bs) = λ i. record b { files = none_left_files sees b.files i } ∷ none_below sees bs i
 
+pub named-hidden-twice : (f : NamedFile) → hidden_named (hidden_named f) ≡ hidden_named f
+named-hidden-twice f = ap (λ (n : ℕ). record f { bytes = replicate n 0 }) (length-replicate (length f.bytes) 0)
+
+none_left_named : (sees : FileName → Bool) (fs : List NamedFile) → map (blind_named nothing) (map (blind_named sees) fs) ≡ map (blind_named nothing) fs
+none_left_named sees [] = refl
+none_left_named sees (f ∷ fs) = λ i. one_left i ∷ none_left_named sees fs i
+  where
+    one_left : hidden_named (blind_named sees f) ≡ hidden_named f
+    one_left = elim (sees f.name) as (λ x. hidden_named (cond x f (hidden_named f)) ≡ hidden_named f) [ true ↦ refl | false ↦ named-hidden-twice f ]
+
 pub all-blind : (sees : FileName → Bool) (v : AppView) → blind_but nothing (blind_but sees v) ≡ blind_but nothing v
-all-blind sees v = λ i. record v { contents = none_left_in sees v.contents i; below = none_below sees v.below i }
+all-blind sees v = λ i. record v { contents = none_left_in sees v.contents i; below = none_below sees v.below i; files = none_left_named sees v.files i }
 
 -- by a pair that is blind to more
 more-blind : (sees : FileName → Bool) (p q : AppView × Reply) → seen_pair sees p ≡ seen_pair sees q → seen_pair nothing p ≡ seen_pair nothing q
@@ -278,6 +288,7 @@ module _ (v : AppView) (name : FileName) (bytes other : List ℕ) (moment : ℕ)
   pub other-bytes : (front back : List PathContent) → blinded (with_file v front back name bytes moment) ≡ blinded (with_file v front back name other moment)
   other-bytes front back = λ i. record v {
     below = map (blind_below (reads v)) v.below;
+    files = map (blind_named (reads v)) v.files;
     contents =
         one_other (reads v) front back (record { path = name.path; content = OfFile name.generation bytes moment }) (record { path = name.path; content = OfFile name.generation other moment })
         (λ j. record { path = name.path; content = same-content j }) i;
@@ -301,4 +312,25 @@ module _ (v : AppView) (name : FileName) (bytes other : List ℕ) (moment : ℕ)
   one_folder (b ∷ bs) back folder first last = λ i. blind_below (reads v) b ∷ one_folder bs back folder first last i
 
   pub other-below : (front back : List PathBelow) (folder : List ℕ) (first last : List File) → blinded (with_file_below v front back folder first last name bytes moment) ≡ blinded (with_file_below v front back folder first last name other moment)
-  other-below front back folder first last = λ i. record v { contents = map (blind_content (reads v)) v.contents; below = one_folder front back folder first last i }
+  other-below front back folder first last = λ i. record v { contents = map (blind_content (reads v)) v.contents; below = one_folder front back folder first last i; files = map (blind_named (reads v)) v.files }
+
+  -- and in a file that is known by its name
+  abbrev known : List ℕ → NamedFile
+  known bytes = record { name = name; bytes = bytes; moment = moment }
+
+  same-known : blind_named (reads v) (known bytes) ≡ blind_named (reads v) (known other)
+  same-known =
+      ap (λ (b : Bool). cond b (known bytes) (hidden_named (known bytes))) unread
+      ∙ (ap (λ (n : ℕ). known (replicate n 0)) as_many
+      ∙ sym (ap (λ (b : Bool). cond b (known other) (hidden_named (known other))) unread))
+
+  one_known : (front back : List NamedFile) → map (blind_named (reads v)) (front ++ known bytes ∷ back) ≡ map (blind_named (reads v)) (front ++ known other ∷ back)
+  one_known [] back = λ i. same-known i ∷ map (blind_named (reads v)) back
+  one_known (f ∷ fs) back = λ i. blind_named (reads v) f ∷ one_known fs back i
+
+  pub other-named : (front back : List NamedFile) → blinded (with_file_named v front back name bytes moment) ≡ blinded (with_file_named v front back name other moment)
+  other-named front back = λ i. record v {
+    contents = map (blind_content (reads v)) v.contents;
+    below = map (blind_below (reads v)) v.below;
+    files = one_known front back i;
+  }

@@ -3,9 +3,10 @@ use Rattle.std.proofs.Common.{◌≡◌, ℕ, ◌==◌, List, [], ◌∷◌, ◌
 use Rattle.std.specs.List.{AllByRecursion, filter, flat_map, list_all}
 use Rattle.std.specs.Option.{option_map}
 use Rattle.std.proofs.lemmas.List.{length-replicate}
-use Rattle.portal_base.specs.Content.{content_of, file_at, has_room, is_folder, is_named}
+use Rattle.portal_base.specs.Content.{content_of, file_at, file_named, has_room, is_folder, is_named}
 use Rattle.portal_base.specs.FileChanges.{change_named}
 use Rattle.portal_base.specs.Names.{is_same}
+use Rattle.file_generations.specs.Generations.{Held, all_held, change_held, is_held, name_of_file}
 use Rattle.portal_base.specs.declared.files.File.{File}
 use Rattle.portal_base.specs.declared.files.FileName.{FileName}
 use Rattle.portal_model.specs.declared.entry.Entry.{Entry}
@@ -15,30 +16,36 @@ use Rattle.portal_model.specs.History.{EachLawful, makes, replies}
 use Rattle.portal_model.specs.Lawful.{Lawful}
 use Rattle.portal_model.specs.Ordered.{bytes_less, is_rising, put, put_all}
 use Rattle.portal_model.proofs.DocumentChanges.{both, first_of_both, second_of_both}
-use Rattle.portal_model.specs.State.{State, held_of}
+use Rattle.portal_model.specs.State.{State, held_in, held_of}
 use Rattle.portal_model.specs.Step.{after, reply_at}
 use Rattle.portal_model.specs.Valid.{Valid}
-use Rattle.portal_model.proofs.ListLookups.{is_same-eq, is_same-refl}
+use Rattle.portal_model.proofs.ListLookups.{found_passes, is_same-eq, is_same-refl}
+use Rattle.portal_model.proofs.RisingLists.{rising-map, rising-put}
 use Rattle.portal_model.proofs.StaysTold.{step_told}
 use Rattle.portal_model.proofs.ValidLaws.{after-Valid}
 use Rattle.app_world.specs.Effect as effect
-use Rattle.app_world.specs.Effect.{Effect, Bytes, apply, apply_all, changed_content, with_bytes, with_bytes_below, with_content_of, with_file, with_first}
+use Rattle.app_world.specs.Effect.{Effect, Bytes, apply, apply_all, changed_content, file_of as file_made, with_bytes, with_bytes_below, with_content_of, with_file, with_file_at, with_named}
 use Rattle.app_world.specs.Own.{Own}
 use Rattle.app_world.specs.TraceItem as item
 use Rattle.app_world.specs.TraceItem.{TraceItem, item_of}
-use Rattle.app_world.specs.View.{AppView, Holding, PathBelow, PathContent, ahead, below_ahead, below_at, file_ahead, files_below, folder_paths, is_at_or_below, path_below, contents_at, named_paths, own_connections, path_content, prune, view}
+use Rattle.app_world.specs.View.{AppView, Holding, NamedFile, PathBelow, PathContent, ahead, below_ahead, below_at, file_ahead, file_if, files_at, files_below, folder_paths, found_named, is_at_or_below, is_held_name, path_below, contents_at, named_ahead, named_as, named_file, named_paths, name_less, names_held, own_connections, path_content, prune, pruned, same_name, view}
 use Rattle.app_world.specs.World.{app_step, own_of, own_replies, touch}
-use Rattle.app_world.proofs.BelowLaws.{below-file, below-in-order, file_path, file_then, found-with_file, rising-with_file}
-use Rattle.app_world.proofs.Found.{told-apart}
+use Rattle.app_world.proofs.BelowLaws.{below-file, below-in-order, changed-in, file_then}
+use Rattle.app_world.proofs.FileChangeLaws.{named-seen, named-then}
+use Rattle.app_world.proofs.Found.{find-changed, find-put, told-apart}
 use Rattle.app_world.proofs.HandleChangeLaws.{prune-named}
+use Rattle.app_world.proofs.HeldFiles.{SoundTree, changed-then, found-name, name-turned, standing-named}
+use Rattle.app_world.proofs.NamedFiles.{IsNamedThen, file_names, name-eq, named-changed, named-rising, named_in}
 use Rattle.app_world.proofs.Orders.{paths}
+use Rattle.app_world.proofs.ViewLaws.{still_held}
+use Rattle.app_world.proofs.ViewedNames.{tree-sound}
 use Rattle.app_world.proofs.WorldLaws.{steps}
-use Rattle.connection_laws.specs.Blinded.{blind_at, blind_below, blind_but, blind_content, blind_file, blinded, file_of, hidden, hidden_file, hidden_holding, nothing, own_blinded, reads}
-use Rattle.connection_laws.specs.BlindedTrace.{blinded_effects, blinded_items, hidden_effect, sight_at, sight_of, sights}
+use Rattle.connection_laws.specs.Blinded.{blind_at, blind_below, blind_but, blind_content, blind_file, blind_named, blinded, file_of, hidden, hidden_file, hidden_holding, hidden_named, nothing, own_blinded, reads}
+use Rattle.connection_laws.specs.BlindedTrace.{blinded_effects, blinded_items, hidden_effect, sight_at, sight_of, sight_of_named, sights}
 use Rattle.connection_laws.specs.Unread.{BlindedStepsAreSeen, IsOwnEntry, RepliesAreOfTheBlindedTrace}
-use Rattle.connection_laws.proofs.BlindedViews.{apply-blind, apply_all-same, blind_effect, file-found, path-kept, view-twice}
+use Rattle.connection_laws.proofs.BlindedViews.{AllFit, Fit, apply-blind, apply_all-same, blind_effect, file-found, named-kept, path-kept, view-twice}
 use Rattle.connection_laws.proofs.BlindedNodes.{itself}
-use Rattle.connection_laws.proofs.BlindedSteps.{all-blind, file-hidden-twice, hidden-is, hidden-twice, holding-alike, holding-twice, pair-blinded, same-reply}
+use Rattle.connection_laws.proofs.BlindedSteps.{all-blind, file-hidden-twice, hidden-is, hidden-twice, holding-alike, holding-twice, named-hidden-twice, pair-blinded, same-reply}
 
 -- ---- one file comes into sight
 
@@ -65,6 +72,15 @@ placed-kept sees (b ∷ bs) = λ i. all_kept b.files i && placed-kept sees bs i
     all_kept : (fs : List File) → list_all (λ (f : File). is_at_or_below b.path f.path) (map (blind_file sees) fs) ≡ list_all (λ (f : File). is_at_or_below b.path f.path) fs
     all_kept [] = refl
     all_kept (f ∷ fs) = λ i. is_at_or_below b.path (path-kept sees f i) && all_kept fs i
+
+-- and the files that are known by their names are in order
+rising-kept : (sees : FileName → Bool) (fs : List NamedFile) → is_rising named_ahead (map (blind_named sees) fs) ≡ is_rising named_ahead fs
+rising-kept sees [] = refl
+rising-kept sees (f ∷ fs) = λ i. all_kept fs i && rising-kept sees fs i
+  where
+    all_kept : (gs : List NamedFile) → list_all (named_ahead (blind_named sees f)) (map (blind_named sees) gs) ≡ list_all (named_ahead f) gs
+    all_kept [] = refl
+    all_kept (g ∷ gs) = λ i. name_less (named-kept sees f i) (named-kept sees g i) && all_kept gs i
 
 module _ (sees : FileName → Bool) (path : List ℕ) (generation : ℕ) (bytes : List ℕ) (moment : ℕ) where
   abbrev fresh : Content
@@ -117,8 +133,8 @@ module _ (sees : FileName → Bool) (path : List ℕ) (generation : ℕ) (bytes 
   abbrev told_name : FileName
   told_name = record { path = path; generation = generation }
 
-  named-kept : (t : FileName → Bool) (x : File) → is_named told_name (blind_file t x) ≡ is_named told_name x
-  named-kept t x = elim (t (file_of x.path x.generation)) as (λ b. is_named told_name (cond b x (hidden_file x)) ≡ is_named told_name x) [ true ↦ refl | false ↦ refl ]
+  is-kept : (t : FileName → Bool) (x : File) → is_named told_name (blind_file t x) ≡ is_named told_name x
+  is-kept t x = elim (t (file_of x.path x.generation)) as (λ b. is_named told_name (cond b x (hidden_file x)) ≡ is_named told_name x) [ true ↦ refl | false ↦ refl ]
 
   -- any other file is in sight as before
   same-elsewhere : (x : File) → is_named told_name x ≡ false → blind_file wide x ≡ blind_file sees x
@@ -131,9 +147,9 @@ module _ (sees : FileName → Bool) (path : List ℕ) (generation : ℕ) (bytes 
 
   one-file : (x : File) → renewed wide x ≡ renewed sees x
   one-file x =
-      ap (λ (b : Bool). cond b (with_content_of fresh (blind_file wide x)) (blind_file wide x)) (named-kept wide x)
+      ap (λ (b : Bool). cond b (with_content_of fresh (blind_file wide x)) (blind_file wide x)) (is-kept wide x)
       ∙ (by_name (is_named told_name x) refl
-      ∙ sym (ap (λ (b : Bool). cond b (with_content_of fresh (blind_file sees x)) (blind_file sees x)) (named-kept sees x)))
+      ∙ sym (ap (λ (b : Bool). cond b (with_content_of fresh (blind_file sees x)) (blind_file sees x)) (is-kept sees x)))
     where
       by_name : (b : Bool) → is_named told_name x ≡ b → cond b (with_content_of fresh (blind_file wide x)) (blind_file wide x) ≡ cond b (with_content_of fresh (blind_file sees x)) (blind_file sees x)
       by_name true e = λ i. record { path = (path-kept wide x ∙ sym (path-kept sees x)) i; generation = generation; bytes = bytes; moment = moment }
@@ -160,7 +176,7 @@ module _ (sees : FileName → Bool) (path : List ℕ) (generation : ℕ) (bytes 
       by_file (Some f) = refl
 
   abbrev then_files : Bool → List File → List File
-  then_files b fs = cond b (change_named told_name (with_content_of fresh) fs) (cond (generation == 0) (with_first path fresh fs) fs)
+  then_files b fs = cond b (change_named told_name (with_content_of fresh) fs) (cond (generation == 0) (with_file_at path fresh fs) fs)
 
   files-same : (fs : List File) → with_file path generation fresh (map (blind_file wide) fs) ≡ with_file path generation fresh (map (blind_file sees) fs)
   files-same fs =
@@ -170,7 +186,7 @@ module _ (sees : FileName → Bool) (path : List ℕ) (generation : ℕ) (bytes 
     where
       by_there : (o : Option File) → file_at fs path ≡ o → then_files (is_some o) (map (blind_file wide) fs) ≡ then_files (is_some o) (map (blind_file sees) fs)
       by_there (Some f) e = renewed-same fs
-      by_there None e = λ i. cond (generation == 0) (with_first path fresh (none-here fs e i)) (none-here fs e i)
+      by_there None e = λ i. cond (generation == 0) (with_file_at path fresh (none-here fs e i)) (none-here fs e i)
 
   others-same : (folder : List ℕ) (fs : List File) → list_all (λ (f : File). is_at_or_below folder f.path) fs ≡ true → is_at_or_below folder path ≡ false → map (blind_file wide) fs ≡ map (blind_file sees) fs
   others-same folder [] h e = refl
@@ -196,23 +212,51 @@ module _ (sees : FileName → Bool) (path : List ℕ) (generation : ℕ) (bytes 
   blocks-same [] h = refl
   blocks-same (b ∷ bs) h = λ i. block-same b (first_of_both (is_placed b) (list_all is_placed bs) h) i ∷ blocks-same bs (second_of_both (is_placed b) (list_all is_placed bs) h) i
 
+  -- ---- by their names
+
+  abbrev known_now : NamedFile
+  known_now = record { name = told_name; bytes = bytes; moment = moment }
+
+  still-named : (n : FileName) (o : Option NamedFile) → ((f : NamedFile) → o ≡ Some f → named_as f ≡ n) → same_name told_name n ≡ false → option_map (blind_named wide) o ≡ option_map (blind_named sees) o
+  still-named n None h e = refl
+  still-named n (Some f) h e =
+      let other : same_name f.name told_name ≡ false = ap (λ (m : FileName). same_name m told_name) (h f refl) ∙ (name-turned n told_name ∙ e) in
+      ap Some
+      (ap (λ (b : Bool). cond (sees f.name || b) f (hidden_named f)) other
+      ∙ ap (λ (b : Bool). cond b f (hidden_named f)) (or-false (sees f.name)))
+
+  named-same : (fs : List NamedFile) → is_rising named_ahead fs ≡ true → with_named told_name fresh (map (blind_named wide) fs) ≡ with_named told_name fresh (map (blind_named sees) fs)
+  named-same fs h =
+      told-apart _ _ named_as file_names (with_named told_name fresh (map (blind_named wide) fs)) (with_named told_name fresh (map (blind_named sees) fs))
+      (rising-put _ _ named_as file_names known_now (map (blind_named wide) fs) (rising-kept wide fs ∙ h)) (rising-put _ _ named_as file_names known_now (map (blind_named sees) fs) (rising-kept sees fs ∙ h)) (λ n.
+      find-put _ _ named_as file_names n known_now (map (blind_named wide) fs)
+      ∙ (by_name n (same_name told_name n) refl ∙ sym (find-put _ _ named_as file_names n known_now (map (blind_named sees) fs))))
+    where
+      by_name : (n : FileName) (b : Bool) → same_name told_name n ≡ b → cond b (Some known_now) (found_named (map (blind_named wide) fs) n) ≡ cond b (Some known_now) (found_named (map (blind_named sees) fs) n)
+      by_name n true e = refl
+      by_name n false e =
+          find-changed _ _ named_as file_names (blind_named wide) (named-kept wide) n fs
+          ∙ (still-named n (found_named fs n) (λ f k. name-eq (named_as f) n (found_passes (λ (x : NamedFile). same_name (named_as x) n) fs f k)) e
+          ∙ sym (find-changed _ _ named_as file_names (blind_named sees) (named-kept sees) n fs))
+
   in_sight : wide (file_of path generation) ≡ true
   in_sight = ap (λ (b : Bool). sees (file_of path generation) || (b && generation == generation)) (is_same-refl path) ∙ (ap (λ (b : Bool). sees (file_of path generation) || b) (itself generation) ∙ or-true _)
 
   effect-is : blind_effect wide f ≡ f
   effect-is = ap (λ (b : Bool). Bytes path generation (cond b fresh (OfFile generation (replicate (length bytes) 0) moment))) in_sight
 
-  come-is : (x : AppView) → list_all is_placed x.below ≡ true → blind_but wide (apply x f) ≡ apply (blind_but sees x) f
-  come-is x h =
-      sym (apply-blind wide x f)
+  come-is : (x : AppView) → list_all is_placed x.below ≡ true → is_rising named_ahead x.files ≡ true → blind_but wide (apply x f) ≡ apply (blind_but sees x) f
+  come-is x h k =
+      sym (apply-blind wide x f refl)
       ∙ (ap (apply (blind_but wide x)) effect-is
-      ∙ (λ i. prune (record x { contents = all-same x.contents i; below = blocks-same x.below h i })))
+      ∙ (λ i. prune (record x { contents = all-same x.contents i; below = blocks-same x.below h i; files = named-same x.files k i })))
 
   -- of a view in which it has these bytes, an equal one
-  comes : (v w : AppView) → list_all is_placed v.below ≡ true → apply v f ≡ v → blind_but sees w ≡ blind_but sees v → blind_but wide (apply w f) ≡ blind_but wide v
-  comes v w p stable h =
+  comes : (v w : AppView) → list_all is_placed v.below ≡ true → is_rising named_ahead v.files ≡ true → apply v f ≡ v → blind_but sees w ≡ blind_but sees v → blind_but wide (apply w f) ≡ blind_but wide v
+  comes v w p r stable h =
       let same : list_all is_placed w.below ≡ true = sym (placed-kept sees w.below) ∙ (ap (λ (x : AppView). list_all is_placed x.below) h ∙ (placed-kept sees v.below ∙ p)) in
-      come-is w same ∙ (ap (λ (x : AppView). apply x f) h ∙ (sym (come-is v p) ∙ ap (blind_but wide) stable))
+      let rising : is_rising named_ahead w.files ≡ true = sym (rising-kept sees w.files) ∙ (ap (λ (x : AppView). is_rising named_ahead x.files) h ∙ (rising-kept sees v.files ∙ r)) in
+      come-is w same rising ∙ (ap (λ (x : AppView). apply x f) h ∙ (sym (come-is v p r) ∙ ap (blind_but wide) stable))
 
 apply_all-append : (fs ks : List Effect) (w : AppView) → apply_all w (fs ++ ks) ≡ apply_all (apply_all w fs) ks
 apply_all-append [] ks w = refl
@@ -237,29 +281,14 @@ contents-at : (files : List File) (ps : List (List ℕ)) → AreAt files (conten
 contents-at files [] = tt
 contents-at files (p ∷ ps) = put-at files (path_content files p) (contents_at files ps) refl (contents-at files ps)
 
-stays-one : (path : List ℕ) (generation : ℕ) (bytes : List ℕ) (moment : ℕ) (files : List File) (c : PathContent) → OfFile generation bytes moment ≡ content_at files path → c.content ≡ content_at files c.path →
-    with_bytes path generation (OfFile generation bytes moment) c ≡ c
-stays-one path generation bytes moment files c e h = by_path (is_same c.path path) refl
-  where
-    again : changed_content generation (OfFile generation bytes moment) (OfFile generation bytes moment) ≡ OfFile generation bytes moment
-    again = rw (itself generation) refl
-
-    by_path : (x : Bool) → is_same c.path path ≡ x → cond x (record c { content = changed_content generation (OfFile generation bytes moment) c.content }) c ≡ c
-    by_path true k =
-        let is : c.content ≡ OfFile generation bytes moment = h ∙ (ap (content_at files) (is_same-eq c.path path k) ∙ sym e) in
-        λ i. record c { content = (ap (changed_content generation (OfFile generation bytes moment)) is ∙ (again ∙ sym is)) i }
-    by_path false k = refl
-
-stays-all : (path : List ℕ) (generation : ℕ) (bytes : List ℕ) (moment : ℕ) (files : List File) (cs : List PathContent) → OfFile generation bytes moment ≡ content_at files path → AreAt files cs →
-    map (with_bytes path generation (OfFile generation bytes moment)) cs ≡ cs
-stays-all path generation bytes moment files [] e h = refl
-stays-all path generation bytes moment files (c ∷ cs) e h = λ i. stays-one path generation bytes moment files c e h.0 i ∷ stays-all path generation bytes moment files cs e h.1 i
-
 -- ---- and below its folders
 
 -- what is there of a file
 abbrev known_file : File → PathContent
 known_file f = record { path = f.path; content = OfFile f.generation f.bytes f.moment }
+
+abbrev known_named : NamedFile → PathContent
+known_named f = record { path = f.name.path; content = OfFile f.name.generation f.bytes f.moment }
 
 abbrev known_in : List PathBelow → List PathContent
 known_in bs = flat_map (λ (b : PathBelow). map known_file b.files) bs
@@ -304,22 +333,22 @@ below-placed files ps = all-put_all below_ahead is_placed (map (path_below files
 abbrev IsThere : List File → PathBelow → Type 0
 IsThere files b = b.files ≡ files_below files b.path
 
-module _ (P : PathBelow → Type 0) where
-  each-put : (x : PathBelow) (xs : List PathBelow) → P x → AllByRecursion P xs → AllByRecursion P (put below_ahead x xs)
+module _ {X : Type 0} (before : X → X → Bool) (P : X → Type 0) where
+  each-put : (x : X) (xs : List X) → P x → AllByRecursion P xs → AllByRecursion P (put before x xs)
   each-put x [] h k = (h, tt)
-  each-put x (y ∷ ys) h k = by_order (below_ahead x y) (below_ahead y x) (each-put x ys h k.1)
+  each-put x (y ∷ ys) h k = by_order (before x y) (before y x) (each-put x ys h k.1)
     where
-      by_order : (a b : Bool) → AllByRecursion P (put below_ahead x ys) → AllByRecursion P (cond a (x ∷ y ∷ ys) (cond b (y ∷ put below_ahead x ys) (x ∷ ys)))
+      by_order : (a b : Bool) → AllByRecursion P (put before x ys) → AllByRecursion P (cond a (x ∷ y ∷ ys) (cond b (y ∷ put before x ys) (x ∷ ys)))
       by_order true b e = (h, k)
       by_order false true e = (k.0, e)
       by_order false false e = (h, k.1)
 
-  each-put_all : (xs : List PathBelow) → AllByRecursion P xs → AllByRecursion P (put_all below_ahead xs)
+  each-put_all : (xs : List X) → AllByRecursion P xs → AllByRecursion P (put_all before xs)
   each-put_all [] h = tt
-  each-put_all (x ∷ xs) h = each-put x (put_all below_ahead xs) h.0 (each-put_all xs h.1)
+  each-put_all (x ∷ xs) h = each-put x (put_all before xs) h.0 (each-put_all xs h.1)
 
 all-there : (files : List File) (ps : List (List ℕ)) → AllByRecursion (IsThere files) (below_at files ps)
-all-there files ps = each-put_all (IsThere files) (map (path_below files) ps) (each ps)
+all-there files ps = each-put_all below_ahead (IsThere files) (map (path_below files) ps) (each ps)
   where
     each : (qs : List (List ℕ)) → AllByRecursion (IsThere files) (map (path_below files) qs)
     each [] = tt
@@ -369,63 +398,162 @@ known-at files (b ∷ bs) h =
     (subst (λ (fs : List File). AreAt files (map known_file fs)) (sym h.0) (files-there files b.path (files_below files b.path) (found-each (files_below files b.path) (below-in-order files b.path))))
     (known-at files bs h.1)
 
--- a file that is told as it is stays
-file-is : (files : List File) (path : List ℕ) (generation : ℕ) (bytes : List ℕ) (moment : ℕ) → OfFile generation bytes moment ≡ content_at files path → (o : Option File) → file_at files path ≡ o →
-    file_then path generation (OfFile generation bytes moment) o ≡ o
-file-is files path generation bytes moment e None k = by_folder (is_folder files path) (e ∙ ap (λ (o : Option File). content_of o (is_folder files path) (has_room files path)) k)
-  where
-    by_folder : (b : Bool) → OfFile generation bytes moment ≡ content_of None b (has_room files path) → file_then path generation (OfFile generation bytes moment) None ≡ None
-    by_folder true h = cc
-    by_folder false h = cc
-file-is files path generation bytes moment e (Some f) k =
-    let same : OfFile generation bytes moment ≡ OfFile f.generation f.bytes f.moment = e ∙ ap (λ (o : Option File). content_of o (is_folder files path) (has_room files path)) k in
-    by_number (f.generation == generation) same
-  where
-    by_number : (b : Bool) → OfFile generation bytes moment ≡ OfFile f.generation f.bytes f.moment → Some (cond b (with_content_of (OfFile generation bytes moment) f) f) ≡ Some f
-    by_number true h = ap (λ (c : Content). Some (with_content_of c f)) h
-    by_number false h = refl
+-- ---- and by their names
 
-stays-below : (path : List ℕ) (generation : ℕ) (bytes : List ℕ) (moment : ℕ) (files : List File) (folder : List ℕ) → OfFile generation bytes moment ≡ content_at files path → is_at_or_below folder path ≡ true →
-    with_file path generation (OfFile generation bytes moment) (files_below files folder) ≡ files_below files folder
-stays-below path generation bytes moment files folder e h =
-    told-apart _ _ file_path paths (with_file path generation (OfFile generation bytes moment) (files_below files folder)) (files_below files folder)
-    (rising-with_file path generation (OfFile generation bytes moment) (files_below files folder) (below-in-order files folder)) (below-in-order files folder) (λ p.
-    found-with_file path generation (OfFile generation bytes moment) (files_below files folder) p ∙ by_path p (is_same p path) refl)
+-- the tree has the file of this path that the content is of, present or not
+abbrev HasIt : Held → List ℕ → Content → Type 0
+HasIt tree path (OfFile generation bytes moment) = file_named (all_held tree) (file_of path generation) ≡ Some (file_made path generation bytes moment)
+HasIt tree path OfFolder = Unit {0}
+HasIt tree path (NotThere room) = Unit {0}
+
+abbrev HasAll : Held → List PathContent → Type 0
+HasAll tree [] = Unit {0}
+HasAll tree (c ∷ cs) = HasIt tree c.path c.content × HasAll tree cs
+
+has-append : (tree : Held) (cs ds : List PathContent) → HasAll tree cs → HasAll tree ds → HasAll tree (cs ++ ds)
+has-append tree [] ds h k = k
+has-append tree (c ∷ cs) ds h k = (h.0, has-append tree cs ds h.1 k)
+
+file-itself : (path : List ℕ) (f : File) → f.path ≡ path → f ≡ file_made path f.generation f.bytes f.moment
+file-itself path f e = λ i. record f { path = e i }
+
+module _ (tree : Held) (sound : SoundTree tree) where
+  has-at : (path : List ℕ) (o : Option File) (folder room : Bool) → file_at tree.present path ≡ o → HasIt tree path (content_of o folder room)
+  has-at path None true room e = tt
+  has-at path None false room e = tt
+  has-at path (Some f) folder room e =
+      standing-named tree sound (file_of path f.generation) f e (itself f.generation)
+      ∙ ap Some (file-itself path f (is_same-eq f.path path (found_passes (λ (x : File). is_same x.path path) tree.present f e)))
+
+  has-each : (cs : List PathContent) → AreAt tree.present cs → HasAll tree cs
+  has-each [] h = tt
+  has-each (c ∷ cs) h = (
+    subst (HasIt tree c.path) (sym h.0) (has-at c.path (file_at tree.present c.path) (is_folder tree.present c.path) (has_room tree.present c.path) refl),
+    has-each cs h.1,
+  )
+
+-- what is known by names
+abbrev HasNamed : Held → NamedFile → Type 0
+HasNamed tree f = HasIt tree f.name.path (OfFile f.name.generation f.bytes f.moment)
+
+module _ (tree : Held) where
+  named-append : (xs ys : List NamedFile) → AllByRecursion (HasNamed tree) xs → AllByRecursion (HasNamed tree) ys → AllByRecursion (HasNamed tree) (xs ++ ys)
+  named-append [] ys h k = k
+  named-append (x ∷ xs) ys h k = (h.0, named-append xs ys h.1 k)
+
+  one-named : (n : FileName) (o : Option File) → file_named (all_held tree) n ≡ o → AllByRecursion (HasNamed tree) (file_if n o)
+  one-named n None e = tt
+  one-named n (Some f) e =
+      let named : name_of_file f ≡ n = found-name (all_held tree) n f e in
+      (e ∙ ap Some (λ i. record f { path = (named i).path; generation = (named i).generation }), tt)
+
+  each-named : (ns : List FileName) → AllByRecursion (HasNamed tree) (flat_map (named_file (all_held tree)) ns)
+  each-named [] = tt
+  each-named (n ∷ ns) = named-append (named_file (all_held tree) n) (flat_map (named_file (all_held tree)) ns) (one-named n (file_named (all_held tree) n) refl) (each-named ns)
+
+  all-named : (ns : List FileName) → AllByRecursion (HasNamed tree) (files_at (all_held tree) ns)
+  all-named ns = each-put_all named_ahead (HasNamed tree) (flat_map (named_file (all_held tree)) ns) (each-named ns)
+
+  known-named : (fs : List NamedFile) → AllByRecursion (HasNamed tree) fs → HasAll tree (map known_named fs)
+  known-named [] h = tt
+  known-named (f ∷ fs) h = (h.0, known-named fs h.1)
+
+-- ---- a file that is told as it is stays
+
+unchanged : (name : FileName) (fs : List File) → change_named name (λ f. f) fs ≡ fs
+unchanged name [] = refl
+unchanged name (f ∷ fs) = λ i. either (is_named name f) i ∷ unchanged name fs i
   where
-    here : file_at (files_below files folder) path ≡ file_at files path
-    here = below-file files folder path ∙ ap (λ (b : Bool). cond b (file_at files path) None) h
+    either : (b : Bool) → cond b f f ≡ f
+    either true = refl
+    either false = refl
 
-    by_path : (p : List ℕ) (b : Bool) → is_same p path ≡ b → cond b (file_then path generation (OfFile generation bytes moment) (file_at (files_below files folder) path)) (file_at (files_below files folder) p) ≡ file_at (files_below files folder) p
-    by_path p true k =
-        ap (file_then path generation (OfFile generation bytes moment)) here
-        ∙ (file-is files path generation bytes moment e (file_at files path) refl
-        ∙ (sym here ∙ ap (file_at (files_below files folder)) (sym (is_same-eq p path k))))
-    by_path p false k = refl
+module _ (tree : Held) (sound : SoundTree tree) (path : List ℕ) (generation : ℕ) (bytes : List ℕ) (moment : ℕ) (here : HasIt tree path (OfFile generation bytes moment)) where
+  abbrev it : FileName
+  it = file_of path generation
 
-stays-blocks : (path : List ℕ) (generation : ℕ) (bytes : List ℕ) (moment : ℕ) (files : List File) (bs : List PathBelow) → OfFile generation bytes moment ≡ content_at files path → AllByRecursion (IsThere files) bs →
-    map (with_bytes_below path generation (OfFile generation bytes moment)) bs ≡ bs
-stays-blocks path generation bytes moment files [] e h = refl
-stays-blocks path generation bytes moment files (b ∷ bs) e h = λ i. by_place (is_at_or_below b.path path) refl i ∷ stays-blocks path generation bytes moment files bs e h.1 i
-  where
-    by_place : (x : Bool) → is_at_or_below b.path path ≡ x → cond x (record b { files = with_file path generation (OfFile generation bytes moment) b.files }) b ≡ b
-    by_place true k = λ i. record b { files = (ap (with_file path generation (OfFile generation bytes moment)) h.0 ∙ (stays-below path generation bytes moment files b.path e k ∙ sym h.0)) i }
-    by_place false k = refl
+  abbrev as_it_is : Content
+  as_it_is = OfFile generation bytes moment
 
-module _ (app : List ℕ) (s : State) where
+  there : is_held tree it ≡ true
+  there = ap is_some here
+
+  just-it : (f : File) → file_named (all_held tree) it ≡ Some f → as_it_is ≡ OfFile f.generation f.bytes f.moment
+  just-it f e =
+      let same : Some (file_made path generation bytes moment) ≡ Some f = sym here ∙ e in
+      let is : file_made path generation bytes moment ≡ f = cc in
+      λ i. OfFile (is i).generation (is i).bytes (is i).moment
+
+  seen-so : (p : List ℕ) → cond (is_same p path) (changed_content generation as_it_is (content_at tree.present p)) (content_at tree.present p) ≡ content_at tree.present p
+  seen-so p =
+      named-seen tree sound it there (λ f. f) (λ f. refl) (λ f. refl) as_it_is just-it (λ q. Unit {0}) p tt
+      ∙ ap (λ (fs : List File). content_at fs p) (unchanged it tree.present)
+
+  then-so : (p : List ℕ) → file_at tree.present p ≡ cond (is_same p path) (file_then path generation as_it_is (file_at tree.present path)) (file_at tree.present p)
+  then-so p =
+      ap (λ (fs : List File). file_at fs p) (sym (unchanged it tree.present))
+      ∙ named-then tree sound it there (λ f. f) (λ f. refl) (λ f. refl) as_it_is just-it (λ f. refl) p
+
+  named-so : IsNamedThen (all_held tree) (all_held tree) it generation bytes moment
+  named-so n =
+      ap (λ (h : Held). named_in (all_held h) n) (λ i. record { present = sym (unchanged it tree.present) i; hidden = sym (unchanged it tree.hidden) i })
+      ∙ changed-then it (λ f. f) (λ f. refl) (λ f. refl) tree (file_made path generation bytes moment) here n
+
+  one-stays : (c : PathContent) → c.content ≡ content_at tree.present c.path → with_bytes path generation as_it_is c ≡ c
+  one-stays c h = apart (is_same c.path path) ∙ (λ i. record c { content = same i })
+    where
+      apart : (x : Bool) → cond x (record c { content = changed_content generation as_it_is c.content }) c ≡ record c { content = cond x (changed_content generation as_it_is c.content) c.content }
+      apart true = refl
+      apart false = refl
+
+      same : cond (is_same c.path path) (changed_content generation as_it_is c.content) c.content ≡ c.content
+      same = ap (λ (d : Content). cond (is_same c.path path) (changed_content generation as_it_is d) d) h ∙ (seen-so c.path ∙ sym h)
+
+  all-stay : (cs : List PathContent) → AreAt tree.present cs → map (with_bytes path generation as_it_is) cs ≡ cs
+  all-stay [] h = refl
+  all-stay (c ∷ cs) h = λ i. one-stays c h.0 i ∷ all-stay cs h.1 i
+
+  blocks-stay : (bs : List PathBelow) → AllByRecursion (IsThere tree.present) bs → map (with_bytes_below path generation as_it_is) bs ≡ bs
+  blocks-stay [] h = refl
+  blocks-stay (b ∷ bs) h = λ i. by_place (is_at_or_below b.path path) refl i ∷ blocks-stay bs h.1 i
+    where
+      by_place : (x : Bool) → is_at_or_below b.path path ≡ x → cond x (record b { files = with_file path generation as_it_is b.files }) b ≡ b
+      by_place true k = λ i. record b { files = (ap (with_file path generation as_it_is) h.0 ∙ (sym (changed-in path generation as_it_is tree.present tree.present then-so b.path k) ∙ sym h.0)) i }
+      by_place false k = refl
+
+module _ (app : List ℕ) (s : State) (valid : Valid s) where
   abbrev v : AppView
   v = view s app
 
+  abbrev tree : Held
+  tree = held_in s
+
+  sound : SoundTree tree
+  sound = tree-sound app s valid
+
   -- all of which it tells
   abbrev all_known : List PathContent
-  all_known = v.contents ++ known_in v.below
+  all_known = v.contents ++ (known_in v.below ++ map known_named v.files)
 
-  known-are : AreAt s.files all_known
-  known-are = at-append s.files v.contents (known_in v.below) (contents-at s.files (named_paths v.documents v.connections)) (known-at s.files v.below (all-there s.files (folder_paths v.documents)))
+  known-are : HasAll tree all_known
+  known-are =
+      has-append tree v.contents (known_in v.below ++ map known_named v.files) (has-each tree sound v.contents (contents-at s.files (named_paths v.documents v.connections)))
+      (has-append tree (known_in v.below) (map known_named v.files) (has-each tree sound (known_in v.below) (known-at s.files v.below (all-there s.files (folder_paths v.documents))))
+      (known-named tree v.files (all-named tree (names_held v.connections))))
 
-  stable : (path : List ℕ) (generation : ℕ) (bytes : List ℕ) (moment : ℕ) → OfFile generation bytes moment ≡ content_at s.files path → apply v (Bytes path generation (OfFile generation bytes moment)) ≡ v
+  stable : (path : List ℕ) (generation : ℕ) (bytes : List ℕ) (moment : ℕ) → HasIt tree path (OfFile generation bytes moment) → apply v (Bytes path generation (OfFile generation bytes moment)) ≡ v
   stable path generation bytes moment e =
-      (λ i. prune (record v { contents = stays-all path generation bytes moment s.files v.contents e (contents-at s.files (named_paths v.documents v.connections)) i; below = stays-blocks path generation bytes moment s.files v.below e (all-there s.files (folder_paths v.documents)) i }))
-      ∙ prune-named s.limits s.files (held_of s.rights app) s.documents (own_connections app s.handles s.connections) (own_connections app s.handles s.connections) (λ path h. h)
+      (λ i. prune (record v {
+        contents = all-stay tree sound path generation bytes moment e v.contents (contents-at s.files (named_paths v.documents v.connections)) i;
+        below = blocks-stay tree sound path generation bytes moment e v.below (all-there s.files (folder_paths v.documents)) i;
+        files = with_named (file_of path generation) (OfFile generation bytes moment) v.files;
+      }))
+      ∙ (ap (λ (files : List NamedFile). record (prune v) { files = files })
+      (named-changed (all_held tree) (all_held tree) (file_of path generation) generation bytes moment (names_held v.connections) (named-so tree sound path generation bytes moment e))
+      ∙ (λ i. record (prune-still i) { files = v.files }))
+    where
+      prune-still : prune v ≡ v
+      prune-still = prune-named s.limits tree (held_of s.rights app) s.documents (own_connections app s.handles s.connections) (own_connections app s.handles s.connections) [] refl (λ path h. h) (λ n h. h)
 
   -- ---- all that is in sight
 
@@ -449,16 +577,16 @@ module _ (app : List ℕ) (s : State) where
   seen_all [] sees = sees
   seen_all (c ∷ cs) sees = seen_all cs (seen_at c.path c.content sees)
 
-  one_told : (path : List ℕ) (c : Content) (sees : FileName → Bool) (w : AppView) → c ≡ content_at s.files path → blind_but sees w ≡ blind_but sees v → blind_but (seen_at path c sees) (told_at path c w) ≡ blind_but (seen_at path c sees) v
+  one_told : (path : List ℕ) (c : Content) (sees : FileName → Bool) (w : AppView) → HasIt tree path c → blind_but sees w ≡ blind_but sees v → blind_but (seen_at path c sees) (told_at path c w) ≡ blind_but (seen_at path c sees) v
   one_told path OfFolder sees w e h = h
   one_told path (NotThere room) sees w e h = h
   one_told path (OfFile generation bytes moment) sees w e h = by_sight (reads v (file_of path generation))
     where
       by_sight : (x : Bool) → blind_but (cond x (seeing sees path generation) sees) (cond x (apply w (Bytes path generation (OfFile generation bytes moment))) w) ≡ blind_but (cond x (seeing sees path generation) sees) v
-      by_sight true = comes sees path generation bytes moment v w (below-placed s.files (folder_paths v.documents)) (stable path generation bytes moment e) h
+      by_sight true = comes sees path generation bytes moment v w (below-placed s.files (folder_paths v.documents)) (named-rising (all_held tree) (names_held v.connections)) (stable path generation bytes moment e) h
       by_sight false = h
 
-  each_told : (cs : List PathContent) (sees : FileName → Bool) (w : AppView) → AreAt s.files cs → blind_but sees w ≡ blind_but sees v → blind_but (seen_all cs sees) (told_all cs w) ≡ blind_but (seen_all cs sees) v
+  each_told : (cs : List PathContent) (sees : FileName → Bool) (w : AppView) → HasAll tree cs → blind_but sees w ≡ blind_but sees v → blind_but (seen_all cs sees) (told_all cs w) ≡ blind_but (seen_all cs sees) v
   each_told [] sees w a h = h
   each_told (c ∷ cs) sees w a h = each_told cs (seen_at c.path c.content sees) (told_at c.path c.content w) a.1 (one_told c.path c.content sees w a.0 h)
 
@@ -594,14 +722,43 @@ module _ (app : List ℕ) (s : State) where
     less_blocks [] h = refl
     less_blocks (b ∷ bs) h = λ i. record b { files = less_files b.files h.0 i } ∷ less_blocks bs h.1 i
 
+    -- and of files that are known by their names
+    abbrev NamedCovered : List NamedFile → Type 0
+    NamedCovered fs = AllByRecursion (λ (f : NamedFile). reads v f.name ≡ true → sees f.name ≡ true) fs
+
+    named_covered : (fs : List NamedFile) → CoversAll sees (map known_named fs) → NamedCovered fs
+    named_covered [] h = tt
+    named_covered (f ∷ fs) h = (h.0, named_covered fs h.1)
+
+    named_blind : (fs : List NamedFile) → NamedCovered fs → NamedCovered (map (blind_named sees) fs)
+    named_blind [] h = tt
+    named_blind (f ∷ fs) h = (subst (λ (n : FileName). reads v n ≡ true → sees n ≡ true) (sym (named-kept sees f)) h.0, named_blind fs h.1)
+
+    less_known : (f : NamedFile) → (reads v f.name ≡ true → sees f.name ≡ true) → blind_named (reads v) (blind_named sees f) ≡ blind_named (reads v) f
+    less_known f h = by_sight (reads v f.name) (sees f.name) refl refl
+      where
+        by_sight : (x y : Bool) → reads v f.name ≡ x → sees f.name ≡ y → blind_named (reads v) (cond y f (hidden_named f)) ≡ blind_named (reads v) f
+        by_sight x true e k = refl
+        by_sight true false e k = let no : true ≡ false = sym (h e) ∙ k in cc
+        by_sight false false e k =
+            ap (λ (b : Bool). cond b (hidden_named f) (hidden_named (hidden_named f))) e
+            ∙ (named-hidden-twice f ∙ sym (ap (λ (b : Bool). cond b f (hidden_named f)) e))
+
+    less_named : (fs : List NamedFile) → NamedCovered (map (blind_named sees) fs) → map (blind_named (reads v)) (map (blind_named sees) fs) ≡ map (blind_named (reads v)) fs
+    less_named [] h = refl
+    less_named (f ∷ fs) h = λ i. less_known f (subst (λ (n : FileName). reads v n ≡ true → sees n ≡ true) (named-kept sees f) h.0) i ∷ less_named fs h.1 i
+
     narrowed : (w : AppView) → blind_but sees w ≡ blind_but sees v → CoversAll sees all_known → blind_but (reads v) w ≡ blind_but (reads v) v
     narrowed w h a =
-        let there : CoversAll sees (map (blind_content sees) v.contents) = blind_all_covered v.contents (covers-front v.contents (known_in v.below) a) in
+        let there : CoversAll sees (map (blind_content sees) v.contents) = blind_all_covered v.contents (covers-front v.contents (known_in v.below ++ map known_named v.files) a) in
         let here : CoversAll sees (map (blind_content sees) w.contents) = subst (λ (x : AppView). CoversAll sees x.contents) (sym h) there in
-        let there_below : BlocksCovered (map (blind_below sees) v.below) = blocks_blind v.below (blocks_covered v.below (covers-back v.contents (known_in v.below) a)) in
+        let there_below : BlocksCovered (map (blind_below sees) v.below) = blocks_blind v.below (blocks_covered v.below (covers-front (known_in v.below) (map known_named v.files) (covers-back v.contents (known_in v.below ++ map known_named v.files) a))) in
         let here_below : BlocksCovered (map (blind_below sees) w.below) = subst (λ (x : AppView). BlocksCovered x.below) (sym h) there_below in
-        (λ i. record w { contents = sym (less_all w.contents here) i; below = sym (less_blocks w.below here_below) i })
-        ∙ (ap (blind_but (reads v)) h ∙ (λ i. record v { contents = less_all v.contents there i; below = less_blocks v.below there_below i }))
+        let there_named : NamedCovered (map (blind_named sees) v.files) =
+        named_blind v.files (named_covered v.files (covers-back (known_in v.below) (map known_named v.files) (covers-back v.contents (known_in v.below ++ map known_named v.files) a))) in
+        let here_named : NamedCovered (map (blind_named sees) w.files) = subst (λ (x : AppView). NamedCovered x.files) (sym h) there_named in
+        (λ i. record w { contents = sym (less_all w.contents here) i; below = sym (less_blocks w.below here_below) i; files = sym (less_named w.files here_named) i })
+        ∙ (ap (blind_but (reads v)) h ∙ (λ i. record v { contents = less_all v.contents there i; below = less_blocks v.below there_below i; files = less_named v.files there_named i }))
 
   -- the view after all that is told
   told-blinded : (w : AppView) → blind_but nothing w ≡ blind_but nothing v → blinded (told_all all_known w) ≡ blinded v
@@ -641,8 +798,15 @@ module _ (app : List ℕ) (s : State) where
   below-sights [] = refl
   below-sights (b ∷ bs) = (λ i. file-sights b.files i ++ below-sights bs i) ∙ sym (join-sights (map known_file b.files) (known_in bs))
 
+  named-sights : (fs : List NamedFile) → flat_map (sight_of_named (reads v)) fs ≡ flat_map sight_in (map known_named fs)
+  named-sights [] = refl
+  named-sights (f ∷ fs) = ap (λ (more : List Effect). sight_of_named (reads v) f ++ more) (named-sights fs)
+
   sights-known : sights v ≡ flat_map sight_in all_known
-  sights-known = ap (λ (more : List Effect). flat_map sight_in v.contents ++ more) (below-sights v.below) ∙ sym (join-sights v.contents (known_in v.below))
+  sights-known =
+      (λ i. flat_map sight_in v.contents ++ (below-sights v.below i ++ named-sights v.files i))
+      ∙ (ap (λ (more : List Effect). flat_map sight_in v.contents ++ more) (sym (join-sights (known_in v.below) (map known_named v.files)))
+      ∙ sym (join-sights v.contents (known_in v.below ++ map known_named v.files)))
 
   -- from any view with all but bytes
   pub sights-blinded : (w : AppView) → blind_but nothing w ≡ blind_but nothing v → blinded (apply_all w (sights v)) ≡ blinded v
@@ -658,10 +822,25 @@ effect-alike (effect.Gained d rights holding) = ap (λ (h : Holding). effect.Gai
 effect-alike (effect.Lost id rights) = refl
 effect-alike (effect.Gone id) = refl
 effect-alike (effect.Bytes path generation content) = ap (λ (c : Content). effect.Bytes path generation c) (content-alike path content)
+effect-alike (effect.Turned path generation content) = ap (λ (c : Content). effect.Turned path generation c) (content-alike path content)
 
 effects-alike : (fs : List Effect) → map (blind_effect nothing) (map hidden_effect fs) ≡ map (blind_effect nothing) fs
 effects-alike [] = refl
 effects-alike (f ∷ fs) = λ i. effect-alike f i ∷ effects-alike fs i
+
+-- to who sees nothing all is alike
+effect-fits : (f : Effect) → Fit nothing f
+effect-fits (effect.Gained d rights holding) = tt
+effect-fits (effect.Lost id rights) = tt
+effect-fits (effect.Gone id) = tt
+effect-fits (effect.Bytes path generation (OfFile g bytes moment)) = refl
+effect-fits (effect.Bytes path generation OfFolder) = tt
+effect-fits (effect.Bytes path generation (NotThere room)) = tt
+effect-fits (effect.Turned path generation content) = tt
+
+effects-fit : (fs : List Effect) → AllFit nothing fs
+effects-fit [] = tt
+effects-fit (f ∷ fs) = (effect-fits f, effects-fit fs)
 
 -- ---- an entry
 
@@ -699,16 +878,16 @@ module _ (app : List ℕ) (s : State) (e : Entry) (w : AppView) (h : blinded w �
         ∙ (pair (view s app) own ∙ ap (λ (p : AppView × Reply). blind_but nothing p.0) seen))
 
     own-seen : blinded (apply_all (app_step w (own_blinded own)).0 (sights next)) ≡ blinded next
-    own-seen = sights-blinded app (after s e) (app_step w (own_blinded own)).0 after-hidden
+    own-seen = sights-blinded app (after s e) (after-Valid s e k.valid k.lawful) (app_step w (own_blinded own)).0 after-hidden
 
   other-seen : Valid s → Lawful s e → makes app s e ≡ false → (fs : List Effect) → touch app s e ≡ fs → blinded (apply_all w (blinded_effects next fs)) ≡ blinded next
   other-seen v l m [] k = h ∙ ap blinded (ap (apply_all (view s app)) (sym k) ∙ steps.other app s e v l m)
   other-seen v l m (f ∷ fs) k =
       let all : List Effect = f ∷ fs in
       let same : blind_but nothing (apply_all w (map hidden_effect all)) ≡ blind_but nothing next =
-      apply_all-same nothing w (view s app) (map hidden_effect all) all (blind-less (view s app) w h) (effects-alike all)
+      apply_all-same nothing w (view s app) (map hidden_effect all) all (effects-fit (map hidden_effect all)) (effects-fit all) (blind-less (view s app) w h) (effects-alike all)
       ∙ ap (blind_but nothing) (ap (apply_all (view s app)) (sym k) ∙ steps.other app s e v l m) in
-      ap blinded (apply_all-append (map hidden_effect all) (sights next) w) ∙ sights-blinded app (after s e) (apply_all w (map hidden_effect all)) same
+      ap blinded (apply_all-append (map hidden_effect all) (sights next) w) ∙ sights-blinded app (after s e) (after-Valid s e v l) (apply_all w (map hidden_effect all)) same
 
 pub blind_steps : BlindedStepsAreSeen
 blind_steps = record {
@@ -725,6 +904,7 @@ own_replies-told (effect.Gained d rights content ∷ fs) w more = own_replies-to
 own_replies-told (effect.Lost id rights ∷ fs) w more = own_replies-told fs (apply w (effect.Lost id rights)) more
 own_replies-told (effect.Gone id ∷ fs) w more = own_replies-told fs (apply w (effect.Gone id)) more
 own_replies-told (effect.Bytes path generation content ∷ fs) w more = own_replies-told fs (apply w (effect.Bytes path generation content)) more
+own_replies-told (effect.Turned path generation content ∷ fs) w more = own_replies-told fs (apply w (effect.Turned path generation content)) more
 
 module _ (app : List ℕ) (s : State) (e : Entry) (w : AppView) (h : blinded w ≡ blinded (view s app)) (more : List TraceItem) (rest : List Reply)
     (on : (x : AppView) → blinded x ≡ blinded (view (after s e) app) → own_replies x more ≡ rest) where

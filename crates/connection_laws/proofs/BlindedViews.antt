@@ -14,21 +14,22 @@ use Rattle.portal_model.specs.Content.{Content, OfFile, OfFolder, NotThere, look
 use Rattle.portal_model.specs.Ordered.{bytes_less, put}
 use Rattle.portal_model.proofs.DocumentChanges.{first_of_both}
 use Rattle.portal_model.proofs.ListLookups.{find-map, found_passes, is_same-eq, nat_is}
-use Rattle.app_world.specs.Effect.{Effect, Gained, Lost, Gone, Bytes, apply, apply_all, changed, changed_content, file_of as file_made, with_below, with_bytes, with_bytes_below, with_content, with_content_of, with_file, with_first}
-use Rattle.app_world.specs.Shown.{bytes_in, covering, is_file, is_place, names_below, of_generation, own_bytes, own_content, own_file, shown, shown_below}
-use Rattle.app_world.specs.View.{Alone, AppView, Below, Holding, OwnConnection, PathBelow, PathContent, ahead, below_ahead, file_ahead, folder_of, folder_paths, found_below, found_content, is_among, is_at_or_below, is_held, named_paths, path_of, prune}
-use Rattle.connection_laws.specs.Blinded.{blind_at, blind_below, blind_but, blind_content, blind_file, file_of, hidden_file}
+use Rattle.app_world.specs.Effect.{Effect, Gained, Lost, Gone, Bytes, Turned, apply, apply_all, changed, changed_content, file_of as file_made, with_below, with_bytes, with_bytes_below, with_content, with_content_of, with_file, with_file_at, with_named, with_turned, with_turned_below}
+use Rattle.app_world.specs.Shown.{bytes_in, covering, has_parent, is_file, is_folder_there, is_place, names_below, of_generation, own_bytes, own_content, own_file, shown, shown_below, shown_file}
+use Rattle.app_world.specs.View.{Alone, AppView, Below, Holding, NamedFile, OwnConnection, PathBelow, PathContent, ahead, below_ahead, file_ahead, folder_of, folder_paths, found_below, found_content, found_named, is_among, is_at_or_below, is_held, is_held_name, name_less, named_ahead, named_as, named_paths, names_held, path_of, prune, same_name}
+use Rattle.app_world.proofs.NamedFiles.{name-eq}
+use Rattle.connection_laws.specs.Blinded.{blind_at, blind_below, blind_but, blind_content, blind_file, blind_named, file_of, hidden_file, hidden_named}
 
 -- ---- lists in which each item is blinded
 
-module _ {X : Type 0} (key : X → List ℕ) (blind : X → X) (keeps : (x : X) → key (blind x) ≡ key x) where
+module _ {K X : Type 0} (less : K → K → Bool) (key : X → K) (blind : X → X) (keeps : (x : X) → key (blind x) ≡ key x) where
   abbrev before_by : X → X → Bool
-  before_by x y = bytes_less (key x) (key y)
+  before_by x y = less (key x) (key y)
 
-  filter-mapped : (q : List ℕ → Bool) (xs : List X) → filter (λ x. q (key x)) (map blind xs) ≡ map blind (filter (λ x. q (key x)) xs)
+  filter-mapped : (q : K → Bool) (xs : List X) → filter (λ x. q (key x)) (map blind xs) ≡ map blind (filter (λ x. q (key x)) xs)
   filter-mapped q [] = refl
   filter-mapped q (x ∷ xs) =
-      ap (λ (k : List ℕ). cond (q k) (blind x ∷ filter (λ y. q (key y)) (map blind xs)) (filter (λ y. q (key y)) (map blind xs))) (keeps x)
+      ap (λ (k : K). cond (q k) (blind x ∷ filter (λ y. q (key y)) (map blind xs)) (filter (λ y. q (key y)) (map blind xs))) (keeps x)
       ∙ by_test (q (key x)) (filter-mapped q xs)
     where
       by_test : (b : Bool) → filter (λ y. q (key y)) (map blind xs) ≡ map blind (filter (λ y. q (key y)) xs) →
@@ -39,7 +40,7 @@ module _ {X : Type 0} (key : X → List ℕ) (blind : X → X) (keeps : (x : X) 
   put-mapped : (x : X) (xs : List X) → put before_by (blind x) (map blind xs) ≡ map blind (put before_by x xs)
   put-mapped x [] = refl
   put-mapped x (y ∷ ys) =
-      (λ i. cond (bytes_less (keeps x i) (keeps y i)) (blind x ∷ blind y ∷ map blind ys) (cond (bytes_less (keeps y i) (keeps x i)) (blind y ∷ put before_by (blind x) (map blind ys)) (blind x ∷ map blind ys)))
+      (λ i. cond (less (keeps x i) (keeps y i)) (blind x ∷ blind y ∷ map blind ys) (cond (less (keeps y i) (keeps x i)) (blind y ∷ put before_by (blind x) (map blind ys)) (blind x ∷ map blind ys)))
       ∙ by_order (before_by x y) (before_by y x) (put-mapped x ys)
     where
       by_order : (a b : Bool) → put before_by (blind x) (map blind ys) ≡ map blind (put before_by x ys) →
@@ -76,6 +77,16 @@ module _ (sees : FileName → Bool) where
   place-blind path (OfFile g bytes moment) = elim (sees (file_of path g)) as (λ x. is_place (cond x (OfFile g bytes moment) (OfFile g (replicate (length bytes) 0) moment)) ≡ false) [ true ↦ refl | false ↦ refl ]
   place-blind path OfFolder = refl
   place-blind path (NotThere room) = refl
+
+  pub parent-blind : (path : List ℕ) (c : Content) → has_parent (blind_at sees path c) ≡ has_parent c
+  parent-blind path (OfFile g bytes moment) = elim (sees (file_of path g)) as (λ x. has_parent (cond x (OfFile g bytes moment) (OfFile g (replicate (length bytes) 0) moment)) ≡ true) [ true ↦ refl | false ↦ refl ]
+  parent-blind path OfFolder = refl
+  parent-blind path (NotThere room) = refl
+
+  pub there-blind : (path : List ℕ) (c : Content) → is_folder_there (blind_at sees path c) ≡ is_folder_there c
+  there-blind path (OfFile g bytes moment) = elim (sees (file_of path g)) as (λ x. is_folder_there (cond x (OfFile g bytes moment) (OfFile g (replicate (length bytes) 0) moment)) ≡ false) [ true ↦ refl | false ↦ refl ]
+  there-blind path OfFolder = refl
+  there-blind path (NotThere room) = refl
 
   pub length-blind : (path : List ℕ) (c : Content) → length (bytes_in (blind_at sees path c)) ≡ length (bytes_in c)
   length-blind path (OfFile g bytes moment) = elim (sees (file_of path g)) as (λ x. length (bytes_in (cond x (OfFile g bytes moment) (OfFile g (replicate (length bytes) 0) moment))) ≡ length bytes) [ true ↦ refl | false ↦ length-replicate (length bytes) 0 ]
@@ -125,6 +136,52 @@ module _ (sees : FileName → Bool) where
   bytes-seen name e (OfFile g bytes moment) = bytes-of_seen name e g bytes moment (g == name.generation) refl
   bytes-seen name e OfFolder = refl
   bytes-seen name e (NotThere room) = refl
+
+  bytes-shown : (name : FileName) → sees name ≡ true → (c : Content) (o : Option NamedFile) → bytes_in (blind_at sees name.path (shown_file name.generation c o)) ≡ bytes_in (shown_file name.generation c o)
+  bytes-shown name e c None = bytes-seen name e c
+  bytes-shown name e c (Some f) = ap bytes_in (seen-is name.path name.generation f.bytes f.moment e)
+
+  -- ---- a content of the file of a name
+
+  -- what is known of it is in sight as what is there
+  abbrev pub Fits : List ℕ → ℕ → Content → Type 0
+  Fits path generation (OfFile g bytes moment) = sees (file_of path g) ≡ sees (file_of path generation)
+  Fits path generation OfFolder = Unit {0}
+  Fits path generation (NotThere room) = Unit {0}
+
+  fits-of : (name : FileName) (c : Content) → Fits name.path name.generation (of_generation name.generation c)
+  fits-of name (OfFile g bytes moment) = by_number (g == name.generation) refl
+    where
+      by_number : (y : Bool) → (g == name.generation) ≡ y → Fits name.path name.generation (cond y (OfFile g bytes moment) (NotThere false))
+      by_number true e = ap (λ (n : ℕ). sees (file_of name.path n)) (nat_is g name.generation e)
+      by_number false e = tt
+  fits-of name OfFolder = tt
+  fits-of name (NotThere room) = tt
+
+  fits-shown : (name : FileName) (c : Content) (o : Option NamedFile) → Fits name.path name.generation (shown_file name.generation c o)
+  fits-shown name c None = fits-of name c
+  fits-shown name c (Some f) = refl
+
+  -- ---- among the files that are known by their names
+
+  pub named-kept : (f : NamedFile) → (blind_named sees f).name ≡ f.name
+  named-kept f = elim (sees f.name) as (λ x. (cond x f (hidden_named f)).name ≡ f.name) [ true ↦ refl | false ↦ refl ]
+
+  found-as : (n : FileName) (fs : List NamedFile) → find (λ (f : NamedFile). same_name (named_as (blind_named sees f)) n) fs ≡ found_named fs n
+  found-as n [] = refl
+  found-as n (f ∷ fs) = λ i. cond (same_name (named-kept f i) n) (Some f) (found-as n fs i)
+
+  named-blind : (n : FileName) (fs : List NamedFile) → found_named (map (blind_named sees) fs) n ≡ option_map (blind_named sees) (found_named fs n)
+  named-blind n fs = find-map (λ (f : NamedFile). same_name (named_as f) n) (blind_named sees) fs ∙ ap (option_map (blind_named sees)) (found-as n fs)
+
+  file-shown : (name : FileName) (c : Content) (o : Option NamedFile) → ((f : NamedFile) → o ≡ Some f → f.name ≡ name) →
+      shown_file name.generation (blind_at sees name.path c) (option_map (blind_named sees) o) ≡ blind_at sees name.path (shown_file name.generation c o)
+  file-shown name c None h = generation-blind name.path name.generation c
+  file-shown name c (Some f) h = by_sight (sees f.name) refl
+    where
+      by_sight : (x : Bool) → sees f.name ≡ x → shown_file name.generation (blind_at sees name.path c) (Some (cond x f (hidden_named f))) ≡ blind_at sees name.path (OfFile name.generation f.bytes f.moment)
+      by_sight true e = sym (seen-is name.path name.generation f.bytes f.moment (ap sees (sym (h f refl)) ∙ e))
+      by_sight false e = sym (unseen-is name.path name.generation f.bytes f.moment (ap sees (sym (h f refl)) ∙ e))
 
   -- ---- what is found
 
@@ -195,11 +252,16 @@ module _ (sees : FileName → Bool) where
         ∙ shown-blind v.below path (found_content v.contents path) (λ c e. is_same-eq c.path path (found_passes (λ (x : PathContent). is_same (path_of x) path) v.contents c e))
 
     pub own_file-blind : (name : FileName) → own_file (blind_but sees v) name ≡ blind_at sees name.path (own_file v name)
-    own_file-blind name = ap (of_generation name.generation) (content-blind name.path) ∙ generation-blind name.path name.generation (own_content v name.path)
+    own_file-blind name =
+        (λ i. shown_file name.generation (content-blind name.path i) (named-blind name v.files i))
+        ∙ file-shown name (own_content v name.path) (found_named v.files name) (λ f e. name-eq f.name name (found_passes (λ (x : NamedFile). same_name (named_as x) name) v.files f e))
+
+    pub own_file-fits : (name : FileName) → Fits name.path name.generation (own_file v name)
+    own_file-fits name = fits-shown name (own_content v name.path) (found_named v.files name)
 
     -- the bytes of a file in sight, and the number of bytes of each
     pub own_bytes-seen : (name : FileName) → sees name ≡ true → own_bytes (blind_but sees v) name ≡ own_bytes v name
-    own_bytes-seen name e = ap bytes_in (own_file-blind name) ∙ bytes-seen name e (own_content v name.path)
+    own_bytes-seen name e = ap bytes_in (own_file-blind name) ∙ bytes-shown name e (own_content v name.path) (found_named v.files name)
 
     pub own_bytes-long : (name : FileName) → length (own_bytes (blind_but sees v) name) ≡ length (own_bytes v name)
     own_bytes-long name = ap (λ (c : Content). length (bytes_in c)) (own_file-blind name) ∙ length-blind name.path (own_file v name)
@@ -218,7 +280,8 @@ module _ (sees : FileName → Bool) where
   prune-blind v = λ i. record (blind_but sees v) {
     documents = filter is_held v.documents;
     contents = filter-blind (is_among (named_paths (filter is_held v.documents) v.connections)) v.contents i;
-    below = filter-mapped folder_of (blind_below sees) (λ b. refl) (is_among (folder_paths (filter is_held v.documents))) v.below i;
+    below = filter-mapped bytes_less folder_of (blind_below sees) (λ b. refl) (is_among (folder_paths (filter is_held v.documents))) v.below i;
+    files = filter-mapped name_less named_as (blind_named sees) named-kept (is_held_name (names_held v.connections)) v.files i;
   }
 
   put-first : (x c : PathContent) (xs cs : List PathContent) (b d : Bool) → xs ≡ map (blind_content sees) cs → (ys : List PathContent) →
@@ -255,8 +318,21 @@ module _ (sees : FileName → Bool) where
   below-twice [] = refl
   below-twice (b ∷ bs) = λ i. record b { files = files-twice b.files i } ∷ below-twice bs i
 
+  named-twice : (f : NamedFile) → blind_named sees (blind_named sees f) ≡ blind_named sees f
+  named-twice f = by_sight (sees f.name) refl
+    where
+      by_sight : (x : Bool) → sees f.name ≡ x → blind_named sees (cond x f (hidden_named f)) ≡ cond x f (hidden_named f)
+      by_sight true e = ap (λ (b : Bool). cond b f (hidden_named f)) e
+      by_sight false e =
+          ap (λ (b : Bool). cond b (hidden_named f) (hidden_named (hidden_named f))) e
+          ∙ ap (λ (n : ℕ). record f { bytes = replicate n 0 }) (length-replicate (length f.bytes) 0)
+
+  names-twice : (fs : List NamedFile) → map (blind_named sees) (map (blind_named sees) fs) ≡ map (blind_named sees) fs
+  names-twice [] = refl
+  names-twice (f ∷ fs) = λ i. named-twice f i ∷ names-twice fs i
+
   pub view-twice : (v : AppView) → blind_but sees (blind_but sees v) ≡ blind_but sees v
-  view-twice v = λ i. record v { contents = all-twice v.contents i; below = below-twice v.below i }
+  view-twice v = λ i. record v { contents = all-twice v.contents i; below = below-twice v.below i; files = names-twice v.files i }
 
   -- ---- effects
 
@@ -269,6 +345,19 @@ module _ (sees : FileName → Bool) where
   blind_effect (Lost id less) = Lost id less
   blind_effect (Gone id) = Gone id
   blind_effect (Bytes path generation content) = Bytes path generation (blind_at sees path content)
+  blind_effect (Turned path generation content) = Turned path generation (blind_at sees path content)
+
+  -- what is told of a file by its name is of that
+  abbrev pub Fit : Effect → Type 0
+  Fit (Gained d more holding) = Unit {0}
+  Fit (Lost id less) = Unit {0}
+  Fit (Gone id) = Unit {0}
+  Fit (Bytes path generation content) = Fits path generation content
+  Fit (Turned path generation content) = Unit {0}
+
+  abbrev pub AllFit : List Effect → Type 0
+  AllFit [] = Unit {0}
+  AllFit (f ∷ fs) = Fit f × AllFit fs
 
   with_content-blind : (path : List ℕ) (content : Content) (o : Option PathContent) → with_content path (blind_at sees path content) (option_map (blind_content sees) o) ≡ blind_content sees (with_content path content o)
   with_content-blind path content None = refl
@@ -308,6 +397,34 @@ module _ (sees : FileName → Bool) where
   bytes-blind path generation new [] = refl
   bytes-blind path generation new (c ∷ cs) = λ i. one_changed path generation new c (is_same c.path path) refl i ∷ bytes-blind path generation new cs i
 
+  -- a file that stands there from now on
+  one_turned : (path : List ℕ) (new : Content) (c : PathContent) (x : Bool) → is_same c.path path ≡ x →
+      cond x (record c { content = blind_at sees path new }) (blind_content sees c) ≡ blind_content sees (cond x (record c { content = new }) c)
+  one_turned path new c true e = ap (λ (p : List ℕ). record c { content = blind_at sees p new }) (sym (is_same-eq c.path path e))
+  one_turned path new c false e = refl
+
+  turned-blind : (path : List ℕ) (new : Content) (cs : List PathContent) →
+      map (with_turned path (blind_at sees path new)) (map (blind_content sees) cs) ≡ map (blind_content sees) (map (with_turned path new) cs)
+  turned-blind path new [] = refl
+  turned-blind path new (c ∷ cs) = λ i. one_turned path new c (is_same c.path path) refl i ∷ turned-blind path new cs i
+
+  -- a file that is known by its name
+  abbrev named_now : FileName → List ℕ → ℕ → NamedFile
+  named_now name bytes moment = record { name = name; bytes = bytes; moment = moment }
+
+  pub with_named-blind : (name : FileName) (c : Content) (fs : List NamedFile) → Fits name.path name.generation c →
+      with_named name (blind_at sees name.path c) (map (blind_named sees) fs) ≡ map (blind_named sees) (with_named name c fs)
+  with_named-blind name OfFolder fs h = refl
+  with_named-blind name (NotThere room) fs h = refl
+  with_named-blind name (OfFile g bytes moment) fs h =
+      by_sight (sees (file_of name.path g))
+      ∙ (ap (λ (b : Bool). put named_ahead (cond b (named_now name bytes moment) (hidden_named (named_now name bytes moment))) (map (blind_named sees) fs)) h
+      ∙ put-mapped name_less named_as (blind_named sees) named-kept (named_now name bytes moment) fs)
+    where
+      by_sight : (x : Bool) → with_named name (cond x (OfFile g bytes moment) (OfFile g (replicate (length bytes) 0) moment)) (map (blind_named sees) fs) ≡ put named_ahead (cond x (named_now name bytes moment) (hidden_named (named_now name bytes moment))) (map (blind_named sees) fs)
+      by_sight true = refl
+      by_sight false = refl
+
   -- a folder that joins, and a file that changes below one
   with_below-blind : (path : List ℕ) (files : List File) (o : Option PathBelow) → with_below path (map (blind_file sees) files) (option_map (blind_below sees) o) ≡ blind_below sees (with_below path files o)
   with_below-blind path files None = refl
@@ -318,7 +435,7 @@ module _ (sees : FileName → Bool) where
   joined-blind path files bs =
       ap (λ (o : Option PathBelow). put below_ahead (with_below path (map (blind_file sees) files) o) (map (blind_below sees) bs)) (find-map (λ (b : PathBelow). is_same (folder_of b) path) (blind_below sees) bs)
       ∙ (ap (λ (b : PathBelow). put below_ahead b (map (blind_below sees) bs)) (with_below-blind path files (found_below bs path))
-      ∙ put-mapped folder_of (blind_below sees) (λ b. refl) (with_below path files (found_below bs path)) bs)
+      ∙ put-mapped bytes_less folder_of (blind_below sees) (λ b. refl) (with_below path files (found_below bs path)) bs)
 
   module _ (path : List ℕ) (generation : ℕ) (new : Content) where
     abbrev name : FileName
@@ -352,15 +469,15 @@ module _ (sees : FileName → Bool) where
     all_renewed [] = refl
     all_renewed (x ∷ xs) = λ i. one_renewed x i ∷ all_renewed xs i
 
-    -- a first file
-    first-blind : (c : Content) (fs : List File) → with_first path (blind_at sees path c) (map (blind_file sees) fs) ≡ map (blind_file sees) (with_first path c fs)
+    -- a file that comes to its path
+    first-blind : (c : Content) (fs : List File) → with_file_at path (blind_at sees path c) (map (blind_file sees) fs) ≡ map (blind_file sees) (with_file_at path c fs)
     first-blind OfFolder fs = refl
     first-blind (NotThere room) fs = refl
     first-blind (OfFile g bytes moment) fs =
         by_sight (sees (file_of path g))
-        ∙ put-mapped (λ (f : File). f.path) (blind_file sees) path-kept (file_made path g bytes moment) fs
+        ∙ put-mapped bytes_less (λ (f : File). f.path) (blind_file sees) path-kept (file_made path g bytes moment) fs
       where
-        by_sight : (s : Bool) → with_first path (cond s (OfFile g bytes moment) (OfFile g (replicate (length bytes) 0) moment)) (map (blind_file sees) fs)
+        by_sight : (s : Bool) → with_file_at path (cond s (OfFile g bytes moment) (OfFile g (replicate (length bytes) 0) moment)) (map (blind_file sees) fs)
             ≡ put file_ahead (cond s (file_made path g bytes moment) (hidden_file (file_made path g bytes moment))) (map (blind_file sees) fs)
         by_sight true = refl
         by_sight false = refl
@@ -371,13 +488,13 @@ module _ (sees : FileName → Bool) where
 
     with_file-blind : (fs : List File) → with_file path generation (blind_at sees path new) (map (blind_file sees) fs) ≡ map (blind_file sees) (with_file path generation new fs)
     with_file-blind fs =
-        ap (λ (b : Bool). cond b (change_named name (with_content_of (blind_at sees path new)) (map (blind_file sees) fs)) (cond (generation == 0) (with_first path (blind_at sees path new) (map (blind_file sees) fs)) (map (blind_file sees) fs)))
+        ap (λ (b : Bool). cond b (change_named name (with_content_of (blind_at sees path new)) (map (blind_file sees) fs)) (cond (generation == 0) (with_file_at path (blind_at sees path new) (map (blind_file sees) fs)) (map (blind_file sees) fs)))
         (ap is_some (file-found path fs) ∙ some-mapped (file_at fs path))
         ∙ by_file (is_some (file_at fs path)) (generation == 0)
       where
         by_file : (a b : Bool) →
-            cond a (change_named name (with_content_of (blind_at sees path new)) (map (blind_file sees) fs)) (cond b (with_first path (blind_at sees path new) (map (blind_file sees) fs)) (map (blind_file sees) fs))
-            ≡ map (blind_file sees) (cond a (change_named name (with_content_of new) fs) (cond b (with_first path new fs) fs))
+            cond a (change_named name (with_content_of (blind_at sees path new)) (map (blind_file sees) fs)) (cond b (with_file_at path (blind_at sees path new) (map (blind_file sees) fs)) (map (blind_file sees) fs))
+            ≡ map (blind_file sees) (cond a (change_named name (with_content_of new) fs) (cond b (with_file_at path new fs) fs))
         by_file true b = all_renewed fs
         by_file false true = first-blind new fs
         by_file false false = refl
@@ -393,26 +510,46 @@ module _ (sees : FileName → Bool) where
     below-blind [] = refl
     below-blind (b ∷ bs) = λ i. one_below b i ∷ below-blind bs i
 
-  changed-blind : (v : AppView) (f : Effect) → changed (blind_but sees v) (blind_effect f) ≡ blind_but sees (changed v f)
-  changed-blind v (Gained d more (Alone content)) = λ i. record (blind_but sees (changed v (Gained d more (Alone content)))) { contents = gained-blind d.path content v.contents i }
-  changed-blind v (Gained d more (Below files)) = λ i. record (blind_but sees (changed v (Gained d more (Below files)))) { below = joined-blind d.path files v.below i }
-  changed-blind v (Lost id less) = refl
-  changed-blind v (Gone id) = refl
-  changed-blind v (Bytes path generation content) = λ i. record v { contents = bytes-blind path generation content v.contents i; below = below-blind path generation content v.below i }
+    turned_below : (b : PathBelow) → with_turned_below path (blind_at sees path new) (blind_below sees b) ≡ blind_below sees (with_turned_below path new b)
+    turned_below b = by_place (is_at_or_below b.path path)
+      where
+        by_place : (x : Bool) → cond x (record b { files = with_file_at path (blind_at sees path new) (map (blind_file sees) b.files) }) (blind_below sees b) ≡ blind_below sees (cond x (record b { files = with_file_at path new b.files }) b)
+        by_place true = λ i. record b { files = first-blind new b.files i }
+        by_place false = refl
 
-  pub apply-blind : (v : AppView) (f : Effect) → apply (blind_but sees v) (blind_effect f) ≡ blind_but sees (apply v f)
-  apply-blind v f = ap prune (changed-blind v f) ∙ prune-blind (changed v f)
+    turned-below : (bs : List PathBelow) → map (with_turned_below path (blind_at sees path new)) (map (blind_below sees) bs) ≡ map (blind_below sees) (map (with_turned_below path new) bs)
+    turned-below [] = refl
+    turned-below (b ∷ bs) = λ i. turned_below b i ∷ turned-below bs i
 
-  pub apply_all-blind : (fs : List Effect) (v : AppView) → blind_but sees (apply_all v fs) ≡ apply_all (blind_but sees v) (map blind_effect fs)
-  apply_all-blind [] v = refl
-  apply_all-blind (f ∷ fs) v = apply_all-blind fs (apply v f) ∙ ap (λ (x : AppView). apply_all x (map blind_effect fs)) (sym (apply-blind v f))
+  changed-blind : (v : AppView) (f : Effect) → Fit f → changed (blind_but sees v) (blind_effect f) ≡ blind_but sees (changed v f)
+  changed-blind v (Gained d more (Alone content)) h = λ i. record (blind_but sees (changed v (Gained d more (Alone content)))) { contents = gained-blind d.path content v.contents i }
+  changed-blind v (Gained d more (Below files)) h = λ i. record (blind_but sees (changed v (Gained d more (Below files)))) { below = joined-blind d.path files v.below i }
+  changed-blind v (Lost id less) h = refl
+  changed-blind v (Gone id) h = refl
+  changed-blind v (Bytes path generation content) h = λ i. record v {
+    contents = bytes-blind path generation content v.contents i;
+    below = below-blind path generation content v.below i;
+    files = with_named-blind (file_of path generation) content v.files h i;
+  }
+  changed-blind v (Turned path generation content) h = λ i. record v {
+    contents = turned-blind path content v.contents i;
+    below = turned-below path generation content v.below i;
+    files = map (blind_named sees) v.files;
+  }
+
+  pub apply-blind : (v : AppView) (f : Effect) → Fit f → apply (blind_but sees v) (blind_effect f) ≡ blind_but sees (apply v f)
+  apply-blind v f h = ap prune (changed-blind v f h) ∙ prune-blind (changed v f)
+
+  pub apply_all-blind : (fs : List Effect) (v : AppView) → AllFit fs → blind_but sees (apply_all v fs) ≡ apply_all (blind_but sees v) (map blind_effect fs)
+  apply_all-blind [] v h = refl
+  apply_all-blind (f ∷ fs) v h = apply_all-blind fs (apply v f) h.1 ∙ ap (λ (x : AppView). apply_all x (map blind_effect fs)) (sym (apply-blind v f h.0))
 
   -- views that are equal when blinded stay so by effects that are
-  pub apply-same : (v w : AppView) (f k : Effect) → blind_but sees v ≡ blind_but sees w → blind_effect f ≡ blind_effect k → blind_but sees (apply v f) ≡ blind_but sees (apply w k)
-  apply-same v w f k h e = sym (apply-blind v f) ∙ ((λ i. apply (h i) (e i)) ∙ apply-blind w k)
+  pub apply-same : (v w : AppView) (f k : Effect) → Fit f → Fit k → blind_but sees v ≡ blind_but sees w → blind_effect f ≡ blind_effect k → blind_but sees (apply v f) ≡ blind_but sees (apply w k)
+  apply-same v w f k p q h e = sym (apply-blind v f p) ∙ ((λ i. apply (h i) (e i)) ∙ apply-blind w k q)
 
-  pub apply_all-same : (v w : AppView) (fs ks : List Effect) → blind_but sees v ≡ blind_but sees w → map blind_effect fs ≡ map blind_effect ks → blind_but sees (apply_all v fs) ≡ blind_but sees (apply_all w ks)
-  apply_all-same v w fs ks h e = apply_all-blind fs v ∙ ((λ i. apply_all (h i) (e i)) ∙ sym (apply_all-blind ks w))
+  pub apply_all-same : (v w : AppView) (fs ks : List Effect) → AllFit fs → AllFit ks → blind_but sees v ≡ blind_but sees w → map blind_effect fs ≡ map blind_effect ks → blind_but sees (apply_all v fs) ≡ blind_but sees (apply_all w ks)
+  apply_all-same v w fs ks p q h e = apply_all-blind fs v p ∙ ((λ i. apply_all (h i) (e i)) ∙ sym (apply_all-blind ks w q))
 
   -- ---- with other connections
 

@@ -27,6 +27,7 @@ machine_first (item.Gained d rights content ∷ xs) ys v = machine_first xs ys (
 machine_first (item.Lost id rights ∷ xs) ys v = machine_first xs ys (apply v (effect.Lost id rights))
 machine_first (item.Gone id ∷ xs) ys v = machine_first xs ys (apply v (effect.Gone id))
 machine_first (item.Bytes path generation content ∷ xs) ys v = machine_first xs ys (apply v (effect.Bytes path generation content))
+machine_first (item.Turned path generation content ∷ xs) ys v = machine_first xs ys (apply v (effect.Turned path generation content))
 
 -- one reply to each own request
 one_each : (xs : List TraceItem) (v : AppView) → length (own_seats xs) ≡ length (own_replies v xs)
@@ -36,6 +37,7 @@ one_each (item.Gained d rights content ∷ xs) v = one_each xs (apply v (effect.
 one_each (item.Lost id rights ∷ xs) v = one_each xs (apply v (effect.Lost id rights))
 one_each (item.Gone id ∷ xs) v = one_each xs (apply v (effect.Gone id))
 one_each (item.Bytes path generation content ∷ xs) v = one_each xs (apply v (effect.Bytes path generation content))
+one_each (item.Turned path generation content ∷ xs) v = one_each xs (apply v (effect.Turned path generation content))
 
 pub replies-first : (seat : ℕ) (whole front : Trace) → GoesOn whole front → (more : List Reply) × (replies_to seat whole ≡ replies_to seat front ++ more)
 replies-first seat whole front (opening, (more, items)) =

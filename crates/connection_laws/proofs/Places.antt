@@ -30,6 +30,7 @@ own_seats-append (item.Gained d rights content ∷ xs) ys = own_seats-append xs 
 own_seats-append (item.Lost id rights ∷ xs) ys = own_seats-append xs ys
 own_seats-append (item.Gone id ∷ xs) ys = own_seats-append xs ys
 own_seats-append (item.Bytes path generation content ∷ xs) ys = own_seats-append xs ys
+own_seats-append (item.Turned path generation content ∷ xs) ys = own_seats-append xs ys
 
 effects_none : (fs : List Effect) → own_seats (map item_of fs) ≡ []
 effects_none [] = refl
@@ -37,6 +38,7 @@ effects_none (effect.Gained d rights content ∷ fs) = effects_none fs
 effects_none (effect.Lost id rights ∷ fs) = effects_none fs
 effects_none (effect.Gone id ∷ fs) = effects_none fs
 effects_none (effect.Bytes path generation content ∷ fs) = effects_none fs
+effects_none (effect.Turned path generation content ∷ fs) = effects_none fs
 
 seats_of_one : (app : List ℕ) (s : State) (e : Entry) (b : Bool) → own_seats (cond b (item.Own (own_of s e) ∷ []) (map item_of (touch app s e))) ≡ cond b (e.seat ∷ []) []
 seats_of_one app s e true = refl

@@ -38,6 +38,7 @@ effects_none (effect.Gained d rights content ∷ fs) = effects_none fs
 effects_none (effect.Lost id rights ∷ fs) = effects_none fs
 effects_none (effect.Gone id ∷ fs) = effects_none fs
 effects_none (effect.Bytes path generation content ∷ fs) = effects_none fs
+effects_none (effect.Turned path generation content ∷ fs) = effects_none fs
 
 seats_of_one : (app : List ℕ) (s : State) (e : Entry) (b : Bool) → served_seats (cond b (item.Own (served_own s e) ∷ []) (flat_map items_of_effect (touch app s e))) ≡ cond b (e.seat ∷ []) []
 seats_of_one app s e true = refl

@@ -13,9 +13,9 @@ use Rattle.session.specs.Connections.{Whole}
 use Rattle.connection_laws.specs.Blinded.{blinded, own_blinded}
 use Rattle.connection_laws.specs.OwnPlaces.{replies_to}
 use Rattle.connection_laws.specs.Served.{Service, replies_seen}
-use Rattle.connection_laws.specs.Unread.{BytesAreOfTheBlindedTrace, HaveOneBlindedTrace, IsOwnEntry, UnreadBytesAreInNoReply, with_file, with_file_below}
+use Rattle.connection_laws.specs.Unread.{BytesAreOfTheBlindedTrace, HaveOneBlindedTrace, IsOwnEntry, UnreadBytesAreInNoReply, with_file, with_file_below, with_file_named}
 use Rattle.connection_laws.proofs.BlindedSeats.{replies-blinded}
-use Rattle.connection_laws.proofs.BlindedSteps.{other-below, other-bytes, same-reply, same-sight}
+use Rattle.connection_laws.proofs.BlindedSteps.{other-below, other-bytes, other-named, same-reply, same-sight}
 use Rattle.connection_laws.proofs.Bytes.{pieces-are, seats-are}
 
 -- its own machine replies as the portal does
@@ -30,6 +30,8 @@ no-reply = record {
       same-reply (with_file v front back name bytes moment) (with_file v front back name other moment) own own (other-bytes v name bytes other moment r n front back) refl;
   below = λ v front back folder first last name bytes other moment own r n.
       same-reply (with_file_below v front back folder first last name bytes moment) (with_file_below v front back folder first last name other moment) own own (other-below v name bytes other moment r n front back folder first last) refl;
+  named = λ v front back name bytes other moment own r n.
+      same-reply (with_file_named v front back name bytes moment) (with_file_named v front back name other moment) own own (other-named v name bytes other moment r n front back) refl;
   reply = same-reply;
   portal = portal-reply;
   sight = same-sight;

@@ -13,6 +13,7 @@ own_seats (item.Gained d rights content ∷ more) = own_seats more
 own_seats (item.Lost id rights ∷ more) = own_seats more
 own_seats (item.Gone id ∷ more) = own_seats more
 own_seats (item.Bytes path generation content ∷ more) = own_seats more
+own_seats (item.Turned path generation content ∷ more) = own_seats more
 
 -- of these replies those that stand where this seat stands
 abbrev pub at_seat : ℕ → List ℕ → List Reply → List Reply
