@@ -1,6 +1,6 @@
 //! A worker, which serves the links of a post.
 
-ghost use Rattle.std.specs.Prelude.{◌≡◌, List, false, is_some, IfOk};
+ghost use Rattle.std.specs.Prelude.{◌≡◌, List, false, true, is_some, IfOk};
 ghost use Rattle.portal_desk.specs.Knowing.{Known};
 ghost use Rattle.portal_model.specs.Seated.{Exchange, is_open, state_seen};
 ghost use Rattle.session.specs.Standings.{client};
