@@ -15,7 +15,7 @@ use Rattle.portal_model.specs.declared.request.NodeOp.{NodeOp}
 use Rattle.portal_model.specs.declared.request.NodeRequest.{NodeRequest}
 use Rattle.portal_model.specs.declared.temporary.Temp.{Temp}
 use Rattle.portal_model.specs.Bus.{is_tree, moment_given}
-use Rattle.portal_model.specs.Content.{Content, OfFile, look_of}
+use Rattle.portal_model.specs.Content.{Content, look_of}
 use Rattle.portal_model.specs.Errno.{eacces, ebadf, einval}
 use Rattle.portal_model.specs.Node.{NodeFacts, node_walk}
 use Rattle.portal_model.specs.Ordered.{put}

@@ -21,6 +21,7 @@ mod BlindedViews
 mod BlindedNodes
 mod BlindedBuses
 pub mod BlindedSteps
+mod KnownFiles
 pub mod BlindedTraces
 mod BlindedSeats
 pub mod Unread
