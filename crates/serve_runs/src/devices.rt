@@ -32,10 +32,9 @@ pub fn devices(alloc: Global, script: &[u8]) -> Result<ScriptDevices, VectorErro
     ensures told { IfOk result (λ devices. devices.tree.files ≡ devices.tree.began) }
     ensures first { IfOk result (λ devices. AreFirst devices.tree.began) }
 {
-    let script = given(alloc, read_script(alloc, script))?;
-    let devices = devices_of(alloc, &script);
-    drop(script);
-    Ok(devices?)
+    let read = given(alloc, read_script(alloc, script))?;
+    let devices = devices_of(alloc, &read)?;
+    Ok(devices)
 }
 
 /// A portal over the devices of a script, in whose tree the first look may be held.
