@@ -28,11 +28,11 @@ not-root : (x y p q : List ℕ) (b : Bool) → b ≡ not (is_same x y) → b ≡
 not-root x y p q b e h r s t = (λ i. is_same ((t ∙ sym s) i) (sym r i)) ∙ not-true (is_same x y) b e h
 
 pub add_file-requires-clause-began : goal.add_file-requires-clause-began
-add_file-requires-clause-began c = one-file c.new-tree.result.began _ (ap (λ t. t.began) c.new-tree.ensures)
+add_file-requires-clause-began c = one-file c.new-tree.result.began.present _ (ap (λ t. t.began.present) c.new-tree.ensures)
     (not-root c.as_bytes-then-not-is_empty.result.now c.as_slice.result.now c.in_ok-path.path c.path.inside.text c.ne.result
     c.ne.ensures c.if-ne.true c.as_slice.ensures c.as_bytes-then-not-is_empty.ensures.bytes c.path.view_is)
 
 pub add_file-requires-clause-files : goal.add_file-requires-clause-files
-add_file-requires-clause-files c = one-file c.new-tree.result.files _ (ap (λ t. t.files) c.new-tree.ensures)
+add_file-requires-clause-files c = one-file c.new-tree.result.files.present _ (ap (λ t. t.files.present) c.new-tree.ensures)
     (not-root c.as_bytes-then-not-is_empty.result.now c.as_slice.result.now c.in_ok-path.path c.path.inside.text c.ne.result
     c.ne.ensures c.if-ne.true c.as_slice.ensures c.as_bytes-then-not-is_empty.ensures.bytes c.path.view_is)
