@@ -2,7 +2,7 @@
 -- tells whether they are.
 use Rattle.std.proofs.Common.{◌≡◌, ◌+◌, ℕ, List, [], ◌∷◌, length, take, Bool, true, false, not, ◌&&◌, ◌||◌, cond, Option, refl, sym, ap, ◌∙◌}
 use Rattle.std.specs.List.{list_all}
-use Rattle.portal_base.specs.declared.files.File.{File}
+use Rattle.file_generations.specs.Generations.{Held}
 use Rattle.portal_base.specs.declared.names.doc_id.DocId.{DocId}
 use Rattle.portal_base.specs.declared.who.Kind.{Kind}
 use Rattle.portal_base.specs.declared.who.Who.{Who}
@@ -117,7 +117,7 @@ module _ (s : State) (c : Connection) (a : AddRequest) (given : Given) where
   none-asked : given.looks ≡ [] → is_tree given.fault ≡ false → asked given ≡ 0
   none-asked e f = λ i. length (e i) + cond (f i) 1 0
 
-  gives-by : (tree : Option (List File)) (p q : Bool) (w : Walk Verdict) →
+  gives-by : (tree : Option Held) (p q : Bool) (w : Walk Verdict) →
       Gives tree (walk_unless (not p) Code.InvalidArgs (walk_unless (not q) Code.InvalidArgument w)) given.looks (is_tree given.fault) → (p && q) ≡ false → asked given ≡ 0
   gives-by tree true true w g e = cc
   gives-by tree true false w g e = none-asked g.0 g.1

@@ -1,9 +1,9 @@
 -- What a view is told of a change of a file is the file as it is afterwards; and which files a view has.
-use Rattle.std.proofs.Common.{◌≡◌, ◌==◌, ◌&&◌, ◌||◌, ℕ, List, [], ◌∷◌, ◌++◌, map, Bool, true, false, cond, Option, Some, None, is_some, option_map, refl, sym, ap, ◌∙◌}
+use Rattle.std.proofs.Common.{◌≡◌, ◌&&◌, ◌||◌, ℕ, List, [], ◌∷◌, ◌++◌, map, Bool, true, false, cond, Option, Some, None, is_some, option_map, refl, sym, ap, ◌∙◌}
 use Rattle.std.specs.List.{find, list_any}
-use Rattle.file_generations.specs.Generations.{Held, all_held, is_held, turned}
+use Rattle.file_generations.specs.Generations.{Held, all_held, is_held}
 use Rattle.portal_base.specs.Content.{file_at, file_named, has_room, is_folder}
-use Rattle.portal_base.specs.FileChanges.{cut_to, new_file, overlaid, put_file}
+use Rattle.portal_base.specs.FileChanges.{new_file, put_file}
 use Rattle.portal_base.specs.declared.files.File.{File}
 use Rattle.portal_base.specs.declared.files.FileName.{FileName}
 use Rattle.portal_base.specs.declared.files.Look.{Look}
@@ -15,8 +15,8 @@ use Rattle.portal_model.specs.Valid.{Valid}
 use Rattle.portal_model.proofs.FilesValid.{missing-is}
 use Rattle.app_world.specs.Effect.{Bytes, Turned}
 use Rattle.app_world.specs.Node.{content_named, file_effects, first_of, has_file}
-use Rattle.app_world.specs.Shown.{bytes_in, covering, is_file, of_generation, own_content, shown, shown_below, shown_file}
-use Rattle.app_world.specs.View.{AppView, NamedFile, PathBelow, below_at, covers, folder_of, folder_paths, found_content, found_named, holds_name, is_among, is_at_or_below, knows, named_paths, names, path_below, path_content, view}
+use Rattle.app_world.specs.Shown.{covering, is_file, of_generation, own_content, shown, shown_below, shown_file}
+use Rattle.app_world.specs.View.{AppView, NamedFile, PathBelow, below_at, covers, folder_of, folder_paths, holds_name, is_at_or_below, knows, named_paths, names, path_below, path_content, view}
 use Rattle.app_world.proofs.BelowLaws.{any-put_all-key}
 use Rattle.app_world.proofs.ContentLaws.{contents-found}
 use Rattle.app_world.proofs.FileChangeLaws.{is_standing, stands}

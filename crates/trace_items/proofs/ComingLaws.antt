@@ -37,7 +37,7 @@ use Rattle.app_trace.specs.Told.{item_told}
 use Rattle.trace_items.specs.Touches.{shown_in}
 use Rattle.named_paths.proofs.NamesHeld.{TempsOn, held-named}
 use Rattle.named_paths.proofs.OpenPaths.{known-of, open-named}
-use Rattle.save_files.specs.Own.{own_on, owned}
+use Rattle.save_files.specs.Own.{own_on}
 use Rattle.trace_items.proofs.SharedFiles.{touch-shared}
 
 -- ---- connections that wait for nothing

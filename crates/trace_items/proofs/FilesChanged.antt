@@ -14,7 +14,7 @@ use Rattle.portal_model.specs.declared.temporary.OwnTemp.{OwnTemp}
 use Rattle.portal_model.specs.declared.temporary.Temp.{Temp}
 use Rattle.portal_model.specs.Access.{access, access_file, access_folder, executes, writes_to as asks_to_write}
 use Rattle.portal_model.specs.Attributes.{attr_of_file, attr_of_folder, is_writable, on_node}
-use Rattle.portal_model.specs.Create.{Made, add_temp, child_made, create, create_at, create_child, create_in, create_other, create_own, create_temp, created, created_temp, next_file, next_temp_node, own_made, temp_made}
+use Rattle.portal_model.specs.Create.{Made, add_temp, child_made, create, create_at, create_child, create_in, create_other, create_own, created, created_temp, next_file, next_temp_node, own_made, temp_made}
 use Rattle.portal_model.specs.Errno.{eacces, ebadf, eexist, efbig, einval, eisdir, emfile, enametoolong, enoent, enotdir, eperm, exdev}
 use Rattle.portal_model.specs.Flush.{flush}
 use Rattle.portal_model.specs.Fsync.{fsync, fsync_open}

@@ -7,4 +7,7 @@ pub mod BytesAfter
 pub mod Touched
 pub mod ComingLaws
 pub mod OwnEntries
+pub mod TempsCalled
+pub mod SeenFolders
+pub mod LentParts
 pub mod NodeParts

@@ -1,5 +1,5 @@
 -- What comes of an entry to an application, over the lists that a portal lends ahead of it.
-use Rattle.std.specs.Prelude.{◌≡◌, ℕ, List, [], ◌∷◌, map, Bool, true, false, cond, Option, Some, None, option_map}
+use Rattle.std.specs.Prelude.{◌≡◌, ℕ, List, [], ◌∷◌, map, Bool, true, false, cond, Option, Some, option_map}
 use Rattle.file_generations.specs.Generations.{Held}
 use Rattle.portal_model.specs.declared.entry.Entry.{Entry}
 use Rattle.portal_model.specs.declared.naming.Naming.{Naming}
@@ -11,7 +11,7 @@ use Rattle.portal_model.specs.NodeVerdict.{FileChange, FilesStay, Writes, Resize
 use Rattle.portal_model.specs.State.{State, connection_of, held_in}
 use Rattle.portal_model.specs.Step.{after, reply_at}
 use Rattle.folder_documents.specs.Named.{Named, named_on}
-use Rattle.save_files.specs.Own.{Own, own_on, owned}
+use Rattle.save_files.specs.Own.{Own as OwnTemps, own_on, owned}
 use Rattle.open_handles.specs.Opened.{opened_on}
 use Rattle.named_paths.specs.OpenNumbers.{Cover}
 pub use Rattle.named_paths.specs.Seated.{HasOpen, numbered, silent}
@@ -39,7 +39,7 @@ abbrev pub namings_in : State → ℕ → Option (List Naming)
 namings_in s seat = option_map (λ c. c.namings) (connection_of s.connections seat)
 
 -- and of temporaries
-abbrev pub temps_on : List (ℕ × Own) → ℕ → Option (List OwnTemp)
+abbrev pub temps_on : List (ℕ × OwnTemps) → ℕ → Option (List OwnTemp)
 temps_on temps seat = option_map (λ o. owned o.temps) (own_on temps seat)
 
 abbrev pub temps_in : State → ℕ → Option (List OwnTemp)

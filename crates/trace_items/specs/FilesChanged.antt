@@ -8,12 +8,13 @@ use Rattle.portal_base.specs.declared.files.File.{File}
 use Rattle.portal_base.specs.declared.files.FileName.{FileName}
 use Rattle.portal_base.specs.declared.files.Look.{Look}
 use Rattle.portal_model.specs.declared.handle.Handle.{Handle}
+use Rattle.portal_model.specs.declared.place.Place.{Place}
 use Rattle.portal_model.specs.declared.request.NodeOp.{NodeOp}
 use Rattle.portal_model.specs.declared.state.Document.{Document}
 use Rattle.portal_model.specs.declared.temporary.OwnTemp.{OwnTemp}
 use Rattle.portal_model.specs.NodeVerdict.{FileChange, FilesStay, Writes, Resizes, Creates, Adds, Stands}
 use Rattle.portal_model.specs.Open.{truncates}
-use Rattle.portal_model.specs.Place.{Exported, FolderOf, RootOf, Views, Folder, Sight, SightBelow, SightOfFile, SightOfFolder, SightOfTemp}
+use Rattle.portal_model.specs.Place.{Exported, FolderOf, RootOf, Views, Sight, SightBelow, SightOfFile, SightOfFolder, SightOfTemp}
 use Rattle.portal_model.specs.SeatNames.{found_temp}
 use Rattle.portal_model.specs.SetAttr.{sets_by_handle, sets_size}
 use Rattle.app_world.specs.Effect.{Effect, Bytes, Turned}
@@ -62,6 +63,11 @@ document_of_folder (Some (SightOfFolder (Exported view d path may_write))) = Non
 abbrev pub view_of_folder : Option Sight → ℕ
 view_of_folder (Some (SightOfFolder (FolderOf view d may_write))) = view
 view_of_folder sight = 0
+
+-- the view of a document's folder that a number names
+abbrev pub view_in : Option Place → ℕ
+view_in (Some (Place.Folder view id)) = view
+view_in place = 0
 
 -- the file at a path, as the first look showed it
 abbrev pub file_shown : List ℕ → List Look → Option FileName

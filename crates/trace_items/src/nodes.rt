@@ -1,7 +1,7 @@
 //! Requests on nodes: how they change the files, where they are done, and what
 //! an application is told of that.
 
-ghost use Rattle.std.specs.Prelude.{◌≡◌, ◌∷◌, ℕ, [], None, Option, Some, cond, map, option_copied, option_map, IfOk, IfSome};
+ghost use Rattle.std.specs.Prelude.{◌≡◌, ◌∷◌, ℕ, [], None, Option, Some, cond, map, option_copied, option_map, IfOk};
 ghost use Rattle.portal_model.specs.declared.naming.Naming.{Naming};
 ghost use Rattle.portal_model.specs.declared.temporary.OwnTemp.{OwnTemp};
 ghost use Rattle.portal_model.specs.declared.temporary.Temp.{Temp as TempOf};
@@ -12,13 +12,13 @@ ghost use Rattle.open_handles.specs.Opened.{handle_of as handle_in, opened_on};
 ghost use Rattle.file_generations.specs.Generations.{all_held};
 ghost use Rattle.portal_model.specs.Bus.{moment_given};
 ghost use Rattle.portal_model.specs.Open.{truncates as does_truncate};
-ghost use Rattle.portal_model.specs.Place.{Sight, id_of_node, place_of as place_of_node};
+ghost use Rattle.portal_model.specs.Place.{Sight, id_of_node, place_named, place_of as place_of_node};
 ghost use Rattle.portal_model.specs.SeatNames.{found_temp, naming_of, temp_of};
 ghost use Rattle.portal_model.specs.SetAttr.{sets_by_handle as is_by_handle, sets_size as is_of_size};
 ghost use Rattle.portal_model.specs.State.{State};
 ghost use Rattle.std.specs.Prelude.{List as Items};
 ghost use Rattle.trace_items.specs.Awaited.{change_of, namings_on, temps_on};
-ghost use Rattle.trace_items.specs.FilesChanged.{attributes_set as file_set, creates, document_of_folder, file_change, file_open as open_file, file_shown_at, made_in, news_of, told_alone, turned_alone, opened as file_opened, path_of_below, path_of_file, renamed as file_renamed, resizes, view_of_folder, written as file_written};
+ghost use Rattle.trace_items.specs.FilesChanged.{attributes_set as file_set, creates, document_of_folder, file_change, file_open as open_file, file_shown_at, made_in, news_of, told_alone, turned_alone, opened as file_opened, path_of_below, path_of_file, renamed as file_renamed, resizes, view_in, view_of_folder, written as file_written};
 ghost use Rattle.app_trace.specs.Told.{content_told, item_told};
 ghost use Rattle.trace_items.specs.Touches.{told_if};
 
@@ -135,8 +135,8 @@ struct At<'a> {
 /// The path at which a caller may see a file at a node.
 fn file_seen<'a>(at: &At<'a>) -> Option<&'a HostPath>
     ensures { (s : State) → Lends at.now.book.now s → option_copied result
-        ≡ path_of_file (place_of_node s at.now.who.now (option_copied at.now.naming.entry)
-        (option_copied at.now.temp.entry) at.now.node) }
+        ≡ path_of_file (place_of_node s at.now.who.now (option_copied at.now.naming)
+        (option_copied at.now.temp) at.now.node) }
 {
     match place_of(at.node)? {
         Place::File { view, id } => {
@@ -154,8 +154,8 @@ fn file_seen<'a>(at: &At<'a>) -> Option<&'a HostPath>
 /// sees at a node.
 fn below_seen<'a>(at: &At<'a>) -> Option<&'a HostPath>
     ensures { (s : State) → Lends at.now.book.now s → option_copied result
-        ≡ path_of_below (place_of_node s at.now.who.now (option_copied at.now.naming.entry)
-        (option_copied at.now.temp.entry) at.now.node) }
+        ≡ path_of_below (place_of_node s at.now.who.now (option_copied at.now.naming)
+        (option_copied at.now.temp) at.now.node) }
 {
     match place_of(at.node)? {
         Place::File { view, id } => {
@@ -202,11 +202,11 @@ fn made_in(
     now: u64,
 ) -> Result<FileUpdate<'static>, WantOfMemory>
     ensures { IfOk result (λ update. (s : State) → Lends at.now.book.now s → change_of update
-        ≡ made_in name.now generation.now
-        (document_of_folder (place_of_node s at.now.who.now (option_copied at.now.naming.entry)
-        (option_copied at.now.temp.entry) at.now.node))
-        (path_of_below (place_of_node s at.now.who.now (option_copied at.now.naming.entry)
-        (option_copied at.now.temp.entry) at.now.node)) now) }
+        ≡ made_in name.now generation
+        (document_of_folder (place_of_node s at.now.who.now (option_copied at.now.naming)
+        (option_copied at.now.temp) at.now.node))
+        (path_of_below (place_of_node s at.now.who.now (option_copied at.now.naming)
+        (option_copied at.now.temp) at.now.node)) now) }
 {
     if let Some(document) = folder_seen(at) {
         return made_beside(alloc, document, name, generation, now);
@@ -226,7 +226,7 @@ fn made_beside(
     now: u64,
 ) -> Result<FileUpdate<'static>, WantOfMemory>
     ensures { IfOk result (λ update. (below : Option (Items ℕ)) → change_of update
-        ≡ made_in name.now generation.now (Some document.now) below now) }
+        ≡ made_in name.now generation (Some document.now) below now) }
 {
     let path = document.path.replica(alloc)?;
     if document.path.name() == name {
@@ -254,18 +254,18 @@ fn renamed(
     ensures { IfOk result (λ update. (s : State) (own : Items OwnTemp) →
         Lends at.now.book.now s → temps_on temps.now.seats seat ≡ Some own → change_of update
         ≡ file_renamed old_name.now new_name.now own
-        (view_of_folder (place_of_node s at.now.who.now (option_copied at.now.naming.entry)
-        (option_copied at.now.temp.entry) at.now.node))
-        (document_of_folder (place_of_node s at.now.who.now (option_copied at.now.naming.entry)
-        (option_copied at.now.temp.entry) at.now.node))) }
+        (view_of_folder (place_of_node s at.now.who.now (option_copied at.now.naming)
+        (option_copied at.now.temp) at.now.node))
+        (document_of_folder (place_of_node s at.now.who.now (option_copied at.now.naming)
+        (option_copied at.now.temp) at.now.node))) }
 {
-    let (Some(document), Some(view)) = (folder_seen(at), folder_view(at)) else {
+    let Some(document) = folder_seen(at) else {
         return Ok(FileUpdate::Stay);
     };
     if document.path.name() != new_name {
         return Ok(FileUpdate::Stay);
     }
-    match temp_called(temps, seat, view, document.id, old_name) {
+    match temp_called(temps, seat, folder_view(at.node), document.id, old_name) {
         Some(temp) => Ok(FileUpdate::Turn {
             name: temp.file.replica(alloc)?,
         }),
@@ -273,16 +273,13 @@ fn renamed(
     }
 }
 
-/// The view of the document's folder that a caller sees at a node.
-fn folder_view(at: &At) -> Option<u32>
-    ensures { (s : State) (naming : Option Naming) (temp : Option TempOf) →
-        Lends at.now.book.now s → IfSome result (λ view. view
-        ≡ view_of_folder (place_of_node s at.now.who.now naming temp at.now.node)) }
+/// The view of the document's folder that a number names.
+fn folder_view(node: u64) -> u32
+    ensures { result ≡ view_in (place_named node) }
 {
-    folder_seen(at)?;
-    match place_of(at.node)? {
-        Place::Folder { view, .. } => Some(view),
-        _ => None,
+    match place_of(node) {
+        Some(Place::Folder { view, .. }) => view,
+        _ => 0,
     }
 }
 
@@ -296,7 +293,7 @@ fn temp_called<'a>(
 ) -> Option<&'a Temp>
     ensures { (own : Items OwnTemp) → temps_on temps.now.seats seat ≡ Some own →
         option_copied result
-        ≡ option_map (λ t. t.temp) (found_temp own view document.now name.now) }
+        ≡ option_map (λ t. t.temp) (found_temp own view document name.now) }
 {
     let k = temps.find(seat, view, document, name)?;
     temps.get(seat, k)
@@ -481,8 +478,13 @@ pub fn file_item(
         (λ item. told_if item ≡ map item_of (news_of (change_of update.now) after.now)) }
 {
     match update {
-        FileUpdate::Write { content, .. } if content.is_empty() => Ok(None),
-        FileUpdate::Write { name, .. } | FileUpdate::Resize { name, .. } => {
+        FileUpdate::Write { name, content, .. } => {
+            if content.is_empty() {
+                return Ok(None);
+            }
+            Ok(Some(bytes_item(alloc, after, &name.path, name.generation)?))
+        }
+        FileUpdate::Resize { name, .. } => {
             Ok(Some(bytes_item(alloc, after, &name.path, name.generation)?))
         }
         FileUpdate::Create { path, .. } => Ok(Some(bytes_item(alloc, after, path, 0)?)),
