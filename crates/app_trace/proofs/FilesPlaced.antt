@@ -227,10 +227,10 @@ module _ (items : List FileItem)
     (differ : IsDistinct is_same (map (λ (f : File). f.path) (listed (present_items items))))
     (i : ℕ) (x : FileItem) (inside : i < length items) (is : x ≡ get_or items i x) (held : Held)
     (added : AreAdded (take i items) held) where
-  front : List FileItem
+  abbrev front : List FileItem
   front = take i items
 
-  behind : List FileItem
+  abbrev behind : List FileItem
   behind = drop (i + 1) items
 
   whole : items ≡ front ++ x ∷ behind

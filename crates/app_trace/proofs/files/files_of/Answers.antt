@@ -1,4 +1,4 @@
-use Rattle.std.proofs.Common.{◌≡◌, List, map, ap, sym, subst, true, ◌∙◌}
+use Rattle.std.proofs.Common.{◌≡◌, List, map, sym, subst, true, ◌∙◌}
 use Rattle.std.proofs.lemmas.List.{take_all}
 use Rattle.std.specs.List.{list_all, IsDistinct}
 use Rattle.portal_base.specs.Names.{is_host_path, is_same}
