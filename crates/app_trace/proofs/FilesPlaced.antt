@@ -1,7 +1,7 @@
 -- The files of an opening state, each put at its place.
-use Rattle.std.proofs.Common.{◌≡◌, ℕ, ◌+◌, ◌<◌, List, [], ◌∷◌, ◌++◌, length, map, take, drop, get_or, Bool, true, false, not, ◌==◌, ◌||◌, cond, Option, Some, None, refl, sym, ap, subst, ◌∙◌, arith}
-use Rattle.std.proofs.lemmas.Bool.Decides.{nat_tests}
-use Rattle.std.proofs.lemmas.List.{append_assoc, map-append, take-append-drop}
+use Rattle.std.proofs.Common.{◌≡◌, ℕ, ◌+◌, ◌<◌, List, [], ◌∷◌, ◌++◌, length, map, take, drop, get_or, Bool, true, false, not, ◌&&◌, ◌||◌, cond, Option, Some, None, refl, sym, ap, subst, ◌∙◌}
+use Rattle.std.proofs.lemmas.List.{append-nil, append_assoc, map-append, take-append-drop}
+use Rattle.std.proofs.lemmas.List.Elements.{filter-append}
 use Rattle.std.proofs.lemmas.List.Folds.{list_any-append}
 use Rattle.std.specs.List.{filter, AllByRecursion, IsDistinct, list_all, list_any}
 use Rattle.std.specs.List.Sorted.{IsStrictlySortedBy}
@@ -9,17 +9,19 @@ use Rattle.std.specs.Ordering.{is_lt, ordering_reverse}
 use Rattle.std.specs.declared.cmp.Ordering.TheVariants.{Less}
 use Rattle.host_tree.proofs.Entries.{same-is}
 use Rattle.portal_base.specs.Content.{file_at, is_above, is_folder, content_of, paths_of}
-use Rattle.portal_base.specs.FileChanges.{file_with, put_file}
+use Rattle.portal_base.specs.FileChanges.{put_file}
 use Rattle.portal_base.specs.Names.{is_same, parent_of, root}
 use Rattle.portal_base.specs.PathOrder.{path_order}
 use Rattle.portal_base.specs.PathOrders.{path_order_total}
 use Rattle.portal_base.specs.declared.files.File.{File}
 use Rattle.portal_base.proofs.PathsAbove.{any-paths, any-put, both}
+use Rattle.file_generations.specs.Generations.{Held, put_present}
 use Rattle.portal_model.specs.declared.opening.FileItem.{FileItem}
-use Rattle.portal_model.specs.Opening.{file_of, is_first_item}
+use Rattle.portal_model.specs.Opening.{file_of}
 use Rattle.app_world.specs.View.{path_content}
 use Rattle.document_records.proofs.Loops.{one_more}
-use Rattle.app_trace.specs.Contents.{ShowAlike}
+use Rattle.tree_files.specs.Kept.{put_hidden}
+use Rattle.app_trace.specs.Contents.{ShowAlike, with_item}
 
 -- ---- one file more, at its place or behind the others
 
@@ -124,44 +126,29 @@ present_items items = filter (λ f. f.present) items
 abbrev pub other_items : List FileItem → List FileItem
 other_items items = filter (λ f. not f.present) items
 
-number_is : (a b : ℕ) → (a == b) ≡ true → a ≡ b
-number_is a b e = grind (arith, nat_tests)
+-- what is true of the present ones and of the others is true of all
+pub all-listed : (p : File → Bool) (items : List FileItem) →
+    list_all p (listed (present_items items)) ≡ true →
+    list_all p (listed (other_items items)) ≡ true → list_all p (listed items) ≡ true
+all-listed p [] h k = refl
+all-listed p (x ∷ xs) h k = step x.present h k (all-listed p xs)
+  where
+    ps : List FileItem
+    ps = present_items xs
 
--- the first file of a path
-pub first_file : (x : FileItem) → is_first_item x ≡ true →
-    file_of x ≡ file_with x.path x.content x.moment
-first_file x h =
-    let first : x.generation ≡ 0 =
-    number_is x.generation 0 (both (x.generation == 0) x.present h).0 in
-    ap (λ (n : ℕ). record {
-      path = x.path;
-      generation = n;
-      bytes = x.content;
-      moment = x.moment;
-    }) first
+    os : List FileItem
+    os = other_items xs
 
--- where each is the first file of its path, all are present
-pub all-present : (items : List FileItem) → list_all is_first_item items ≡ true →
-    present_items items ≡ items
-all-present [] h = refl
-all-present (x ∷ xs) h =
-    let parts = both (is_first_item x) (list_all is_first_item xs) h in
-    let own = both (x.generation == 0) x.present parts.0 in
-    ap (λ (b : Bool). cond b (x ∷ present_items xs) (present_items xs)) own.1
-    ∙ ap (λ (ys : List FileItem). x ∷ ys) (all-present xs parts.1)
-
-pub none-beside : (items : List FileItem) → list_all is_first_item items ≡ true →
-    other_items items ≡ []
-none-beside [] h = refl
-none-beside (x ∷ xs) h =
-    let parts = both (is_first_item x) (list_all is_first_item xs) h in
-    let own = both (x.generation == 0) x.present parts.0 in
-    ap (λ (b : Bool). cond (not b) (x ∷ other_items xs) (other_items xs)) own.1
-    ∙ none-beside xs parts.1
-
-pub over-listed : (P : List File → Type 0) (items : List FileItem) →
-    list_all is_first_item items ≡ true → P (listed (present_items items)) → P (listed items)
-over-listed P items first h = subst P (ap listed (all-present items first)) h
+    step : (b : Bool) → list_all p (listed (cond b (x ∷ ps) ps)) ≡ true →
+        list_all p (listed (cond (not b) (x ∷ os) os)) ≡ true →
+        (list_all p (listed ps) ≡ true → list_all p (listed os) ≡ true →
+        list_all p (listed xs) ≡ true) → (p (file_of x) && list_all p (listed xs)) ≡ true
+    step true h k more =
+        let parts = both (p (file_of x)) (list_all p (listed ps)) h in
+        λ i. parts.0 i && more parts.1 k i
+    step false h k more =
+        let parts = both (p (file_of x)) (list_all p (listed os)) k in
+        λ i. parts.0 i && more h parts.1 i
 
 pub record ArePut (items : List FileItem) (files : List File) : Type 0 where
   pub found : (p : List ℕ) → file_at files p ≡ file_at (listed items) p
@@ -225,24 +212,79 @@ distinct-front (g ∷ gs) x ys h =
     ap (λ (b : Bool). cond b (Some (file_of g)) (file_at (listed gs) x.path)) (among gs x ys g.path h.0)
     ∙ distinct-front gs x ys h.1
 
+-- the present files so far stand each at its place, and the others in the order in which they came
+pub record AreAdded (items : List FileItem) (held : Held) : Type 0 where
+  pub present : ArePut (present_items items) held.present
+  pub hidden : held.hidden ≡ listed (other_items items)
+
+pub none-added : (held : Held) → held.present ≡ [] → held.hidden ≡ [] → AreAdded [] held
+none-added held p h = record {
+  present = subst (ArePut []) (sym p) none-put;
+  hidden = h;
+}
+
 module _ (items : List FileItem)
-    (differ : IsDistinct is_same (map (λ (f : File). f.path) (listed items))) (i : ℕ) (x : FileItem)
-    (inside : i < length items) (is : x ≡ get_or items i x) (files : List File)
-    (put : ArePut (take i items) files) where
-  whole : items ≡ take i items ++ x ∷ drop (i + 1) items
+    (differ : IsDistinct is_same (map (λ (f : File). f.path) (listed (present_items items))))
+    (i : ℕ) (x : FileItem) (inside : i < length items) (is : x ≡ get_or items i x) (held : Held)
+    (added : AreAdded (take i items) held) where
+  abbrev front : List FileItem
+  front = take i items
+
+  abbrev behind : List FileItem
+  behind = drop (i + 1) items
+
+  whole : items ≡ front ++ x ∷ behind
   whole =
       sym (take-append-drop (i + 1) items)
-      ∙ (ap (λ (xs : List FileItem). xs ++ drop (i + 1) items) (one_more items i x inside is)
-      ∙ append_assoc (take i items) (x ∷ []) (drop (i + 1) items))
+      ∙ (ap (λ (xs : List FileItem). xs ++ behind) (one_more items i x inside is)
+      ∙ append_assoc front (x ∷ []) behind)
 
-  pub fresh-next : file_at files x.path ≡ None
-  fresh-next = put.found x.path ∙ distinct-front (take i items) x (drop (i + 1) items)
+  parted : x.present ≡ true →
+      present_items items ≡ present_items front ++ x ∷ present_items behind
+  parted h =
+      ap present_items whole
+      ∙ (filter-append (λ (f : FileItem). f.present) front (x ∷ behind)
+      ∙ ap (λ (b : Bool). present_items front ++ cond b (x ∷ present_items behind)
+      (present_items behind)) h)
+
+  pub fresh-next : x.present ≡ true → file_at held.present x.path ≡ None
+  fresh-next h = added.present.found x.path
+      ∙ distinct-front (present_items front) x (present_items behind)
       (subst (λ (xs : List FileItem). IsDistinct is_same (map (λ (f : File). f.path) (listed xs)))
-      whole differ)
+      (parted h) differ)
 
-  pub put-next : ArePut (take (i + 1) items) (put_file (file_of x) files)
-  put-next = subst (λ (xs : List FileItem). ArePut xs (put_file (file_of x) files))
-      (sym (one_more items i x inside is)) (one-more (take i items) x files put fresh-next)
+  present-more : (b : Bool) → x.present ≡ b →
+      present_items (front ++ x ∷ []) ≡ present_items front ++ cond b (x ∷ []) []
+  present-more b h =
+      filter-append (λ (f : FileItem). f.present) front (x ∷ [])
+      ∙ ap (λ (c : Bool). present_items front ++ cond c (x ∷ []) []) h
+
+  other-more : (b : Bool) → x.present ≡ b →
+      other_items (front ++ x ∷ []) ≡ other_items front ++ cond (not b) (x ∷ []) []
+  other-more b h =
+      filter-append (λ (f : FileItem). not f.present) front (x ∷ [])
+      ∙ ap (λ (c : Bool). other_items front ++ cond (not c) (x ∷ []) []) h
+
+  added-as : (b : Bool) → x.present ≡ b → AreAdded (front ++ x ∷ [])
+      (cond b (put_present (file_of x) held) (put_hidden (file_of x) held))
+  added-as true h = record {
+    present = subst (λ (xs : List FileItem). ArePut xs (put_file (file_of x) held.present))
+        (sym (present-more true h))
+        (one-more (present_items front) x held.present added.present (fresh-next h));
+    hidden = added.hidden
+        ∙ ap listed (sym (other-more true h ∙ append-nil (other_items front)));
+  }
+  added-as false h = record {
+    present = subst (λ (xs : List FileItem). ArePut xs held.present)
+        (sym (present-more false h ∙ append-nil (present_items front))) added.present;
+    hidden = ap (λ (fs : List File). fs ++ file_of x ∷ []) added.hidden
+        ∙ (sym (map-append file_of (other_items front) (x ∷ []))
+        ∙ ap listed (sym (other-more false h)));
+  }
+
+  pub added-next : AreAdded (take (i + 1) items) (with_item x held)
+  added-next = subst (λ (xs : List FileItem). AreAdded xs (with_item x held))
+      (sym (one_more items i x inside is)) (added-as x.present refl)
 
 -- ---- what they show
 

@@ -1,4 +1,5 @@
--- Paths of which none is repeated, where equal ones stand together; and files that show the same.
+-- Paths of which none is repeated, where equal ones stand together; files that show the same; and
+-- those of an opening state, one after another.
 use Rattle.std.specs.Prelude.{◌≡◌, ℕ, List, [], ◌∷◌, Bool, false, cond, Option, Some, None}
 use Rattle.std.specs.Cmp.Lexicographic.{slice_cmp}
 use Rattle.std.specs.List.{flat_map}
@@ -6,7 +7,11 @@ use Rattle.std.specs.Ordering.{is_lt, nat_cmp}
 use Rattle.portal_base.specs.Names.{is_same}
 use Rattle.portal_base.specs.declared.files.File.{File}
 use Rattle.portal_model.specs.Content.{content_at}
+use Rattle.file_generations.specs.Generations.{Held, put_present}
 use Rattle.portal_model.specs.Documents.{same_flag}
+use Rattle.portal_model.specs.Opening.{file_of}
+use Rattle.portal_model.specs.declared.opening.FileItem.{FileItem}
+use Rattle.tree_files.specs.Kept.{put_hidden}
 use Rattle.app_trace.specs.declared.view.HeldDocument.{HeldDocument}
 
 abbrev pub first_of : List (List ℕ) → Option (List ℕ)
@@ -44,3 +49,8 @@ file_less a b = path_less a.path b.path
 -- at each path the same is there
 abbrev pub ShowAlike : List File → List File → Type 0
 ShowAlike fs gs = (path : List ℕ) → content_at fs path ≡ content_at gs path
+
+-- a file more of an opening state, present or not
+abbrev pub with_item : FileItem → Held → Held
+with_item item held =
+    cond item.present (put_present (file_of item) held) (put_hidden (file_of item) held)

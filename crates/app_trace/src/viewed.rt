@@ -1,9 +1,8 @@
 //! What an application holds of the state that a portal opens with.
 
-ghost use Rattle.std.specs.Prelude.{◌≡◌, true, IfOk};
-ghost use Rattle.std.specs.List.{list_all};
+ghost use Rattle.std.specs.Prelude.{◌≡◌, IfOk};
 ghost use Rattle.app_world.specs.View.{view};
-ghost use Rattle.portal_model.specs.Opening.{is_first_item, opened};
+ghost use Rattle.portal_model.specs.Opening.{opened};
 ghost use Rattle.portal_model.specs.Valid.{Valid};
 ghost use Rattle.app_trace.specs.Told.{view_told};
 
@@ -19,12 +18,10 @@ use portal_model::opening::OpeningState;
 use std::alloc::Global;
 
 /// What an application holds of the state that a portal opens with, in which
-/// no connection is open and each file is the first of its path: the limits that it
-/// meets, the documents in which it has a right, what is at their paths, and at and
-/// below those of folders.
+/// no connection is open: the limits that it meets, the documents in which it
+/// has a right, what is at their paths, and at and below those of folders.
 pub fn view_of(alloc: Global, opening: &OpeningState, app: &AppId) -> Result<AppView, WantOfMemory>
-    requires valid { Valid (opened opening.now) }
-    requires first { list_all is_first_item opening.now.files ≡ true }
+    requires { Valid (opened opening.now) }
     ensures { IfOk result (λ held. view_told held ≡ view (opened opening.now) app.now) }
 {
     let items = opening.documents.as_slice();

@@ -1,8 +1,8 @@
 -- The files of a tree as they are kept: the present ones by path, and those beside them.
-use Rattle.std.specs.Prelude.{◌≡◌, ℕ, ◌==◌, List, [], ◌∷◌, map, Bool, true, not, ◌||◌, Option, Some, None, cond}
+use Rattle.std.specs.Prelude.{◌≡◌, ℕ, ◌==◌, List, [], ◌∷◌, ◌++◌, map, Bool, true, not, ◌||◌, Option, Some, None, cond}
 use Rattle.std.specs.List.{list_all, list_any, IsDistinct}
 use Rattle.portal_base.specs.Content.{is_above}
-use Rattle.file_generations.specs.Generations.{Held, same_file}
+use Rattle.file_generations.specs.Generations.{Held, held_with, same_file}
 use Rattle.portal_base.specs.Names.{is_same}
 use Rattle.portal_base.specs.declared.files.File.{File}
 use Rattle.portal_base.specs.FileChanges.{cut_to, overlaid}
@@ -25,6 +25,10 @@ hidden_file f = file_kept f.path f.kept
 
 abbrev pub hidden_of : List HiddenFile → List File
 hidden_of files = map hidden_file files
+
+-- a file more, which isn't present
+abbrev pub put_hidden : File → Held → Held
+put_hidden f held = held_with held.present (held.hidden ++ f ∷ [])
 
 abbrev pub stands_in : List ℕ → File → Bool
 stands_in folder f = is_same f.path folder || is_above folder f.path

@@ -5,9 +5,9 @@ ghost use Rattle.std.specs.List.{filter, list_any, position};
 ghost use Rattle.std.specs.List.Sorted.{IsStrictlySortedBy};
 ghost use Rattle.portal_base.specs.PathOrder.{path_order};
 ghost use Rattle.portal_base.specs.Content.{file_at, file_named, is_above, is_folder, is_named, paths_of};
-ghost use Rattle.portal_base.specs.FileChanges.{change_named, file_with, new_file, put_file, resized, written};
+ghost use Rattle.portal_base.specs.FileChanges.{change_named, new_file, put_file, resized, written};
 ghost use Rattle.file_generations.specs.Generations.{all_held, change_held, freshened, put_present, turned};
-ghost use Rattle.tree_files.specs.Kept.{NamesDiffer, file_kept, hidden_file, stands_in};
+ghost use Rattle.tree_files.specs.Kept.{NamesDiffer, file_kept, hidden_file, put_hidden, stands_in};
 
 use crate::kept::{HiddenFile, KeptFile};
 use portal_base::files::{File, FileName};
@@ -102,19 +102,44 @@ impl TreeFiles {
         files_in(alloc, &self.map, path)
     }
 
-    /// Adds the first file of a path, which is present, where its path has none.
-    pub fn add(&mut self, path: HostPath, bytes: ByteList, moment: u64) -> Result<(), WantOfMemory>
-        requires { file_at self.old.present path ≡ None }
-        ensures ok { OnOk result (self.new
-            ≡ put_present (file_with path bytes moment) self.old) }
+    /// Adds a file that is present, where its path has none.
+    pub fn add(&mut self, file: File) -> Result<(), WantOfMemory>
+        requires { file_at self.old.present file.path ≡ None }
+        ensures ok { OnOk result (self.new ≡ put_present file self.old) }
         ensures err { OnErr result (self.new ≡ self.old) }
     {
+        let File {
+            path,
+            generation,
+            bytes,
+            moment,
+        } = file;
         let kept = KeptFile {
-            generation: 0,
+            generation,
             bytes,
             moment,
         };
         self.map.insert(path, kept)?;
+        Ok(())
+    }
+
+    /// Adds a file that isn't present.
+    pub fn add_hidden(&mut self, file: File) -> Result<(), WantOfMemory>
+        ensures ok { OnOk result (self.new ≡ put_hidden file self.old) }
+        ensures err { OnErr result (self.new ≡ self.old) }
+    {
+        let File {
+            path,
+            generation,
+            bytes,
+            moment,
+        } = file;
+        let kept = KeptFile {
+            generation,
+            bytes,
+            moment,
+        };
+        self.hidden.push(HiddenFile { path, kept })?;
         Ok(())
     }
 
@@ -124,8 +149,12 @@ impl TreeFiles {
         ensures ok { OnOk result (self.new ≡ put_present (new_file path.now now) self.old) }
         ensures err { OnErr result (self.new ≡ self.old) }
     {
-        let path = path.replica(alloc)?;
-        self.add(path, List::new(alloc), now)
+        self.add(File {
+            path: path.replica(alloc)?,
+            generation: 0,
+            bytes: List::new(alloc),
+            moment: now,
+        })
     }
 
     /// Makes an empty file of a name that isn't present.
@@ -133,14 +162,12 @@ impl TreeFiles {
         ensures ok { OnOk result (self.new ≡ freshened name.now now self.old) }
         ensures err { OnErr result (self.new ≡ self.old) }
     {
-        let path = name.path.replica(alloc)?;
-        let kept = KeptFile {
+        self.add_hidden(File {
+            path: name.path.replica(alloc)?,
             generation: name.generation,
             bytes: List::new(alloc),
             moment: now,
-        };
-        self.hidden.push(HiddenFile { path, kept })?;
-        Ok(())
+        })
     }
 
     /// Lets the file of a name be the present one of its path.

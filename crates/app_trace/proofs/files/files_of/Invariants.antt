@@ -1,8 +1,7 @@
-use Rattle.std.proofs.Common.{◌≡◌, [], take}
-use Rattle.app_trace.proofs.FilesPlaced.{ArePut}
+use Rattle.std.proofs.Common.{take}
+use Rattle.app_trace.proofs.FilesPlaced.{AreAdded}
 use Rattle.app_trace.proofs.files.files_of.Given as goal
 
--- each file so far has its place, and all are present
+-- the files so far
 abbrev pub invariant-loop-item : goal.invariant-loop-item
-invariant-loop-item l =
-    ArePut (take l.item-index l.item-items) l.files.present × (l.files.hidden ≡ [])
+invariant-loop-item l = AreAdded (take l.item-index l.item-items) l.files

@@ -16,11 +16,11 @@ use Rattle.app_trace.proofs.ViewedParts.{numbers_kept, viewed}
 use Rattle.app_trace.proofs.viewed.view_of.Goals as goal
 
 pub rights-requires : goal.rights-requires
-rights-requires c = rw c.as_slice-items.ensures (rights_named (opened c.args.opening.now) c.requires.valid)
+rights-requires c = rw c.as_slice-items.ensures (rights_named (opened c.args.opening.now) c.requires)
 
 pub held_documents-requires-clause-differ : goal.held_documents-requires-clause-differ
 held_documents-requires-clause-differ c =
-    rw c.as_slice-items.ensures (subst (λ (ns : List ℕ). IsDistinct nat_eq ns) (numbers_kept c.args.opening.now.documents) c.requires.valid.numbers_differ)
+    rw c.as_slice-items.ensures (subst (λ (ns : List ℕ). IsDistinct nat_eq ns) (numbers_kept c.args.opening.now.documents) c.requires.numbers_differ)
 
 pub returns : goal.returns
 returns c =
