@@ -60,6 +60,16 @@ for call, words in ((os.listxattr, []), (os.setxattr, ["user.a", b"b"])):
     except OSError as error:
         print(error.errno)
 END'''
+SAVED = r'''$PYTHON - "$NOTES" <<'END'
+import os, sys
+path = sys.argv[1]
+with open(path + "~", "x") as file:
+    file.write("saved\n")
+print(open(path).read(), end="")
+os.replace(path + "~", path)
+print(open(path).read(), end="")
+print(os.listdir(os.path.dirname(path)))
+END'''
 ANEW = 'echo hello > "$NOTES"; '
 ON_HOST = '"$FILES/project"'
 # An editor that writes the file where it stands: ed, where it is there.
@@ -160,6 +170,13 @@ COMMANDS = [
     (MODES, 0, "one\nb'ONE\\ntwo\\nthree\\n'\nour\nFileExistsError"),
     (GAPS, 0, "10 b'\\x00\\x00\\x00\\x00\\x00end\\x00\\x00' b''"),
     (WRITTEN_MAP, 0, "01abc56789"),
+    # Saving by rename
+    ('touch "$ED/$N/other.txt" && ls "$ED/$N" && rm "$ED/$N/other.txt" && ls "$ED/$N"', 0,
+     "notes.txt\nother.txt\nnotes.txt"),
+    (ANEW + SAVED, 0, "hello\nsaved\n['notes.txt']"),
+    ('cat "$FILES/notes.txt"', 0, "saved"),
+    (ANEW + 'sed -i s/hello/bye/ "$NOTES"; cat "$FILES/notes.txt"; ls -A "$ED/$N"', 0,
+     "bye\nnotes.txt"),
     ('touch "$NOTES"', 0, ""),
     ('touch "$ED/$D/draft.txt" && ls "$ED/$D" && stat -c %s "$FILES/draft.txt"', 0, "draft.txt\n0"),
     ('cp "$OUT/odd" "$ED/$D/draft.txt" && cmp odd "$FILES/draft.txt"', 0, ""),
@@ -169,7 +186,6 @@ COMMANDS = [
     (ANEW + 'echo x > "$BOOK"', 1, ""),
     ('truncate -s 0 "$BOOK"', 1, ""),
     ('dd if=/dev/zero of="$BOOK" count=1 conv=notrunc status=none', 1, ""),
-    ('touch "$ED/$N/other.txt"', 1, ""),
     ('echo x > "$ED/new.txt"', 1, ""),
     ('mkdir "$ED/$N/sub"', 1, ""),
     ('mkdir "$ED/sub"', 1, ""),
@@ -183,7 +199,8 @@ COMMANDS = [
     ('mkfifo "$ED/$N/pipe"', 1, ""),
     ('chmod 644 "$NOTES"', 1, ""),
     ('chown 12345 "$NOTES"', 1, ""),
-    ('sed -i s/hello/bye/ "$NOTES"', 4, ""),
+    (ANEW + 'sed -i.bak s/hello/bye/ "$NOTES"', 4, ""),
+    ('cp --remove-destination odd "$NOTES"', 1, ""),
     ('fallocate -l 100 "$NOTES"', 1, ""),
     ('"$NOTES"', 126, ""),
     (ATTRIBUTES, 0, "95\n95"),
