@@ -134,13 +134,13 @@ fn put_manner(alloc: Global, dice: &mut Dice, manner: &mut Manner) -> Result<(),
 fn steps(alloc: Global, dice: &mut Dice) -> Result<List<Step>, VectorError> {
     let mut list = List::new(alloc);
     for _ in 0..dice.below(12) {
-        list.push(step(dice))?;
+        list.push(any_step(dice))?;
     }
     Ok(list)
 }
 
 /// One of them.
-fn step(dice: &mut Dice) -> Step {
+fn any_step(dice: &mut Dice) -> Step {
     if dice.below(2) == 0 {
         Step::NotYet
     } else {

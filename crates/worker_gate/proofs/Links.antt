@@ -267,6 +267,7 @@ module _ {S K : Type 0} where
 
   -- no link was accepted, for want of memory
   pub ends_unbegun : (s : Sides S K) (polled : Bool) (c : Client) (a : Hall S K) (v : Seated) → Works s polled c end.Memory a v a v
+  unfolding none_yet
   ends_unbegun s polled c a v = ended s polled c end.Memory a a a v v (none_yet s polled c a v) refl (refl, refl, refl)
 
   -- a link was served, and something was made

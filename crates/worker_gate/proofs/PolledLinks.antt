@@ -106,15 +106,19 @@ module _ (c : Client) (e : Served) (a b : Spring) (v w : World) (h : ServesPolle
     joined h.deeds.items,
     refl,
     omega arith,
-    omega arith,
-    [],
-    record {
-      room = (let before = h.is.before in let within = h.is.within in omega (arith, before, within));
-      all = record { items = h.deeds.items; acts = h.deeds.acts; outcomes = h.deeds.outcomes; pieces = h.deeds.pieces; last = h.is.last; each = h.is.each; answers = h.is.answers };
-      cut = record { bytes = sym (append-nil (joined h.deeds.items)); each = h.is.each; remains = nothing_cut (phase_after c (first_phase c.kind) h.deeds.items) };
-      asked = record { entered = x; leaving = l; encloses = both; grows = record { desk = grew_as (between x h.deeds.outcomes l) is; told = refl; faults = omega arith } };
-      sound = refl;
-    },
+    (
+      omega arith,
+      (
+        [],
+        record {
+          room = (let before = h.is.before in let within = h.is.within in omega (arith, before, within));
+          all = record { items = h.deeds.items; acts = h.deeds.acts; outcomes = h.deeds.outcomes; pieces = h.deeds.pieces; last = h.is.last; each = h.is.each; answers = h.is.answers };
+          cut = record { bytes = sym (append-nil (joined h.deeds.items)); each = h.is.each; remains = nothing_cut (phase_after c (first_phase c.kind) h.deeds.items) };
+          asked = record { entered = x; leaving = l; encloses = both; grows = record { desk = grew_as (between x h.deeds.outcomes l) is; told = refl; faults = omega arith } };
+          sound = refl;
+        },
+      ),
+    ),
   )
 
   by_around : Around c Outside h.deeds.came h.deeds.outcomes Gone → Connects c v.seated w.seated

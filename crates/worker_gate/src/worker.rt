@@ -224,11 +224,17 @@ where
     let Link { source, sink } = link;
     let sink = GateSink::new(worker, sink, gate);
     let desk = GateDesk::new(worker, desk, gate);
-    let PolledEnd {
-        served,
-        desk: _,
-        link: Link { source, sink },
-    } = serve_polled(alloc, rt, task, client, desk, Link { source, sink });
+    let PolledEnd { served, desk, link } = serve_polled(
+        alloc,
+        rt,
+        task,
+        client,
+        desk,
+        Link { source, sink },
+    );
+    // What it borrows is as it leaves it.
+    drop(desk);
+    let Link { source, sink } = link;
     let link = Link {
         source,
         sink: sink.into_sink(),

@@ -1,9 +1,10 @@
-use Rattle.std.proofs.Common.{sym, subst}
+use Rattle.std.proofs.Common.{refl, sym, subst}
 use Rattle.session.specs.Ledger.{world}
 use Rattle.session.specs.Pumps.{spring}
 use Rattle.poll_laws.specs.Courses.{Standing, fresh, standing}
 use Rattle.poll_laws.specs.Laws.{Does}
 use Rattle.poll_laws.specs.Polls.{followed_by}
+use Rattle.poll_laws.proofs.Joining.{one_step}
 use Rattle.poll_laws.proofs.LawsOfPolls.{join, poll_does, whole}
 use Rattle.poll_steps.proofs.StepRuns.{nothing, runs_none}
 use Rattle.worker_gate.specs.Polled.{sight_of}
@@ -15,7 +16,7 @@ polls-init g c =
     let parts = c.new-session.ensures.parts in (
       tt,
       tt,
-      (nothing, rw (parts.0, parts.1, parts.2) (subst (λ (z : Standing). Does (fresh c.args.client) v nothing z v) (sym c.new-session.ensures.course) (record { runs = runs_none (fresh c.args.client) v; meets = tt }))),
+      (nothing, rw (parts.0, parts.1, parts.2) (subst (λ (z : Standing). Does (fresh c.args.client) v nothing z v) (sym c.new-session.ensures.course) (record { runs = runs_none (fresh c.args.client) v; order = one_step (fresh c.args.client) v nothing (fresh c.args.client) v (runs_none (fresh c.args.client) v) refl; meets = tt }))),
       rw parts.0 (g.met.D.TryDesk.stands c.args.desk),
     )
 

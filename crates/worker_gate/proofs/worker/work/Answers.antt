@@ -23,7 +23,7 @@ returns-in_default-clause-goes g c = g.met.D.Desk.stands c.args.desk.now
 
 -- the task of the polls is there where the post is polled
 pub serve_link-source-requires-clause-polled : goal.serve_link-source-requires-clause-polled
-serve_link-source-requires-clause-polled g c = c.in-Ok.ensures ∙ sym c.links.invariant.7
+serve_link-source-requires-clause-polled g c = c.links.invariant.9 ∙ sym c.links.invariant.7
 
 pub links-init : goal.links-init
 links-init g c =
@@ -43,6 +43,7 @@ links-init g c =
       refl,
       refl,
       g.met.D.Desk.stands c.args.desk.now,
+      c.in-Ok.ensures,
     )
 
 -- the link that was served
@@ -99,13 +100,14 @@ links-preserved g c =
     let o = served_one g (goal.at.links-preserved g c).After-done in (
       tt,
       tt,
-      one_more _ _ _ _ _ _ _ _ _ _ _ _ _ _ o (not_full c.serve_link-source.result.1 c.in_default.not-Full),
+      one_more _ _ _ _ _ _ _ _ _ _ _ _ _ _ o (not_full c.serve_link-source.result.1 c.in_default-served.not-Full),
       o.serves.closed,
       o.serves.known,
       i.5,
       i.6,
       i.7,
       g.met.D.Desk.follows c.args.desk.now c.links.desk c.serve_link-source.new.desk i.8 c.serve_link-source.ensures.goes,
+      i.9,
     )
 
 pub returns-in-Full-clause-works : goal.returns-in-Full-clause-works

@@ -1,4 +1,4 @@
-use Rattle.std.proofs.Common.{◌≡◌, false}
+use Rattle.std.proofs.Common.{◌≡◌, false, is_some}
 use Rattle.portal_desk.specs.Knowing.{Known}
 use Rattle.portal_model.specs.Seated.{is_open, state_seen}
 use Rattle.session.specs.Standings.{client}
@@ -23,3 +23,4 @@ invariant-links g l =
     × (l.post.kind ≡ l.fn.post.kind)
     × (l.post.polled ≡ l.fn.post.polled)
     × g.D.Desk.goes l.fn.desk l.desk
+    × (is_some l.task ≡ l.fn.post.polled)
