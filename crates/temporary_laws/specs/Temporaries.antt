@@ -1,7 +1,7 @@
 -- Temporaries, and who is told of them. A temporary is a file that a connection made beside a
 -- document's own, to be renamed onto its name (FUSE_CREATE and FUSE_RENAME of
 -- include/uapi/linux/fuse.h). Until then it is the file of that connection alone.
-use Rattle.std.specs.Prelude.{◌≡◌, ℕ, ◌==◌, List, [], ◌∷◌, ◌++◌, Bool, true, false, Some, None}
+use Rattle.std.specs.Prelude.{◌≡◌, ℕ, List, [], false, Some, None}
 use Rattle.std.specs.List.{All}
 use Rattle.portal_base.specs.Content.{file_named}
 use Rattle.file_generations.specs.Generations.{Held}
@@ -13,7 +13,7 @@ use Rattle.portal_model.specs.declared.request.NodeRequest.{NodeRequest}
 use Rattle.portal_model.specs.declared.request.Request.{Request}
 use Rattle.portal_model.specs.declared.state.Connection.{Connection}
 use Rattle.portal_model.specs.declared.temporary.OwnTemp.{OwnTemp}
-use Rattle.portal_model.specs.History.{Legal, makes, run}
+use Rattle.portal_model.specs.History.{Legal, run}
 use Rattle.portal_model.specs.Lawful.{Lawful}
 use Rattle.portal_model.specs.Opening.{opened_over}
 use Rattle.portal_model.specs.State.{State, connection_of, is_app}
