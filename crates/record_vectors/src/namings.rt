@@ -1,5 +1,8 @@
 //! Names below exported folders that connections name.
 
+ghost use Rattle.std.specs.Prelude.{IsSome};
+ghost use Rattle.folder_documents.specs.Named.{named_on};
+
 use crate::names::put_bytes;
 use crate::rights::{document_id, put_found};
 use folder_documents::{Naming, NamingError, Namings, child_path};
@@ -112,7 +115,9 @@ fn put_room(
     namings: &mut Namings,
     seat: u32,
     rest: &str,
-) -> Result<(), VectorError> {
+) -> Result<(), VectorError>
+    requires { IsSome (named_on namings.old seat) }
+{
     let naming = naming_of(alloc, rest)?;
     let answer = namings.reserve(seat, &naming);
     drop(naming);
