@@ -1,13 +1,15 @@
 -- Where the history has room for all that is asked at the posts of a turn, none is left behind it.
-use Rattle.std.proofs.Common.{◌≡◌, ℕ, suc, ◌+◌, ◌≤◌, ◌<◌, List, [], ◌∷◌, ◌++◌, Some, true, drop, length, refl, sym, ap, ◌∙◌, subst, arith}
+use Rattle.std.proofs.Common.{◌≡◌, ℕ, suc, ◌+◌, ◌≤◌, ◌<◌, List, [], ◌∷◌, ◌++◌, Bool, Some, true, false, drop, length, refl, sym, ap, ◌∙◌, subst, arith}
 use Rattle.std.specs.Prelude.{slice_get}
 use Rattle.std.specs.List.{list_any}
 use Rattle.std.proofs.Math.Seq.{drop-append_seam}
 use Rattle.std.proofs.lemmas.List.{append-nil}
 use Rattle.portal_base.specs.declared.limits.Settings.{Settings}
 use Rattle.portal_model.specs.declared.entry.Entry.{Entry}
+use Rattle.portal_model.specs.declared.reply.Refused.{Refused}
+use Rattle.portal_model.specs.declared.request.Request.{Request}
 use Rattle.portal_model.specs.History.{cost, cost_of, of_seat, run}
-use Rattle.portal_model.specs.Seated.{Exchange, exchanges}
+use Rattle.portal_model.specs.Seated.{Exchange, Seated, exchanges}
 use Rattle.portal_model.specs.State.{State}
 use Rattle.portal_model.proofs.Histories.{cost-append, of_seat-append}
 use Rattle.portal_model.proofs.SeatLaws.{exchanges-append, exchanges-entries}
@@ -17,6 +19,7 @@ use Rattle.session.specs.Standings.{client}
 use Rattle.worker_gate.specs.declared.worker.Post.{Post}
 use Rattle.worker_gate.specs.declared.worker.WorkEnd.{WorkEnd}
 use Rattle.worker_gate.specs.declared.worker.WorkEnd.TheVariants as end
+use Rattle.worker_gate.specs.Polled.{CausedBy}
 use Rattle.worker_gate.specs.Working.{EndsFull, Hall, Sides}
 use Rattle.cost_laws.specs.Links.{end_cost}
 use Rattle.cost_laws.specs.Seats.{AreOfSeats}
@@ -41,6 +44,26 @@ left_at (end.Memory ∷ ends) e = let rest = left_at ends e in (suc rest.0, rest
 no_more : (xs ys : List Entry) → xs ++ ys ≡ xs → ys ≡ []
 no_more xs ys e = sym (drop-append_seam xs ys)
     ∙ (ap (drop (length xs)) (e ∙ sym (append-nil xs)) ∙ drop-append_seam xs [])
+
+-- a refusal for want of room, wherever it was met, is past what is seen since
+caused_past : (polled : Bool) (v w : Seated) (request : Request) (now limit : ℕ)
+    → CausedBy polled v w request (Refused.Full now limit)
+    → w.opening.limits.history < cost w.seen + cost_of request
+caused_past false v w request now limit h =
+    let is = h.0 in
+    let limited = h.1 in
+    let past = h.2 in
+    omega (arith, is, limited, past)
+caused_past true v w request now limit h =
+    let d : Seated = h.0 in
+    let is : now ≡ cost d.seen = h.3.0 in
+    let limited : limit ≡ d.opening.limits.history = h.3.1 in
+    let past : limit < now + cost_of request = h.3.2 in
+    let limits : w.opening.limits.history ≡ d.opening.limits.history =
+    ap (λ (x : State). x.limits.history) h.2.opening in
+    let seen : cost w.seen ≡ cost d.seen + cost h.2.begins.0 =
+    ap cost h.2.begins.1 ∙ cost-append d.seen h.2.begins.0 in
+    omega (arith, is, limited, past, limits, seen)
 
 module _ {L S K : Type 0} (s : Sides S K) (hall_of : L → Hall S K) (settings : Settings) (o : State)
     (base log : List Entry) where
@@ -67,16 +90,17 @@ module _ {L S K : Type 0} (s : Sides S K) (hall_of : L → Hall S K) (settings :
       → ServesPost s hall_of settings o base log seat p (end.Full now limit) q
       → o.limits.history < cost log + cost_of (enter (client_of p))
   past_limit seat p q now limit h =
-      let full : EndsFull (client_of p) now limit h.works.visits (newcomer o base seat) h.last =
+      let full : EndsFull p.polled (client_of p) now limit h.works.visits (newcomer o base seat)
+      h.last =
       h.works.ends.0 in
-      let is = full.cause.0 in
-      let limited = full.cause.1 in
-      let past = full.cause.2 in
+      let past =
+      caused_past p.polled (newcomer o base seat) h.last (enter (client_of p)) now limit full.cause
+      in
       let limits : h.last.opening.limits.history ≡ o.limits.history =
       ap (λ (x : State). x.limits.history) h.works.moved.opening in
       let seen : cost log ≡ cost h.last.seen + cost h.seen.0 =
       ap cost h.seen.1 ∙ cost-append h.last.seen h.seen.0 in
-      omega (arith, is, limited, past, limits, seen)
+      omega (arith, past, limits, seen)
 
   module _ (posts : List (Post L)) (ends : List WorkEnd) (back : List (Post L))
       (t : ServesPosts s hall_of settings o base log posts ends back) (total : ℕ)

@@ -1,7 +1,7 @@
 -- What stands at a place of a list, and of the list of what a function gives of its items.
 use Rattle.std.proofs.Common.{◌≡◌, ℕ, zero, suc, ◌<◌, List, [], ◌∷◌, ◌++◌, Some, length, map, refl, sym, ap, ◌∙◌, subst, arith}
 use Rattle.std.specs.Prelude.{slice_get, slice_index_or, take, drop}
-use Rattle.std.proofs.lemmas.List.{length-map}
+use Rattle.std.proofs.lemmas.List.{append-nil, length-map}
 
 pub at_map : {X Y : Type 0} (f : X → Y) (xs : List X) (k : ℕ) (y : Y) → slice_get (map f xs) k ≡ Some y → (x : X) × (slice_get xs k ≡ Some x) × (f x ≡ y)
 at_map f [] k y e = absurd (cc)
@@ -50,3 +50,14 @@ written_back (x ∷ xs) (y ∷ ys) e = ap (λ l. x ∷ l) (written_back xs ys (o
 -- a list of what a function gives of items is as long as what the items came of
 pub as_long : {X Y Z W : Type 0} (f : X → Y) (ys : List Y) (vs : List X) (ws : List Z) (ps : List W) (n : ℕ) → ys ≡ map f vs → length vs ≡ length ws → length ws ≡ n → n ≡ length ps → length ys ≡ length ps
 as_long f ys vs ws ps n e v w n_is = ap length e ∙ (length-map vs f ∙ (v ∙ (w ∙ n_is)))
+
+-- where nothing is left behind a front, the front is all
+none_left : {X : Type 0} (n : ℕ) (xs : List X) → n ≡ length xs → n ≡ 0 → xs ≡ []
+none_left n [] e z = refl
+none_left n (x ∷ xs) e z = grind (arith, e, z)
+
+pub all_gone : {X : Type 0} {n : ℕ} (front left whole : List X) → n ≡ length left → n ≡ 0 → front ++ left ≡ whole → front ≡ whole
+all_gone front left whole e z h = sym (append-nil front) ∙ (ap (λ xs. front ++ xs) (sym (none_left _ left e z)) ∙ h)
+
+pub all_gone_by : {X Y : Type 0} {n : ℕ} (f : X → Y) (front : List Y) (left : List X) (whole : List Y) → n ≡ length left → n ≡ 0 → front ++ map f left ≡ whole → front ≡ whole
+all_gone_by f front left whole e z h = sym (append-nil front) ∙ (ap (λ xs. front ++ map f xs) (sym (none_left _ left e z)) ∙ h)
