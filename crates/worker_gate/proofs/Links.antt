@@ -24,7 +24,7 @@ use Rattle.worker_gate.specs.declared.listener.Link.{Link}
 use Rattle.worker_gate.specs.declared.worker.WorkEnd.{WorkEnd}
 use Rattle.worker_gate.specs.declared.worker.WorkEnd.TheVariants as end
 use Rattle.worker_gate.specs.Listening.{Accepts, Links, link, links, returned}
-use Rattle.worker_gate.specs.Working.{EndsFull, EndsWork, Hall, Passes, ServesLink, ServesLinks, Sides, Visit, Works, any_full, is_full, joined, spring_of, visit, world_of}
+use Rattle.worker_gate.specs.Working.{EndsWork, Hall, Passes, ServesLink, ServesLinks, Sides, Visit, Works, any_full, is_full, joined, spring_of, visit, world_of}
 use Rattle.worker_gate.specs.Polled.{CausedBy, ServesBy, ServesPolled}
 use Rattle.worker_gate.proofs.Parts.{moved_none, part_by}
 use Rattle.worker_gate.proofs.PolledLinks.{polled_connects, refused_full}

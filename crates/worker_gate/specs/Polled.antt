@@ -1,5 +1,5 @@
 -- What a connection came to that was polled, over a source and a sink that wait themselves.
-use Rattle.std.specs.Prelude.{◌≡◌, ℕ, Bool, true, false}
+use Rattle.std.specs.Prelude.{ℕ, Bool, true, false}
 use Rattle.poll_ends.specs.Outside.{faults_alone, flat}
 use Rattle.poll_laws.specs.Courses.{Sight, Standing, sight}
 use Rattle.poll_laws.specs.Laws.{IsConnection}

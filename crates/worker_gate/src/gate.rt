@@ -64,6 +64,19 @@ impl<'a, D: Desk, G: Gate> GateDesk<'a, D, G> {
     {
         GateDesk { worker, desk, gate }
     }
+
+    /// The desk again.
+    pub fn into_desk(self) -> &'a mut D
+        ensures same_desk { result.ghost_name ≡ name_of_desk self.entry }
+        ensures as_it_is { result.now ≡ desk_of self.entry }
+    {
+        let GateDesk {
+            worker: _,
+            desk,
+            gate: _,
+        } = self;
+        desk
+    }
 }
 
 impl<'a, D: Desk, G: Gate> Desk for GateDesk<'a, D, G> {

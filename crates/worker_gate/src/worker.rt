@@ -232,8 +232,7 @@ where
         desk,
         Link { source, sink },
     );
-    // What it borrows is as it leaves it.
-    drop(desk);
+    let _ = desk.into_desk();
     let Link { source, sink } = link;
     let link = Link {
         source,

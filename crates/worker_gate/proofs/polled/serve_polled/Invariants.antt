@@ -1,4 +1,3 @@
-use Rattle.std.proofs.Common.{ℕ}
 use Rattle.session.specs.Ledger.{world}
 use Rattle.session.specs.Pumps.{spring}
 use Rattle.poll_laws.specs.Courses.{fresh, standing}
