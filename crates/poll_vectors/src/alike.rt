@@ -28,6 +28,21 @@ impl Dice {
     }
 }
 
+/// Random streams of a client.
+#[derive(Drop)]
+struct Streams {
+    /// What is drawn.
+    dice: Dice,
+    /// The bytes at the front of each.
+    front: ByteList,
+    /// What may stand behind them.
+    items: List<ByteList>,
+    /// The client, with the stream that was drawn last.
+    client: Client,
+    /// How its connection is polled.
+    manner: Manner,
+}
+
 /// `alike SEED COUNT WHO KIND OPTIONS BYTES | ITEM | ITEM ..`: how many of so many random
 /// streams come to the same, each served by `serve_connection` and polled in a random
 /// manner. A stream is the bytes and up to seven of the items behind them; now and then its
@@ -35,25 +50,64 @@ impl Dice {
 pub fn alike(task: &MockTask, alloc: Global, rest: &str) -> Result<String, VectorError> {
     let (seed, rest) = cut(rest);
     let (count, rest) = cut(rest);
+    let count = number(count)?;
+    let mut streams = streams_of(alloc, number(seed)?, rest)?;
+    let alike = count_alike(task, alloc, &mut streams, count)?;
+    Ok(format!(in alloc; "{alike} of {count} alike")?)
+}
+
+/// The streams of a line.
+fn streams_of(alloc: Global, seed: u64, rest: &str) -> Result<Streams, VectorError> {
     let (line, words) = rest.split_once('|').unwrap_or((rest, ""));
     let (client, manner) = read_line(alloc, line)?;
     let front = List::copied(alloc, client.input.as_slice())?;
     let items = items(alloc, words)?;
-    let mut dice = Dice {
-        state: number(seed)?.max(1),
-    };
-    let count = number(count)?;
-    let mut client = client;
-    let mut manner = manner;
+    Ok(Streams {
+        dice: Dice { state: seed.max(1) },
+        front,
+        items,
+        client,
+        manner,
+    })
+}
+
+/// How many of so many streams come to the same.
+fn count_alike(
+    task: &MockTask,
+    alloc: Global,
+    streams: &mut Streams,
+    count: u64,
+) -> Result<u64, VectorError> {
     let mut alike = 0u64;
     for _ in 0..count {
-        client.input = stream(alloc, &mut dice, front.as_slice(), items.as_slice())?;
-        put_manner(alloc, &mut dice, &mut manner)?;
-        if is_alike(task, alloc, &client, &manner)? {
+        if is_next_alike(task, alloc, streams)? {
             alike = alike.saturating_add(1);
         }
     }
-    Ok(format!(in alloc; "{alike} of {count} alike")?)
+    Ok(alike)
+}
+
+/// Whether the next stream comes to the same.
+fn is_next_alike(
+    task: &MockTask,
+    alloc: Global,
+    streams: &mut Streams,
+) -> Result<bool, VectorError> {
+    draw(alloc, streams)?;
+    is_alike(task, alloc, &streams.client, &streams.manner)
+}
+
+/// Draws a stream, and a manner.
+fn draw(alloc: Global, streams: &mut Streams) -> Result<(), VectorError> {
+    let dice = &mut streams.dice;
+    let input = stream(
+        alloc,
+        dice,
+        streams.front.as_slice(),
+        streams.items.as_slice(),
+    )?;
+    streams.client.input = input;
+    put_manner(alloc, dice, &mut streams.manner)
 }
 
 /// The items of a line.
