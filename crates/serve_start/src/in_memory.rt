@@ -2,6 +2,7 @@
 
 ghost use Rattle.std.specs.Prelude.{◌≡◌, false, true};
 ghost use Rattle.std.specs.Option.{ForSome};
+ghost use Rattle.std.proofs.Props.{props};
 ghost use Rattle.portal_base.specs.Outside.{HasRisen};
 ghost use Rattle.portal_start.specs.Loading.{BeganFirst};
 
@@ -83,7 +84,7 @@ pub struct MemoryOpeners<L, T: HostTree, K, W> {
     listeners: vec::IntoIter<L>,
     faults: u64,
     ghost fresh: { ForSome tree (λ t. (T.is t).told ≡ (T.is t).began) },
-    ghost first: { ForSome tree (λ t. BeganFirst (T.is t).began) },
+    ghost first: { ForSome tree (λ t. BeganFirst (T.is t).began) } by { Prim.hlevel props },
 }
 
 impl<L, T: HostTree, K, W> MemoryOpeners<L, T, K, W> {

@@ -1,6 +1,6 @@
 //! What a service is opened from.
 
-ghost use Rattle.std.specs.Prelude.{◌≡◌, ◌≤◌, ℕ, List, IfErr, IfOk};
+ghost use Rattle.std.specs.Prelude.{◌≡◌, ◌≤◌, ◌⊎◌, ℕ, List, IfErr, IfOk};
 ghost use Rattle.portal_start.specs.Loading.{BeganFirst};
 ghost use Rattle.serve_start.specs.Openings.{IsFewFiles, IsOfRoot, IsOfSeed, IsOfSocket, IsOfStore, IsOfThreads, Opens};
 
@@ -77,10 +77,11 @@ pub trait Openers<L, T: HostTree, K, C, W> {
     fn expect(&mut self, posts: u64)
         ensures { faults self.new ≡ faults self.old };
 
-    /// All posts have ended: whether their sockets stood.
+    /// All posts have ended: whether their sockets stood. They don't where one can't be put in
+    /// its place, or some posts had no thread.
     fn close(&mut self) -> Result<(), ServeEnd>
         ensures opens { Opens (faults self.old) result (faults self.new) }
-        ensures end { IfErr result IsOfSocket };
+        ensures end { IfErr result (λ end. IsOfSocket end ⊎ IsOfThreads end) };
 
     /// What a store says of the fault that it met.
     fn fault_of(&self, keeper: &K) -> Result<String, WantOfMemory>;
