@@ -773,8 +773,15 @@ class Opcode(enum.IntEnum):
 
 
 ROOT = 1
+# The kind of a node's number that tells a file which is to be renamed onto a document's name.
+TEMPORARY = 5
 FATTR_SIZE, FATTR_FH = 8, 64
 GETATTR_FH = 1
+
+
+def is_temporary(node):
+    """Whether a node is of a file that was made beside a document's own."""
+    return node >> 32 & 15 == TEMPORARY
 
 
 def read_attr(data):
@@ -861,7 +868,8 @@ class Mount(Stream):
         return struct.unpack_from("<Q", got)[0]
 
     def create(self, folder, name, flags=os.O_RDWR):
-        """Makes a document's file where it isn't there: what it is, and a handle."""
+        """Makes a document's file where it isn't there, or under another name one that may be
+        renamed onto it, and that goes with the connection: what it is, and a handle."""
         body = struct.pack("<IIII", flags, 0o600, 0, 0) + os.fsencode(name) + b"\0"
         got = self.ask(Opcode.CREATE, folder, body)
         return read_attr(got[40:]), struct.unpack_from("<Q", got, 128)[0]
@@ -969,8 +977,14 @@ class Mount(Stream):
             node = entry.stat.st_ino
             handle = self.open_node(node, access)
         elif name is not None and mode == "wb":
-            stat, handle = self.create(self._node(above), name, os.O_WRONLY)
+            folder = self._node(above)
+            stat, handle = self.create(folder, name, os.O_WRONLY)
             node = stat.st_ino
+            if is_temporary(node):
+                # It would go with this connection, and with it all that is written.
+                self.release(node, handle)
+                self.unlink(folder, name)
+                raise MountError(errno.EACCES, "the document has another name")
         else:
             raise MountError(errno.ENOENT, "no file is there")
         buffered = {"rb": io.BufferedReader, "r+b": io.BufferedRandom, "wb": io.BufferedWriter}
