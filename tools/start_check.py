@@ -78,9 +78,14 @@ def few_threads(see, folder):
     # The system counts no threads of root.
     user = NOBODY if os.geteuid() == 0 else None
     os.chmod(folder, 0o777)
-    see("32 threads of 16", refusal(
-        run(*service.words, limits=[(resource.RLIMIT_NPROC, 16 if user else 1)], user=user),
-        "docportal: no socket: "))
+    status, out, said = run(*service.words, user=user,
+                            limits=[(resource.RLIMIT_NPROC, 16 if user else 1)])
+    if user:
+        # The files' folder is root's, so that user keeps none there that isn't present.
+        told, said = said.split("\n", 1)
+        see("who can't save by rename is told",
+            told.startswith("docportal: no saving by rename: /.docportal: "))
+    see("32 threads of 16", refusal((status, out, said), "docportal: no socket: "))
     limits = [(resource.RLIMIT_AS, 1 << 30), (resource.RLIMIT_NOFILE, 4096)]
     # A program that is checked while it runs takes more address space than that.
     if run("--version", limits=limits)[0] == 0:
