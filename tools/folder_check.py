@@ -17,6 +17,7 @@ APP = "org.ed"
 NAMES_LIMIT = 65536
 # So many files, and as many documents of their folder as make that many names of them.
 FILES = 1024
+FLIGHT = 64
 UNKNOWN_INO = 0xffffffff
 NO_TEXT = b"\xff.txt"
 # How long the names of a connection may take, in seconds.
@@ -202,17 +203,21 @@ def what_goes(see, service, document):
 
 
 def names_below(see, mount, documents, names):
-    """LOOKUPs of all names below each document, with all of one document under way: whether that
+    """LOOKUPs of all names below each document, with many of one document under way: whether that
     was done in time. A program that is checked while it runs takes a hundred times as long."""
     begun = time.monotonic()
     for at, document in enumerate(documents):
         node = 2 << 32 | int(document, 16)
-        for name in names:
-            mount.post(Opcode.LOOKUP, node, name)
         numbers = []
-        for _ in names:
-            _, error, got = mount.reply()
-            numbers.append(error or struct.unpack_from("<Q", got)[0] - (4 << 32) - at * FILES)
+        for first in range(0, len(names), FLIGHT):
+            # (as many answers as a socket takes, be each sent by itself)
+            some = names[first:first + FLIGHT]
+            for name in some:
+                mount.post(Opcode.LOOKUP, node, name)
+            for _ in some:
+                _, error, got = mount.reply()
+                numbers.append(
+                    error or struct.unpack_from("<Q", got)[0] - (4 << 32) - at * FILES)
         see("the names below document %d" % at, numbers == list(range(1, FILES + 1)))
         if time.monotonic() - begun > PATIENCE:
             return False
