@@ -18,13 +18,6 @@ use worker_gate::gate::{Gate, Point};
 /// How many milliseconds a post waits that can take no connection, before it tries again.
 const PAUSE: u64 = 100;
 
-/// How many milliseconds a post that is about to accept waits before it looks again whether
-/// all others are.
-const STEP: u64 = 10;
-
-/// How often it looks: for a minute.
-const LOOKS: u64 = 6000;
-
 /// A socket that is made, and is to stand at its path.
 #[derive(Drop)]
 pub struct Place {
@@ -45,35 +38,26 @@ pub struct Hall {
     pub places: List<Place>,
 }
 
-/// Why the sockets don't stand.
+/// Why a socket couldn't be put in its place.
 #[derive(Drop)]
-enum StandFault {
-    /// One couldn't be put in its place.
-    Place {
-        /// The number of the place, from 0.
-        number: usize,
-        /// What the system says.
-        error: io::Error,
-    },
-    /// Some posts have no thread.
-    FewThreads,
+struct PlaceFault {
+    /// The number of the place, from 0.
+    number: usize,
+    /// What the system says.
+    error: io::Error,
 }
 
 /// What the posts of a service share.
 ///
 /// Their sockets are put in their places when the last post is about to accept for the
 /// first time, and then one line on standard output tells that they stand. Where one
-/// can't be, none stays, and all posts end; and so it is where the last post doesn't come to
-/// that in a minute, since some have no thread.
+/// can't be, none stays, and all posts end.
 #[derive(Drop)]
 pub struct Standing<'a> {
     system: &'a HostRuntime,
     hall: OnceLock<Hall>,
-    posts: AtomicU64,
     to_begin: AtomicU64,
-    // Who sets it puts the sockets in their places, or gives up.
-    decided: AtomicBool,
-    fault: OnceLock<StandFault>,
+    fault: OnceLock<PlaceFault>,
     told_wait: AtomicBool,
     rounds: Rounds<'a>,
 }
@@ -84,9 +68,7 @@ impl<'a> Standing<'a> {
         Standing {
             system,
             hall: OnceLock::new(),
-            posts: AtomicU64::new(0),
             to_begin: AtomicU64::new(0),
-            decided: AtomicBool::new(false),
             fault: OnceLock::new(),
             told_wait: AtomicBool::new(false),
             rounds: Rounds::new(system),
@@ -116,28 +98,15 @@ impl<'a> Standing<'a> {
 
     /// So many posts are to begin before the sockets are put in their places.
     pub fn expect(&self, posts: u64) {
-        self.posts.store(posts, Ordering::SeqCst);
         self.to_begin.store(posts, Ordering::SeqCst);
         self.rounds.expect(posts);
     }
 
     /// The socket that couldn't be put in its place, where there was one, and why.
     pub fn fault(&self) -> Option<(&Place, &io::Error)> {
-        match self.fault.get()? {
-            StandFault::Place { number, error } => {
-                let place = self.hall.get()?.places.get(*number)?;
-                Some((place, error))
-            }
-            StandFault::FewThreads => None,
-        }
-    }
-
-    /// How many posts there are, where some have no thread.
-    pub fn lacks_threads(&self) -> Option<u64> {
-        match self.fault.get()? {
-            StandFault::Place { .. } => None,
-            StandFault::FewThreads => Some(self.posts.load(Ordering::SeqCst)),
-        }
+        let fault = self.fault.get()?;
+        let place = self.hall.get()?.places.get(fault.number)?;
+        Some((place, &fault.error))
     }
 
     /// Takes the sockets away that were made and don't stand.
@@ -155,7 +124,7 @@ impl<'a> Standing<'a> {
         for (number, place) in hall.places.as_slice().iter().enumerate() {
             let path = place.path.as_str();
             if let Err(error) = hall.folder.show(self.system, number, path) {
-                self.give_up(hall, number, StandFault::Place { number, error });
+                self.give_up(hall, PlaceFault { number, error });
                 return;
             }
         }
@@ -163,25 +132,9 @@ impl<'a> Standing<'a> {
         self.tell_ready(hall);
     }
 
-    /// Waits until the last post is about to accept. Where it isn't in a minute, no socket is
-    /// put in its place, and all posts end.
-    fn await_others(&self) {
-        for _ in 0..LOOKS {
-            if self.decided.load(Ordering::SeqCst) {
-                return;
-            }
-            thread::sleep(self.system, Duration::from_millis(STEP));
-        }
-        if self.decided.swap(true, Ordering::SeqCst) {
-            return;
-        }
-        if let Some(hall) = self.hall.get() {
-            self.give_up(hall, 0, StandFault::FewThreads);
-        }
-    }
-
-    /// Takes away again the sockets that stand already, the first so many, and ends all accepts.
-    fn give_up(&self, hall: &Hall, shown: usize, fault: StandFault) {
+    /// Takes the sockets away again that stand already, and ends all accepts.
+    fn give_up(&self, hall: &Hall, fault: PlaceFault) {
+        let shown = fault.number;
         // Ahead of the ends of posts, which aren't told then.
         let _ = self.fault.try_set(fault);
         for place in hall.places.as_slice().iter().take(shown) {
@@ -210,12 +163,8 @@ impl<'a> Standing<'a> {
 
 impl<'a> Watch for Standing<'a> {
     fn begin(&self) -> bool {
-        let is_last = self.to_begin.fetch_sub(1, Ordering::SeqCst) == 1;
-        if is_last && !self.decided.swap(true, Ordering::SeqCst) {
+        if self.to_begin.fetch_sub(1, Ordering::SeqCst) == 1 {
             self.show();
-        } else {
-            // A post that has no thread of its own begins once another has ended.
-            self.await_others();
         }
         self.fault.get().is_none()
     }
