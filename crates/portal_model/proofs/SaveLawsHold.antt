@@ -16,7 +16,7 @@ use Rattle.portal_model.specs.declared.state.Document.{Document}
 use Rattle.portal_model.specs.declared.temporary.OwnTemp.{OwnTemp}
 use Rattle.portal_model.specs.Bus.{is_tree, moment_given}
 use Rattle.portal_model.specs.Errno.{eacces, einval, enametoolong, enoent, eperm, exdev}
-use Rattle.portal_model.specs.Node.{bytes_named, bytes_of, facts_of, files_after, node_given, node_walk, settled_on_node, walk_on_node, handles_after, node_done}
+use Rattle.portal_model.specs.Node.{facts_of, files_after, node_given, node_walk, settled_on_node, walk_on_node, handles_after, node_done}
 use Rattle.portal_model.specs.NodeOutside.{LawfulNode}
 use Rattle.portal_model.specs.NodeVerdict.{NodeDoing, NodeVerdict, FileChange, FilesStay, Writes, Resizes, Creates, Adds, Stands, HandlesStay, Errs, Yields, changes_temps, errs_if, HandleChange, is_dots}
 use Rattle.portal_model.specs.Outside.{files_told}
@@ -117,15 +117,15 @@ files-same s v name b (Adds of now) h = absurd h
 files-same s v name true (Stands of) h = turned-named of s.hidden s.files v.files_differ v.generations_sound.apart name
 files-same s v name false (Stands of) h = refl
 
-bytes-stay : (s : State) (v : Valid s) (c : Connection) (name : FileName) (o : Option NodeVerdict) → IfMet (files_told s) Moves o → bytes_named (all_held (held_in (settled_on_node s c o).0)) name ≡ bytes_named (all_held (held_in s)) name
-bytes-stay s v c name None h = refl
-bytes-stay s v c name (Some (Errs errno)) h = refl
-bytes-stay s v c name (Some (Yields d)) h = ap bytes_of (files-same s v name s.told d.file h.1)
+files-stay : (s : State) (v : Valid s) (c : Connection) (name : FileName) (o : Option NodeVerdict) → IfMet (files_told s) Moves o → file_named (all_held (held_in (settled_on_node s c o).0)) name ≡ file_named (all_held (held_in s)) name
+files-stay s v c name None h = refl
+files-stay s v c name (Some (Errs errno)) h = refl
+files-stay s v c name (Some (Yields d)) h = files-same s v name s.told d.file h.1
 
 pub renames-keep : RenamesKeep
 renames-keep = record {
   handles = λ s c r given asked l. handles-stay s c (node_given (walk_on_node s c r) given) (rename-met s c r given asked l);
-  bytes = λ s c r given name v asked l. bytes-stay s v c name (node_given (walk_on_node s c r) given) (rename-met s c r given asked l);
+  files = λ s c r given name v asked l. files-stay s v c name (node_given (walk_on_node s c r) given) (rename-met s c r given asked l);
 }
 
 -- ---- what is saved

@@ -13,7 +13,7 @@ use Rattle.portal_model.specs.declared.request.NodeRequest.{NodeRequest}
 use Rattle.portal_model.specs.declared.state.Connection.{Connection}
 use Rattle.portal_model.specs.declared.state.Document.{Document}
 use Rattle.portal_model.specs.declared.temporary.OwnTemp.{OwnTemp}
-use Rattle.portal_model.specs.Node.{bytes_named, node_answer}
+use Rattle.portal_model.specs.Node.{node_answer}
 use Rattle.portal_model.specs.NodeOutside.{LawfulNode}
 use Rattle.portal_model.specs.Place.{FolderOf, SightOfFolder, sight_on}
 use Rattle.portal_model.specs.SeatNames.{found_temp}
@@ -56,13 +56,13 @@ RenameSaves = (s : State) (c : Connection) (r : NodeRequest) (given : Given)
     (node_answer s c r given).1 ≡ Answer.Node NodeAnswer.Empty →
     IsSaved s (node_answer s c r given).0 d (found_temp c.temps view d.id old_name)
 
--- Whatever is renamed, each handle names the file that it named, with the bytes that this had.
+-- Whatever is renamed, each handle names the file that it named, and this is unchanged.
 pub record RenamesKeep : Type 0 where
   pub handles :
       (s : State) (c : Connection) (r : NodeRequest) (given : Given) →
       RenameAsked r → LawfulNode s c r given → (node_answer s c r given).0.handles ≡ s.handles
-  pub bytes :
+  pub files :
       (s : State) (c : Connection) (r : NodeRequest) (given : Given) (name : FileName) →
       Valid s → RenameAsked r → LawfulNode s c r given →
-      bytes_named (all_held (held_in (node_answer s c r given).0)) name
-      ≡ bytes_named (all_held (held_in s)) name
+      file_named (all_held (held_in (node_answer s c r given).0)) name
+      ≡ file_named (all_held (held_in s)) name

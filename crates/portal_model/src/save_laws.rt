@@ -10,8 +10,8 @@ pub fn renames_save()
     ensures { RenameSaves }
 {}
 
-/// Whatever is renamed, each open handle names the file that it named, with the
-/// bytes that this had.
+/// Whatever is renamed, each open handle names the file that it named, and this
+/// is unchanged.
 pub fn renames_keep_open_files()
     ensures { RenamesKeep }
 {}
