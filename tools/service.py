@@ -17,6 +17,12 @@ from docportal_client import Bus, Mount, socket_path  # noqa: E402
 PROGRAM = os.environ.get("DOCPORTAL") or os.path.join(
     TOP, "crates", "docportal", "out", "docportal")
 
+# The service in its place that runs on one thread, where it is to be run.
+FRONT = os.environ.get("DOCPORTAL_FRONT")
+
+# The command of the service.
+COMMAND = [FRONT] if FRONT else [PROGRAM, "serve"]
+
 # Words that each service is given too, as `--polled`.
 WORDS = os.environ.get("DOCPORTAL_SERVE", "").split()
 
@@ -38,7 +44,7 @@ class Service:
 
     def start(self, seconds=60, limits=()):
         """Starts it under limits, and waits for the line that tells that its sockets stand."""
-        self.process = subprocess.Popen([PROGRAM, "serve", *self.words], stdin=subprocess.DEVNULL,
+        self.process = subprocess.Popen([*COMMAND, *self.words], stdin=subprocess.DEVNULL,
                                         stdout=subprocess.PIPE, stderr=subprocess.PIPE,
                                         env={**ENVIRONMENT, **os.environ},
                                         preexec_fn=under(limits))
@@ -103,6 +109,6 @@ def under(limits, user=None):
 
 def run(*words, limits=(), user=None):
     """Runs the service to its end under limits: its status, and what it said on each stream."""
-    done = subprocess.run([PROGRAM, "serve", *words], stdin=subprocess.DEVNULL, capture_output=True,
+    done = subprocess.run([*COMMAND, *words], stdin=subprocess.DEVNULL, capture_output=True,
                           timeout=60, preexec_fn=under(limits, user))
     return done.returncode, done.stdout.decode(), done.stderr.decode()

@@ -1,0 +1,28 @@
+//! A front that runs: what comes to it is taken from an end, and what it gives goes there.
+//!
+//! **It promises**, over whatever is an [`end::FrontEnd`], that the outputs which were given are
+//! those that the definition of a front has of the inputs that were taken, with one wake behind
+//! each input where a host waits: all of them where no input is to come any more, and else the
+//! first of them. Those of an input and of its wake stand ahead of the next input. The history of
+//! the portal that comes back is legal, begins with that of the portal which was handed in, and
+//! goes on with what these inputs ask, but for what was refused, which is counted. What is replied
+//! to an application is what its own machine replies over its trace. Behind a wake by which
+//! nothing was refused no host at its bus waits.
+//!
+//! | Room | Holds |
+//! |---|---|
+//! | `end` | [`end::FrontEnd`]: where inputs come from, and outputs go |
+//! | `in_memory` | [`in_memory::MemoryEnd`]: an end in memory, which tells |
+//! | `run` | [`run::run_front`] |
+//! | `laws` | a wake tells everybody |
+//!
+//! ```text
+//! let done = run_front(alloc, &rt, &mut end, portal, &settings);
+//! match done.status { FrontStatus::Closed => .., FrontStatus::EndFault => .., .. }
+//! ```
+#![tactic(auto)]
+
+pub mod end;
+pub mod in_memory;
+pub mod laws;
+pub mod run;

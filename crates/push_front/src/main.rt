@@ -1,0 +1,38 @@
+//! The document portal and permission store of a desktop, as a service on one thread.
+//!
+//! All connections are served by one front over one portal, as `front_run` says, at the sockets
+//! of `docportal serve`. A host is told at once what others change of the permission store.
+//!
+//! | Room | Holds |
+//! |---|---|
+//! | `words` | what the words ask for |
+//! | `prepare` | what the service stands on, opened |
+//! | `rounds` | the service, one history after another |
+//! | `told` | what is told, and how the service ended |
+//!
+//! `docs/serve.md` says how it is run, and for whom it is; `docs/statuses.md` how it ends.
+#![tactic(auto)]
+
+mod prepare;
+mod rounds;
+mod told;
+mod words;
+
+use host_real::System;
+use std::alloc::AllocGlobal;
+use std::net::Net;
+use std::process::ExitCode;
+
+fn main(rt: HostRuntime) -> ExitCode {
+    ExitCode::from(answer(&rt, &rt))
+}
+
+/// Does what the words ask for: the number that the program ends with.
+fn answer<R: System + Net + AllocGlobal>(rt: &R, system: &HostRuntime) -> u8 {
+    match words::asked(system) {
+        words::Asked::Tell(text) => told::print(system, text.as_str()),
+        words::Asked::Faulty(why) => told::usage(system, why.as_str()),
+        words::Asked::Memory => told::end(system, &serve_start::end::ServeEnd::Memory),
+        words::Asked::Serve(words) => told::end(system, &rounds::serve(rt, system, &words)),
+    }
+}
