@@ -4,8 +4,8 @@ ghost use Rattle.std.specs.Prelude.{◌≡◌, IfOk};
 
 use crate::door::Door;
 use crate::sockets::{Next, Sockets};
-use front_core::input::FrontOutput;
-use front_run::end::{FrontEnd, Given2, NextInput};
+use front_end::end::{FrontEnd, Given2, NextInput};
+use front_end::input::FrontOutput;
 use mio::Poll;
 use portal_base::list::List;
 use std::alloc::Global;

@@ -5,7 +5,7 @@
 //! the history has room for the longest one, the client's request was longer, and all goes on.
 //! Else the rest is spent by shorter ones, down to the shortest, and then no request has room.
 
-use front_core::input::{FrontEnding, FrontInput};
+use front_end::input::{FrontEnding, FrontInput};
 use portal_base::list::{ByteList, List};
 use portal_base::memory::WantOfMemory;
 use portal_base::who::{Kind, Who};

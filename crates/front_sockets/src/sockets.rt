@@ -3,7 +3,7 @@
 use crate::door::{Door, Knock};
 use crate::own::{OWN, Own, has_error};
 use crate::wire::{PIECE, Turned, Wire};
-use front_core::input::{FrontEnding, FrontInput, FrontOutput};
+use front_end::input::{FrontEnding, FrontInput, FrontOutput};
 use memchr::memmem;
 use mio::{Events, Interest, Poll, Token};
 use portal_base::list::List;
