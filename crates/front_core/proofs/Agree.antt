@@ -165,13 +165,13 @@ not_some : (at : Link) → None ≡ Some at → ⊥
 not_some at h = cc
 
 -- a link that is open isn't the one of the number 0
-numbered_at : (a : Front) (link : ℕ) (at : Link) → Agrees a → a.links link ≡ Some at → link ≢ 0
+pub numbered_at : (a : Front) (link : ℕ) (at : Link) → Agrees a → a.links link ≡ Some at → link ≢ 0
 numbered_at a link at agrees is zero_is = not_some at (sym (ap a.links zero_is ∙ agrees.none_first) ∙ is)
 
-sound_of : (a : Front) (link : ℕ) (at : Link) → Agrees a → a.links link ≡ Some at → IsSound at
+pub sound_of : (a : Front) (link : ℕ) (at : Link) → Agrees a → a.links link ≡ Some at → IsSound at
 sound_of a link at agrees is = subst (λ (o : Option Link). IfSome o IsSound) is (agrees.sound link)
 
-bound_of : (a : Front) (link : ℕ) (at : Link) → Agrees a → a.links link ≡ Some at → bound (state_of a) link ≡ Some (binding at)
+pub bound_of : (a : Front) (link : ℕ) (at : Link) → Agrees a → a.links link ≡ Some at → bound (state_of a) link ≡ Some (binding at)
 bound_of a link at agrees is = agrees.bound_alike link ∙ ap maybe_binding is
 
 -- ---- a link goes on, or is closed
@@ -228,7 +228,7 @@ answered_agree a b link at rs heard bytes now os out agrees is plain going clien
     stay_bound x.why at now p x.left (bound_past before (made_of heard)) (stays ∙ bound_of a link at agrees is) client x.left_of x.unrefused in
     comes_agree a b link (rs ++ leaving x.why) os (staying x.why (link_with now p)) agrees x.comes sound (whole ∙ last_is) (numbered_at a link at agrees is)
 
-came_agree : (a b : Front) (link : ℕ) (bytes : List ℕ) (o : Option Link) (os : List Outcome) (out : List FrontOutput) → Agrees a → a.links link ≡ o → CameDoes a link bytes o os out b → Agrees b
+pub came_agree : (a b : Front) (link : ℕ) (bytes : List ℕ) (o : Option Link) (os : List Outcome) (out : List FrontOutput) → Agrees a → a.links link ≡ o → CameDoes a link bytes o os out b → Agrees b
 came_agree a b link bytes None os out agrees is d = passes_agree a b os out agrees d
 came_agree a b link bytes (Some at) os out agrees is d =
     answered_agree a b link at d.0 d.1 (joined d.2) d.3 os out agrees is
@@ -236,7 +236,7 @@ came_agree a b link bytes (Some at) os out agrees is d =
 
 -- ---- the other inputs
 
-took_agree : (a b : Front) (link count : ℕ) (o : Option Link) (os : List Outcome) (out : List FrontOutput) → Agrees a → a.links link ≡ o → TookDoes a link count o os out b → Agrees b
+pub took_agree : (a b : Front) (link count : ℕ) (o : Option Link) (os : List Outcome) (out : List FrontOutput) → Agrees a → a.links link ≡ o → TookDoes a link count o os out b → Agrees b
 took_agree a b link count None os out agrees is d = passes_agree a b os out agrees d
 took_agree a b link count (Some at) os out agrees is d =
     let sound = sound_of a link at agrees is in
@@ -251,11 +251,11 @@ leaves_agree : (a b : Front) (link : ℕ) (at : Link) (why : FrontEnding) (os : 
 leaves_agree a b link at why os out agrees is d =
     comes_agree a b link (Request.Leave ∷ []) os None agrees d.0 tt (left_made os (bound (state_of a) link) d.0.asked d.1) (numbered_at a link at agrees is)
 
-ended_agree : (a b : Front) (link : ℕ) (o : Option Link) (os : List Outcome) (out : List FrontOutput) → Agrees a → a.links link ≡ o → EndedDoes a link o os out b → Agrees b
+pub ended_agree : (a b : Front) (link : ℕ) (o : Option Link) (os : List Outcome) (out : List FrontOutput) → Agrees a → a.links link ≡ o → EndedDoes a link o os out b → Agrees b
 ended_agree a b link None os out agrees is d = passes_agree a b os out agrees d
 ended_agree a b link (Some at) os out agrees is d = leaves_agree a b link at (because.Served (ending_at at.session.rest)) os out agrees is d
 
-failed_agree : (a b : Front) (link : ℕ) (o : Option Link) (os : List Outcome) (out : List FrontOutput) → Agrees a → a.links link ≡ o → FailedDoes a link o os out b → Agrees b
+pub failed_agree : (a b : Front) (link : ℕ) (o : Option Link) (os : List Outcome) (out : List FrontOutput) → Agrees a → a.links link ≡ o → FailedDoes a link o os out b → Agrees b
 failed_agree a b link None os out agrees is d = passes_agree a b os out agrees d
 failed_agree a b link (Some at) os out agrees is d = leaves_agree a b link at because.Lost os out agrees is d
 
@@ -274,14 +274,14 @@ enters_agree a b n c (Denied request why) out agrees is d =
     comes_agree a b (suc n) (Request.Enter c.who c.kind ∷ []) (Denied request why ∷ []) None agrees d.0 tt
     (agrees.bound_alike (suc n) ∙ ap maybe_binding is) (no_link n)
 
-opened_agree : (a b : Front) (link : ℕ) (c : Client) (o : Option Link) (os : List Outcome) (out : List FrontOutput) → Agrees a → a.links link ≡ o → OpenedDoes a link c o os out b → Agrees b
+pub opened_agree : (a b : Front) (link : ℕ) (c : Client) (o : Option Link) (os : List Outcome) (out : List FrontOutput) → Agrees a → a.links link ≡ o → OpenedDoes a link c o os out b → Agrees b
 opened_agree a b zero c o os out agrees is d = passes_agree a b os out agrees d
 opened_agree a b (suc n) c (Some at) os out agrees is d = passes_agree a b os out agrees d
 opened_agree a b (suc n) c None os out agrees is d = enters_agree a b n c d.0 out agrees is d.2
 
 -- ---- a wake
 
-tells_agree : (a b : Front) (link : ℕ) (due : Bool) (o : Option Link) (os : List Outcome) (out : List FrontOutput) → Agrees a → a.links link ≡ o → TellsIf due a link o os out b → Agrees b
+pub tells_agree : (a b : Front) (link : ℕ) (due : Bool) (o : Option Link) (os : List Outcome) (out : List FrontOutput) → Agrees a → a.links link ≡ o → TellsIf due a link o os out b → Agrees b
 tells_agree a b link due None os out agrees is d = passes_agree a b os out agrees d
 tells_agree a b link false (Some at) os out agrees is d = passes_agree a b os out agrees d
 tells_agree a b link true (Some at) os out agrees is d =

@@ -20,7 +20,7 @@ use Rattle.front_core.specs.Doing.{CameDoes, EndedDoes, Enters, FailedDoes, Open
 use Rattle.front_core.specs.FrontOuts.{Does}
 use Rattle.front_core.specs.Fronts.{Front, state_of}
 use Rattle.front_core.specs.Waking.{is_due}
-use Rattle.front_core.proofs.Doing.{below_begins, passes_begins}
+use Rattle.front_core.proofs.Doing.{below_begins, below_opening, passes_begins, passes_opening}
 use Rattle.front_core.proofs.Growing.{grown-begins}
 
 enters_begins : (a b : Front) (link : ℕ) (c : Client) (x : Outcome) (out : List FrontOutput) → Enters a link c x out b → BeginsWith b.history a.history
@@ -62,7 +62,7 @@ came_stops_begins : (a : Front) (link : ℕ) (bytes : List ℕ) (o : Option Link
 came_stops_begins a link bytes None os k x = grown-begins link a.opening os a.history k x.1
 came_stops_begins a link bytes (Some at) os k x = grown-begins link a.opening os a.history k x.2.1
 
-last_begins : (m : Front) (link : ℕ) (os : List Outcome) (k : List Entry) → Stops m link [] os k ⊎ (IsTrue (is_due (state_of m) link (m.links link)) × Stops m link (Request.Collect ∷ []) os k) → BeginsWith k m.history
+pub last_begins : (m : Front) (link : ℕ) (os : List Outcome) (k : List Entry) → Stops m link [] os k ⊎ (IsTrue (is_due (state_of m) link (m.links link)) × Stops m link (Request.Collect ∷ []) os k) → BeginsWith k m.history
 last_begins m link os k (inl x) = grown-begins link m.opening os m.history k x.1
 last_begins m link os k (inr x) = grown-begins link m.opening os m.history k x.1.1
 
@@ -80,3 +80,38 @@ breaks_begins s a (come.Took link count) os k x = grown-begins link a.opening os
 breaks_begins s a (come.Ended link) os k x = grown-begins link a.opening os a.history k x.1
 breaks_begins s a (come.Failed link) os k x = grown-begins link a.opening os a.history k x.1
 breaks_begins s a come.Wake os k x = wake_stops_begins a os k x
+
+-- ---- and the state that it began in stays
+
+enters_opening : (a b : Front) (link : ℕ) (c : Client) (x : Outcome) (out : List FrontOutput) → Enters a link c x out b → b.opening ≡ a.opening
+enters_opening a b link c (Made x) out d = d.0.opening
+enters_opening a b link c (Denied request why) out d = d.0.opening
+
+opened_opening : (a b : Front) (link : ℕ) (c : Client) (o : Option Link) (os : List Outcome) (out : List FrontOutput) → OpenedDoes a link c o os out b → b.opening ≡ a.opening
+opened_opening a b zero c o os out d = passes_opening a b os out d
+opened_opening a b (suc n) c (Some at) os out d = passes_opening a b os out d
+opened_opening a b (suc n) c None os out d = enters_opening a b (suc n) c d.0 out d.2
+
+came_opening : (a b : Front) (link : ℕ) (bytes : List ℕ) (o : Option Link) (os : List Outcome) (out : List FrontOutput) → CameDoes a link bytes o os out b → b.opening ≡ a.opening
+came_opening a b link bytes None os out d = passes_opening a b os out d
+came_opening a b link bytes (Some at) os out d = d.5.comes.opening
+
+took_opening : (a b : Front) (link count : ℕ) (o : Option Link) (os : List Outcome) (out : List FrontOutput) → TookDoes a link count o os out b → b.opening ≡ a.opening
+took_opening a b link count None os out d = passes_opening a b os out d
+took_opening a b link count (Some at) os out d = d.0.opening
+
+ended_opening : (a b : Front) (link : ℕ) (o : Option Link) (os : List Outcome) (out : List FrontOutput) → EndedDoes a link o os out b → b.opening ≡ a.opening
+ended_opening a b link None os out d = passes_opening a b os out d
+ended_opening a b link (Some at) os out d = d.0.opening
+
+failed_opening : (a b : Front) (link : ℕ) (o : Option Link) (os : List Outcome) (out : List FrontOutput) → FailedDoes a link o os out b → b.opening ≡ a.opening
+failed_opening a b link None os out d = passes_opening a b os out d
+failed_opening a b link (Some at) os out d = d.0.opening
+
+pub does_opening : (s : Settings) (a b : Front) (input : FrontInput) (os : List Outcome) (out : List FrontOutput) → Does s a input os out b → b.opening ≡ a.opening
+does_opening s a b (come.Opened link who kind) os out d = opened_opening a b link _ (a.links link) os out d
+does_opening s a b (come.Came link bytes) os out d = came_opening a b link bytes (a.links link) os out d
+does_opening s a b (come.Took link count) os out d = took_opening a b link count (a.links link) os out d
+does_opening s a b (come.Ended link) os out d = ended_opening a b link (a.links link) os out d
+does_opening s a b (come.Failed link) os out d = failed_opening a b link (a.links link) os out d
+does_opening s a b come.Wake os out d = below_opening d.0 a b os out d.2

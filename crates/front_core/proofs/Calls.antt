@@ -9,6 +9,7 @@ use Rattle.portal_model.specs.declared.request.Request.{Request}
 use Rattle.portal_model.specs.Seated.{Asks, Exchange, Seated, rises_by}
 use Rattle.portal_model.specs.State.{State}
 use Rattle.session.specs.declared.act.Client.{Client}
+use Rattle.session.specs.declared.served.Fed.{Fed}
 use Rattle.session.specs.declared.served.Fed.TheVariants as fed
 use Rattle.session.specs.declared.served.Served.{Served}
 use Rattle.session.specs.Answers.{Denied, IsOf, Made, Outcome, signals_for, spoken}
@@ -97,6 +98,22 @@ module _ {S : Type 0} (says : S → Entry → S → Type 0) (spends : S → Requ
     asked_one Request.Collect told.outcome told.is_of
         (subst (λ (z : Seated). Grew z (told.outcome ∷ []) after) vs (subst (λ (z : Seated). Grew v.seated (told.outcome ∷ []) z) ws told.grows.desk)),
   )
+
+  -- by what putting the pieces together answered
+  pub pushes_joined : {E : Type 0} (at now : Standing) (pieces : List (List ℕ)) (f f' : ℕ) (r : Result (List ℕ) E) → Pushes at (world before (Some []) f) fed.More now (world after (Some pieces) f') → IfOk r (λ written. written ≡ joined pieces) → IfOk r (λ written. Pushed seat at old written now new)
+  pushes_joined at now pieces f f' (Ok written) x is = pushes at now written pieces f f' x is
+  pushes_joined at now pieces f f' (Err error) x is = tt
+
+  pub pushes_lost : {E : Type 0} (at now : Standing) (v w : World) (r : Result (List ℕ) E) → v.seated ≡ before → w.seated ≡ after → Pushes at v fed.More now w → OnErr r (PushedOnly seat old new)
+  pushes_lost at now v w (Ok written) vs ws x = tt
+  pushes_lost at now v w (Err error) vs ws x = pushed_only v w vs ws x.2.0
+
+  -- there was no memory to write it
+  pub unpushed : (at now : Standing) (v w : World) (r : Fed) → v.seated ≡ before → w.seated ≡ after → (r ≡ fed.More → ⊥) → Pushes at v r now w → PushedOnly seat old new
+  unpushed at now v w fed.More vs ws not x = absurd (not refl)
+  unpushed at now v w (fed.Over ending) vs ws not x = absurd x
+  unpushed at now v w fed.WriteFault vs ws not x = pushed_only v w vs ws x.1.0.0
+  unpushed at now v w fed.Memory vs ws not x = pushed_only v w vs ws x.1.0.0
 
   -- ---- end
 

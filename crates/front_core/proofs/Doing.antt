@@ -40,7 +40,7 @@ use Rattle.front_core.specs.Waking.{Tells, TellsIf, WakeDoes, WakesBelow, is_due
 use Rattle.front_core.proofs.Growing.{asked_nothing, counted_joined, grown-begins, refused_joined, went_nowhere, went_on}
 use Rattle.front_core.proofs.LinkTable.{emptied, none_beyond, put_back}
 
-abbrev hall_with : Book → List (Option Link) → Hall
+abbrev pub hall_with : Book → List (Option Link) → Hall
 hall_with b l = record { book = b; links = l }
 
 -- nothing was asked
@@ -200,7 +200,7 @@ told_done c d m l link at due written came now out is_so there took h came_is se
       counted = whole.counted;
     }
 
-passes_begins : (a b : Front) (os : List Outcome) (out : List FrontOutput) → Passes a os out b → BeginsWith b.history a.history
+pub passes_begins : (a b : Front) (os : List Outcome) (out : List FrontOutput) → Passes a os out b → BeginsWith b.history a.history
 passes_begins a b os out p = subst (λ (z : Front). BeginsWith z.history a.history) (sym p.2) (begins-itself a.history)
 
 tells_begins : (a b : Front) (link : ℕ) (due : Bool) (o : Option Link) (os : List Outcome) (out : List FrontOutput) → TellsIf due a link o os out b → BeginsWith b.history a.history
@@ -213,13 +213,16 @@ below_begins zero a b os out d = passes_begins a b os out d
 below_begins (suc n) a b os out d =
     begins-through b.history d.4.history a.history (tells_begins d.4 b n (is_due (state_of d.4) n (d.4.links n)) (d.4.links n) d.1 d.3 d.8) (below_begins n a d.4 d.0 d.2 d.7)
 
+pub passes_opening : (a b : Front) (os : List Outcome) (out : List FrontOutput) → Passes a os out b → b.opening ≡ a.opening
+passes_opening a b os out p = ap (λ (z : Front). z.opening) p.2
+
 tells_opening : (a b : Front) (link : ℕ) (due : Bool) (o : Option Link) (os : List Outcome) (out : List FrontOutput) → TellsIf due a link o os out b → b.opening ≡ a.opening
-tells_opening a b link due None os out d = ap (λ (z : Front). z.opening) d.2
-tells_opening a b link false (Some at) os out d = ap (λ (z : Front). z.opening) d.2
+tells_opening a b link due None os out d = passes_opening a b os out d
+tells_opening a b link false (Some at) os out d = passes_opening a b os out d
 tells_opening a b link true (Some at) os out d = d.answered.comes.opening
 
-below_opening : (n : ℕ) (a b : Front) (os : List Outcome) (out : List FrontOutput) → WakesBelow n a os out b → b.opening ≡ a.opening
-below_opening zero a b os out d = ap (λ (z : Front). z.opening) d.2
+pub below_opening : (n : ℕ) (a b : Front) (os : List Outcome) (out : List FrontOutput) → WakesBelow n a os out b → b.opening ≡ a.opening
+below_opening zero a b os out d = passes_opening a b os out d
 below_opening (suc n) a b os out d = tells_opening d.4 b n (is_due (state_of d.4) n (d.4.links n)) (d.4.links n) d.1 d.3 d.8 ∙ below_opening n a d.4 d.0 d.2 d.7
 
 -- no link was asked yet

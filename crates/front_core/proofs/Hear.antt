@@ -1,5 +1,5 @@
 -- What bytes on a link come to, by what its session made of them.
-use Rattle.std.proofs.Common.{◌≡◌, inl, inr, ℕ, ◌+◌, List, [], ◌∷◌, ◌++◌, length, Some, refl, sym, ap, ◌∙◌, subst}
+use Rattle.std.proofs.Common.{◌≡◌, inl, inr, true, false, ℕ, ◌+◌, List, [], ◌∷◌, ◌++◌, length, Some, refl, sym, ap, ◌∙◌, subst}
 use Rattle.std.specs.Prelude.{◌⊎◌}
 use Rattle.std.proofs.lemmas.List.{append-nil, append_assoc}
 use Rattle.portal_base.specs.Outside.{onto}
@@ -28,7 +28,7 @@ use Rattle.session.proofs.DidItems.{items-append, joined-append}
 use Rattle.session.proofs.Grew.{grew_none, grew_on}
 use Rattle.front_core.specs.Asking.{Asked, Book, Went, book}
 use Rattle.front_core.specs.Hearing.{Hears, HearsAs, HearsFirst, HearsItems}
-use Rattle.front_core.specs.Seats.{Heard, HeardFirst}
+use Rattle.front_core.specs.Seats.{Heard, HeardFirst, is_heard}
 use Rattle.front_core.proofs.AskedAlone.{went_of}
 
 some_is : (x y : List (List ℕ)) → Some x ≡ Some y → x ≡ y
@@ -185,3 +185,16 @@ module _ {S : Type 0} (says : S → Entry → S → Type 0) (spends : S → Requ
   pub heard_first : at.fed ≡ fed.More → Fed_so fed.Memory ⊎ Fed_so fed.WriteFault → HeardFirst seat at bytes (book s h (refusals p)) (book t k (refusals q))
   heard_first going (inl x) = not_whole (open_so fed.Memory going x).0
   heard_first going (inr x) = broke_first (open_so fed.WriteFault going x).0
+
+  -- by whether there was memory
+  pub heard : at.fed ≡ fed.More → (r : Fed) (written : List ℕ) → is_heard r ≡ true → Fed_so r → written ≡ joined pieces → Heard seat at bytes (book s h (refusals p)) written r now (book t k (refusals q))
+  heard going fed.More written some x is = heard_more going written x is
+  heard going (fed.Over ending) written some x is = heard_over going ending written x is
+  heard going fed.WriteFault written some x is = absurd (cc)
+  heard going fed.Memory written some x is = absurd (cc)
+
+  pub not_heard : at.fed ≡ fed.More → (r : Fed) → is_heard r ≡ false → Fed_so r → HeardFirst seat at bytes (book s h (refusals p)) (book t k (refusals q))
+  not_heard going fed.More none x = absurd (cc)
+  not_heard going (fed.Over ending) none x = absurd (cc)
+  not_heard going fed.WriteFault none x = heard_first going (inr x)
+  not_heard going fed.Memory none x = heard_first going (inl x)

@@ -6,3 +6,5 @@ pub mod LinkTable
 pub mod Agree
 pub mod Doing
 pub mod Begins
+pub mod Ending
+pub mod WakesTell

@@ -10,6 +10,7 @@ use Rattle.session.specs.declared.served.Fed.TheVariants as fed
 use Rattle.session.specs.Answers.{Outcome, denied}
 use Rattle.session.specs.Asked.{is_host}
 use Rattle.front_end.specs.declared.input.FrontInput.{FrontInput}
+use Rattle.front_end.specs.declared.input.FrontInput.TheVariants.{Wake}
 use Rattle.front_end.specs.declared.input.FrontOutput.{FrontOutput}
 use Rattle.front_end.specs.declared.input.FrontStep.{FrontStep}
 use Rattle.front_core.specs.declared.link.Link.{Link}
@@ -79,11 +80,13 @@ Ends does part c (Err error) d = Stopped part c d
 
 -- ---- a step
 
--- the outputs of the input, and whether someone waits behind it
+-- The outputs of the input, and whether someone waits behind it. Behind a wake by which nothing was
+-- refused nobody does.
 pub record Steps (s : Settings) (c : Hall) (input : FrontInput) (step : FrontStep) (d : Hall) :
     Type 0 where
   pub done : Done (Does s (front_in c) input) c step.outputs d
   pub wake : IsTrue step.wake ↔ Waits (front_in d)
+  pub told_all : input ≡ Wake → denied done.outcomes ≡ 0 → Waits (front_in d) → ⊥
 
 abbrev pub StepEnds : {E : Type 0} → Settings → Hall → FrontInput → Result FrontStep E → Hall
     → Type 0

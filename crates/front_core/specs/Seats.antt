@@ -1,8 +1,9 @@
 -- What a session of a link does at its seat of a portal.
-use Rattle.std.specs.Prelude.{◌≡◌, ◌⊎◌, ℕ, ◌+◌, List, [], ◌∷◌, ◌++◌, length, Option, Result, Ok, Err}
+use Rattle.std.specs.Prelude.{◌≡◌, ◌⊎◌, ℕ, ◌+◌, Bool, true, false, List, [], ◌∷◌, ◌++◌, length, Option, Result, Ok, Err}
 use Rattle.portal_model.specs.declared.request.Request.{Request}
 use Rattle.session.specs.declared.act.Client.{Client}
 use Rattle.session.specs.declared.served.Fed.{Fed}
+use Rattle.session.specs.declared.served.Fed.TheVariants as fed
 use Rattle.session.specs.Answers.{Denied, Made, Outcome, denied, last_spoken, signals_for, spoken}
 use Rattle.portal_model.specs.Seated.{Binding, Exchange}
 use Rattle.session.specs.Items.{joined}
@@ -24,6 +25,13 @@ Begins seat c v (begun.Session s) w = (s ≡ fresh c)
     × ((x : Exchange) × Asked seat v (Request.Enter c.who c.kind ∷ []) (Made x ∷ []) w)
 Begins seat c v (begun.Refused why) w = (request : Request)
     × Asked seat v (Request.Enter c.who c.kind ∷ []) (Denied request why ∷ []) w
+
+-- there was memory for what bytes came to
+abbrev pub is_heard : Fed → Bool
+is_heard fed.More = true
+is_heard (fed.Over ending) = true
+is_heard fed.WriteFault = false
+is_heard fed.Memory = false
 
 -- bytes were heard, and these are to be written
 pub record Heard (seat : ℕ) (at : Standing) (bytes : List ℕ) (v : Book) (written : List ℕ)

@@ -99,14 +99,23 @@ pub(crate) fn hear<S: Storied>(
 {
     let mut written = MemorySink::new(alloc, 0);
     let came = feed(alloc, portal, seat, session, bytes, &mut written);
-    match came {
-        Fed::More | Fed::Over(_) => Ok(HeardBytes {
-            written: joined(alloc, written.pieces().as_slice())?,
-            came,
-        }),
-        // A sink in memory fails only for want of it.
-        Fed::WriteFault | Fed::Memory => Err(WantOfMemory),
+    // A sink in memory fails only for want of it.
+    if !is_heard(came) {
+        return Err(WantOfMemory);
     }
+    Ok(HeardBytes {
+        written: joined(alloc, written.pieces().as_slice())?,
+        came,
+    })
+}
+
+ghost use Rattle.front_core.specs.Seats.{is_heard};
+
+/// Whether there was memory for what bytes came to.
+fn is_heard(came: Fed) -> bool
+    ensures { result ≡ is_heard came }
+{
+    matches!(came, Fed::More | Fed::Over(_))
 }
 
 ghost use Rattle.portal_core.specs.Lending.{GoesOn, seated_at};

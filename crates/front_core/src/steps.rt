@@ -63,15 +63,13 @@ fn outputs_of<S: Signalling>(
 ) -> Result<List<FrontOutput>, WantOfMemory>
     requires { Agrees (front_in (hall (S.opening portal.old) (S.entries portal.old)
         (S.refusals portal.old) links.old)) }
-    ensures ends { Ends (Does settings.now (front_in (hall (S.opening portal.old)
+    ensures { Ends (Does settings.now (front_in (hall (S.opening portal.old)
         (S.entries portal.old) (S.refusals portal.old) links.old)) input)
         (BreaksOff settings.now (front_in (hall (S.opening portal.old) (S.entries portal.old)
         (S.refusals portal.old) links.old)) input)
         (hall (S.opening portal.old) (S.entries portal.old) (S.refusals portal.old) links.old)
         result
         (hall (S.opening portal.new) (S.entries portal.new) (S.refusals portal.new) links.new) }
-    ensures agrees { OnOk result (Agrees (front_in (hall (S.opening portal.new)
-        (S.entries portal.new) (S.refusals portal.new) links.new))) }
 {
     match input {
         FrontInput::Opened { link, who, kind } => {
@@ -97,7 +95,7 @@ fn opened<S: Signalling>(
 ) -> Result<List<FrontOutput>, WantOfMemory>
     requires { Agrees (front_in (hall (S.opening portal.old) (S.entries portal.old)
         (S.refusals portal.old) links.old)) }
-    ensures ends { Ends (OpenedDoes (front_in (hall (S.opening portal.old) (S.entries portal.old)
+    ensures { Ends (OpenedDoes (front_in (hall (S.opening portal.old) (S.entries portal.old)
         (S.refusals portal.old) links.old)) link (client who.now kind settings.now)
         (links_of links.old link))
         (BreaksOff settings.now (front_in (hall (S.opening portal.old) (S.entries portal.old)
@@ -105,10 +103,8 @@ fn opened<S: Signalling>(
         (hall (S.opening portal.old) (S.entries portal.old) (S.refusals portal.old) links.old)
         result
         (hall (S.opening portal.new) (S.entries portal.new) (S.refusals portal.new) links.new) }
-    ensures agrees { OnOk result (Agrees (front_in (hall (S.opening portal.new)
-        (S.entries portal.new) (S.refusals portal.new) links.new))) }
 {
-    if link == 0 || links.get(link).is_some() {
+    if !is_free(links, link) {
         return Ok(List::new(alloc));
     }
     match begin(alloc, portal, link, who, kind, settings)? {
@@ -120,6 +116,13 @@ fn opened<S: Signalling>(
             outputs_at(alloc, link, List::new(alloc), refused(refused_ending(why)))
         }
     }
+}
+
+/// Whether a link may be opened at a number: it is one from 1 at which none is open.
+fn is_free(links: &Links, link: u32) -> bool
+    ensures { result ≡ is_free link (links_of links.now link) }
+{
+    link > 0 && links.get(link).is_none()
 }
 
 /// A link whose session has just begun.
@@ -134,7 +137,7 @@ fn fresh_link(session: Session, who: &Who) -> Link
     }
 }
 
-ghost use Rattle.front_core.specs.Fronts.{link_with};
+ghost use Rattle.front_core.specs.Fronts.{is_free, link_with};
 ghost use Rattle.session.specs.Asked.{is_host};
 
 fn is_host(who: &Who) -> bool
@@ -163,15 +166,13 @@ fn came<S: Signalling>(
 ) -> Result<List<FrontOutput>, WantOfMemory>
     requires { Agrees (front_in (hall (S.opening portal.old) (S.entries portal.old)
         (S.refusals portal.old) links.old)) }
-    ensures ends { Ends (CameDoes (front_in (hall (S.opening portal.old) (S.entries portal.old)
+    ensures { Ends (CameDoes (front_in (hall (S.opening portal.old) (S.entries portal.old)
         (S.refusals portal.old) links.old)) link bytes.now (links_of links.old link))
         (CameStops (front_in (hall (S.opening portal.old) (S.entries portal.old)
         (S.refusals portal.old) links.old)) link bytes.now (links_of links.old link))
         (hall (S.opening portal.old) (S.entries portal.old) (S.refusals portal.old) links.old)
         result
         (hall (S.opening portal.new) (S.entries portal.new) (S.refusals portal.new) links.new) }
-    ensures agrees { OnOk result (Agrees (front_in (hall (S.opening portal.new)
-        (S.entries portal.new) (S.refusals portal.new) links.new))) }
 {
     let Some(
         Link {
@@ -202,15 +203,13 @@ fn took<S: Signalling>(
 ) -> Result<List<FrontOutput>, WantOfMemory>
     requires { Agrees (front_in (hall (S.opening portal.old) (S.entries portal.old)
         (S.refusals portal.old) links.old)) }
-    ensures ends { Ends (TookDoes (front_in (hall (S.opening portal.old) (S.entries portal.old)
+    ensures { Ends (TookDoes (front_in (hall (S.opening portal.old) (S.entries portal.old)
         (S.refusals portal.old) links.old)) link count (links_of links.old link))
         (Stops (front_in (hall (S.opening portal.old) (S.entries portal.old)
         (S.refusals portal.old) links.old)) link [])
         (hall (S.opening portal.old) (S.entries portal.old) (S.refusals portal.old) links.old)
         result
         (hall (S.opening portal.new) (S.entries portal.new) (S.refusals portal.new) links.new) }
-    ensures agrees { OnOk result (Agrees (front_in (hall (S.opening portal.new)
-        (S.entries portal.new) (S.refusals portal.new) links.new))) }
 {
     let Some(mut now) = links.take(link) else {
         return Ok(List::new(alloc));
@@ -229,15 +228,13 @@ fn ended<S: Signalling>(
 ) -> Result<List<FrontOutput>, WantOfMemory>
     requires { Agrees (front_in (hall (S.opening portal.old) (S.entries portal.old)
         (S.refusals portal.old) links.old)) }
-    ensures ends { Ends (EndedDoes (front_in (hall (S.opening portal.old) (S.entries portal.old)
+    ensures { Ends (EndedDoes (front_in (hall (S.opening portal.old) (S.entries portal.old)
         (S.refusals portal.old) links.old)) link (links_of links.old link))
         (Stops (front_in (hall (S.opening portal.old) (S.entries portal.old)
         (S.refusals portal.old) links.old)) link [])
         (hall (S.opening portal.old) (S.entries portal.old) (S.refusals portal.old) links.old)
         result
         (hall (S.opening portal.new) (S.entries portal.new) (S.refusals portal.new) links.new) }
-    ensures agrees { OnOk result (Agrees (front_in (hall (S.opening portal.new)
-        (S.entries portal.new) (S.refusals portal.new) links.new))) }
 {
     let Some(now) = links.take(link) else {
         return Ok(List::new(alloc));
@@ -257,15 +254,13 @@ fn failed<S: Signalling>(
 ) -> Result<List<FrontOutput>, WantOfMemory>
     requires { Agrees (front_in (hall (S.opening portal.old) (S.entries portal.old)
         (S.refusals portal.old) links.old)) }
-    ensures ends { Ends (FailedDoes (front_in (hall (S.opening portal.old) (S.entries portal.old)
+    ensures { Ends (FailedDoes (front_in (hall (S.opening portal.old) (S.entries portal.old)
         (S.refusals portal.old) links.old)) link (links_of links.old link))
         (Stops (front_in (hall (S.opening portal.old) (S.entries portal.old)
         (S.refusals portal.old) links.old)) link [])
         (hall (S.opening portal.old) (S.entries portal.old) (S.refusals portal.old) links.old)
         result
         (hall (S.opening portal.new) (S.entries portal.new) (S.refusals portal.new) links.new) }
-    ensures agrees { OnOk result (Agrees (front_in (hall (S.opening portal.new)
-        (S.entries portal.new) (S.refusals portal.new) links.new))) }
 {
     let Some(now) = links.take(link) else {
         return Ok(List::new(alloc));
@@ -313,7 +308,7 @@ pub(crate) fn settle<S: Signalling>(
     requires whose { now.is_host ≡ is_host now.session.client.who }
     requires open_now { bound (run (S.opening portal.old) (S.entries portal.old)) link
         ≡ Some (binding_of now.session) }
-    ensures settles { SettlesAs link now.session now.pending came bytes
+    ensures { SettlesAs link now.session now.pending came bytes
         (hall (S.opening portal.old) (S.entries portal.old) (S.refusals portal.old) links.old)
         result
         (hall (S.opening portal.new) (S.entries portal.new) (S.refusals portal.new) links.new) }

@@ -1,6 +1,6 @@
 //! What a wake does, and who waits for one.
 
-ghost use Rattle.std.specs.Prelude.{◌≡◌, ◌↔◌, ◌≤◌, ◌<◌, ◌^◌, OnOk, IsTrue, true};
+ghost use Rattle.std.specs.Prelude.{◌≡◌, ◌↔◌, ◌≤◌, ◌<◌, ◌^◌, IsTrue, true};
 ghost use Rattle.front_core.specs.Breaking.{Stops, WakeStops};
 ghost use Rattle.front_core.specs.Cores.{Agrees, Ends, IsSound, front_in, hall};
 ghost use Rattle.session.specs.Asked.{is_host};
@@ -30,15 +30,13 @@ pub(crate) fn wake<S: Signalling>(
 ) -> Result<List<FrontOutput>, WantOfMemory>
     requires { Agrees (front_in (hall (S.opening portal.old) (S.entries portal.old)
         (S.refusals portal.old) links.old)) }
-    ensures ends { Ends (WakeDoes (front_in (hall (S.opening portal.old) (S.entries portal.old)
+    ensures { Ends (WakeDoes (front_in (hall (S.opening portal.old) (S.entries portal.old)
         (S.refusals portal.old) links.old)))
         (WakeStops (front_in (hall (S.opening portal.old) (S.entries portal.old)
         (S.refusals portal.old) links.old)))
         (hall (S.opening portal.old) (S.entries portal.old) (S.refusals portal.old) links.old)
         result
         (hall (S.opening portal.new) (S.entries portal.new) (S.refusals portal.new) links.new) }
-    ensures agrees { OnOk result (Agrees (front_in (hall (S.opening portal.new)
-        (S.entries portal.new) (S.refusals portal.new) links.new))) }
 {
     let mut outputs = List::new(alloc);
     let end = links.end();
@@ -60,7 +58,7 @@ fn tell<S: Signalling>(
 ) -> Result<List<FrontOutput>, WantOfMemory>
     requires { Agrees (front_in (hall (S.opening portal.old) (S.entries portal.old)
         (S.refusals portal.old) links.old)) }
-    ensures ends { Ends
+    ensures { Ends
         (TellsIf (is_due (run (S.opening portal.old) (S.entries portal.old)) link
         (links_of links.old link)) (front_in (hall (S.opening portal.old) (S.entries portal.old)
         (S.refusals portal.old) links.old)) link (links_of links.old link))
@@ -73,8 +71,6 @@ fn tell<S: Signalling>(
         (hall (S.opening portal.old) (S.entries portal.old) (S.refusals portal.old) links.old)
         result
         (hall (S.opening portal.new) (S.entries portal.new) (S.refusals portal.new) links.new) }
-    ensures agrees { OnOk result (Agrees (front_in (hall (S.opening portal.new)
-        (S.entries portal.new) (S.refusals portal.new) links.new))) }
 {
     if !is_due(portal, links, link) {
         return Ok(List::new(alloc));

@@ -1,2 +1,2 @@
 pub mod Running
-pub mod WakesTell
+pub mod Serving

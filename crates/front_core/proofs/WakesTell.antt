@@ -24,17 +24,19 @@ use Rattle.session.specs.Asked.{is_host}
 use Rattle.session.specs.Pushes.{goes_on, has_begun, is_bus, is_ready}
 use Rattle.session.proofs.Grew.{denied-append}
 use Rattle.front_end.specs.declared.input.FrontEnding.{FrontEnding}
+use Rattle.front_end.specs.declared.input.FrontInput.{FrontInput}
+use Rattle.front_end.specs.declared.input.FrontInput.TheVariants.{Wake}
 use Rattle.front_end.specs.declared.input.FrontOutput.{FrontOutput}
 use Rattle.front_core.specs.declared.link.Link.{Link}
 use Rattle.front_core.specs.Asking.{Grown}
 use Rattle.front_core.specs.Closing.{leaving, staying}
 use Rattle.front_core.specs.Cores.{Agrees, binding}
 use Rattle.front_core.specs.Doing.{Passes}
+use Rattle.front_core.specs.FrontOuts.{Does}
 use Rattle.front_core.specs.Fronts.{Front, state_of}
-use Rattle.front_core.specs.Waking.{TellsIf, WakesBelow, is_due, is_told}
+use Rattle.front_core.specs.Waking.{TellsIf, Waits, WakesBelow, is_due, is_told}
 use Rattle.front_core.proofs.Agree.{below_agree}
 use Rattle.front_core.proofs.LinkTable.{placed_here, placed_there}
-use Rattle.front_run.specs.Laws.{WakesTellAll}
 
 -- ---- what a Collect and a Leave leave of who waits
 
@@ -284,10 +286,14 @@ below_quiet (suc n) a b os out agrees d none =
           record { links = t.links ∙ s.links; waits_alike = t.waits_alike ∙ s.waits_alike };
     }
 
-pub wakes_tell : WakesTellAll
+pub wakes_tell : (s : Settings) (a : Front) (os : List Outcome) (out : List FrontOutput) (b : Front) → Agrees a → Does s a Wake os out b → denied os ≡ 0 → Waits b → ⊥
 wakes_tell s a os out b agrees d none w =
     let all = below_quiet d.0 a b os out agrees d.2 none in
     elim (reached d.0 w.0) as (λ _. ⊥) [
       | inl lower ↦ not_both (is_due (state_of b) w.0 (b.links w.0)) w.1 (all.quiet w.0 lower)
       | inr far ↦ not_both (is_due (state_of b) w.0 (b.links w.0)) w.1 (ap (is_due (state_of b) w.0) ((all.apart w.0 far).links ∙ d.1 w.0 far))
     ]
+
+-- whatever the input is
+pub told_all : (s : Settings) (a : Front) (input : FrontInput) (os : List Outcome) (out : List FrontOutput) (b : Front) → Agrees a → Does s a input os out b → input ≡ Wake → denied os ≡ 0 → Waits b → ⊥
+told_all s a input os out b agrees d is none w = wakes_tell s a os out b agrees (subst (λ (i : FrontInput). Does s a i os out b) is d) none w
