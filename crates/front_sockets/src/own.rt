@@ -61,14 +61,14 @@ enum Stage {
 
 /// The end's own link.
 #[derive(Drop)]
-pub(crate) struct Own {
+pub(crate) struct OwnLink {
     stage: Stage,
 }
 
-impl Own {
+impl OwnLink {
     /// One that isn't open yet.
-    pub(crate) fn new() -> Own {
-        Own {
+    pub(crate) fn new() -> OwnLink {
+        OwnLink {
             stage: Stage::Closed,
         }
     }

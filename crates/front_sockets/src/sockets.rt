@@ -1,7 +1,7 @@
 //! All sockets of an end, and whose turn it is.
 
 use crate::door::{Door, Knock};
-use crate::own::{OWN, Own, has_error};
+use crate::own::{OWN, OwnLink, has_error};
 use crate::wire::{PIECE, Turned, Wire};
 use front_end::input::{FrontEnding, FrontInput, FrontOutput};
 use memchr::memmem;
@@ -60,7 +60,7 @@ pub(crate) struct Sockets {
     queue: VecDeque<usize>,
     /// How many turns are left of this round.
     left: usize,
-    own: Own,
+    own: OwnLink,
     buffer: Vec<u8>,
 }
 
@@ -81,7 +81,7 @@ impl Sockets {
             most_links,
             queue: VecDeque::new(alloc),
             left: 0,
-            own: Own::new(),
+            own: OwnLink::new(),
             buffer: vec![in alloc; 0; PIECE]?,
         };
         for (place, door) in doors.into_vec().into_iter().enumerate() {
