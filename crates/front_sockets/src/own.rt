@@ -184,11 +184,9 @@ fn spending_request(alloc: Global, content: u32) -> Result<ByteList, WantOfMemor
 
 /// Puts bytes over others, where there are so many.
 fn put(bytes: &mut ByteList, at: usize, over: &[u8]) {
-    let fits = match bytes.len().checked_sub(at) {
-        Some(room) => over.len() <= room,
-        None => false,
-    };
-    if fits {
-        bytes.overwrite(at, over);
+    if let Some(room) = bytes.len().checked_sub(at) {
+        if over.len() <= room {
+            bytes.overwrite(at, over);
+        }
     }
 }

@@ -1,5 +1,8 @@
 //! What the service stands on, opened.
 
+ghost use Rattle.std.specs.Prelude.{◌≡◌, IfOk};
+ghost use Rattle.serve_start.specs.Settings.{settings_with};
+
 use crate::told::reason;
 use front_sockets::{Door, SocketEnd};
 use host_real::{OpenError, RealTree, System};
@@ -39,10 +42,9 @@ pub(crate) fn open_root<R: System>(
 }
 
 /// Words that nobody can foresee, and the settings of the service with a guid that was drawn.
-pub(crate) fn draw(
-    system: &HostRuntime,
-    history: u64,
-) -> Result<(SystemWords, Settings), ServeEnd> {
+pub(crate) fn draw(system: &HostRuntime, history: u64) -> Result<(SystemWords, Settings), ServeEnd>
+    ensures { IfOk result (λ drawn. drawn.1 ≡ settings_with history drawn.1.guid) }
+{
     let mut drawn = match SystemWords::open(system) {
         Ok(drawn) => drawn,
         Err(error) => {

@@ -155,8 +155,7 @@ fn round<'a, R: System>(
     ensures { IfOk result (λ portal. AllClosed portal.story) }
 {
     let mut portal = portal;
-    // Where there is less, some requests may want memory.
-    let _ahead = portal.reserve(system.alloc(), AHEAD, 0);
+    take_ahead(system, &mut portal);
     let FrontDone { status, portal } = run_front(system.alloc(), rt, end, portal, settings);
     match status {
         FrontStatus::Closed => {}
@@ -173,6 +172,18 @@ fn round<'a, R: System>(
         Some(portal) => Ok(portal),
         None => Err(ServeEnd::SocketFault),
     }
+}
+
+/// Takes memory ahead for requests that free what others hold, as far as there is any. Where there
+/// is less, some of these may want memory.
+fn take_ahead<T: HostTree, K: Keeper, C: Clock, W: Words>(
+    system: &HostRuntime,
+    portal: &mut Portal<T, K, C, W>,
+)
+    requires { AllClosed portal.old.story }
+    ensures { AllClosed portal.new.story }
+{
+    let _ahead = portal.reserve(system.alloc(), AHEAD, 0);
 }
 
 /// The end by a fault of the sockets, which is told.
