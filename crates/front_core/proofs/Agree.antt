@@ -27,11 +27,11 @@ use Rattle.session.specs.Items.{joined}
 use Rattle.session.specs.Sessions.{ending_at, fed_of}
 use Rattle.session.specs.Standings.{Standing, fresh}
 use Rattle.session.proofs.ConnectionStaysOpen.{ArePlain, IsPlain, bound_stays, items_plain}
-use Rattle.front_core.specs.declared.input.FrontEnding.{FrontEnding}
-use Rattle.front_core.specs.declared.input.FrontEnding.TheVariants as because
-use Rattle.front_core.specs.declared.input.FrontInput.{FrontInput}
-use Rattle.front_core.specs.declared.input.FrontInput.TheVariants as come
-use Rattle.front_core.specs.declared.input.FrontOutput.{FrontOutput}
+use Rattle.front_end.specs.declared.input.FrontEnding.{FrontEnding}
+use Rattle.front_end.specs.declared.input.FrontEnding.TheVariants as because
+use Rattle.front_end.specs.declared.input.FrontInput.{FrontInput}
+use Rattle.front_end.specs.declared.input.FrontInput.TheVariants as come
+use Rattle.front_end.specs.declared.input.FrontOutput.{FrontOutput}
 use Rattle.front_core.specs.declared.link.Link.{Link}
 use Rattle.front_core.specs.Asking.{Grown}
 use Rattle.front_core.specs.Closing.{closing, ended_by, leaving, most_pending, staying}

@@ -11,9 +11,9 @@ use Rattle.portal_model.specs.Seated.{BeginsWith}
 use Rattle.portal_model.proofs.SeatLaws.{begins-through}
 use Rattle.session.specs.declared.act.Client.{Client}
 use Rattle.session.specs.Answers.{Denied, Made, Outcome}
-use Rattle.front_core.specs.declared.input.FrontInput.{FrontInput}
-use Rattle.front_core.specs.declared.input.FrontInput.TheVariants as come
-use Rattle.front_core.specs.declared.input.FrontOutput.{FrontOutput}
+use Rattle.front_end.specs.declared.input.FrontInput.{FrontInput}
+use Rattle.front_end.specs.declared.input.FrontInput.TheVariants as come
+use Rattle.front_end.specs.declared.input.FrontOutput.{FrontOutput}
 use Rattle.front_core.specs.declared.link.Link.{Link}
 use Rattle.front_core.specs.Breaking.{BreaksOff, CameStops, Stops, WakeStops}
 use Rattle.front_core.specs.Doing.{CameDoes, EndedDoes, Enters, FailedDoes, OpenedDoes, TookDoes}

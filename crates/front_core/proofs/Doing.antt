@@ -20,12 +20,12 @@ use Rattle.session.specs.Items.{joined}
 use Rattle.session.specs.Sessions.{ending_at}
 use Rattle.session.specs.Standings.{Standing, client as client_of}
 use Rattle.session.proofs.AnswersAsked.{of-append}
-use Rattle.front_core.specs.declared.input.FrontEnding.{FrontEnding}
-use Rattle.front_core.specs.declared.input.FrontEnding.TheVariants as because
-use Rattle.front_core.specs.declared.input.FrontOutput.{FrontOutput}
-use Rattle.front_core.specs.declared.input.FrontOutput.TheVariants.{Close}
+use Rattle.front_end.specs.declared.input.FrontEnding.{FrontEnding}
+use Rattle.front_end.specs.declared.input.FrontEnding.TheVariants as because
+use Rattle.front_end.specs.declared.input.FrontOutput.{FrontOutput}
+use Rattle.front_end.specs.declared.input.FrontOutput.TheVariants.{Close}
 use Rattle.front_core.specs.declared.link.Link.{Link}
-use Rattle.front_core.specs.declared.input.FrontInput.TheVariants as come
+use Rattle.front_end.specs.declared.input.FrontInput.TheVariants as come
 use Rattle.front_core.specs.declared.seats.Begun.{Begun}
 use Rattle.front_core.specs.declared.seats.Begun.TheVariants as begun
 use Rattle.front_core.specs.Asking.{AreRefusedIn, Asked, Book, Went}

@@ -19,11 +19,11 @@ use Rattle.session.specs.declared.served.Fed.{Fed}
 use Rattle.session.specs.Answers.{Outcome}
 use Rattle.session.specs.Connections.{served_by}
 use Rattle.session.specs.Standings.{Standing, client as client_of}
-use Rattle.front_core.specs.declared.input.FrontEnding.TheVariants as because
-use Rattle.front_core.specs.declared.input.FrontInput.{FrontInput}
-use Rattle.front_core.specs.declared.input.FrontInput.TheVariants as come
-use Rattle.front_core.specs.declared.input.FrontOutput.{FrontOutput}
-use Rattle.front_core.specs.declared.input.FrontStep.{FrontStep}
+use Rattle.front_end.specs.declared.input.FrontEnding.TheVariants as because
+use Rattle.front_end.specs.declared.input.FrontInput.{FrontInput}
+use Rattle.front_end.specs.declared.input.FrontInput.TheVariants as come
+use Rattle.front_end.specs.declared.input.FrontOutput.{FrontOutput}
+use Rattle.front_end.specs.declared.input.FrontStep.{FrontStep}
 use Rattle.front_core.specs.declared.link.Link.{Link}
 use Rattle.front_core.specs.declared.seats.Begun.TheVariants as begun
 use Rattle.front_core.specs.Asking.{Asked, Book}

@@ -23,10 +23,10 @@ use Rattle.session.specs.Answers.{AreOf, Denied, IsOf, Made, Outcome, denied}
 use Rattle.session.specs.Asked.{is_host}
 use Rattle.session.specs.Pushes.{goes_on, has_begun, is_bus, is_ready}
 use Rattle.session.proofs.Grew.{denied-append}
-use Rattle.front_core.specs.declared.input.FrontEnding.{FrontEnding}
-use Rattle.front_core.specs.declared.input.FrontInput.{FrontInput}
-use Rattle.front_core.specs.declared.input.FrontInput.TheVariants.{Wake}
-use Rattle.front_core.specs.declared.input.FrontOutput.{FrontOutput}
+use Rattle.front_end.specs.declared.input.FrontEnding.{FrontEnding}
+use Rattle.front_end.specs.declared.input.FrontInput.{FrontInput}
+use Rattle.front_end.specs.declared.input.FrontInput.TheVariants.{Wake}
+use Rattle.front_end.specs.declared.input.FrontOutput.{FrontOutput}
 use Rattle.front_core.specs.declared.link.Link.{Link}
 use Rattle.front_core.specs.Asking.{Grown}
 use Rattle.front_core.specs.Closing.{leaving, staying}

@@ -9,10 +9,10 @@ use Rattle.portal_model.specs.State.{State}
 use Rattle.session.specs.declared.served.Fed.TheVariants as fed
 use Rattle.session.specs.Answers.{Outcome, denied}
 use Rattle.session.specs.Asked.{is_host}
-use Rattle.front_core.specs.declared.input.FrontInput.{FrontInput}
-use Rattle.front_core.specs.declared.input.FrontInput.TheVariants.{Wake}
-use Rattle.front_core.specs.declared.input.FrontOutput.{FrontOutput}
-use Rattle.front_core.specs.declared.input.FrontStep.{FrontStep}
+use Rattle.front_end.specs.declared.input.FrontInput.{FrontInput}
+use Rattle.front_end.specs.declared.input.FrontInput.TheVariants.{Wake}
+use Rattle.front_end.specs.declared.input.FrontOutput.{FrontOutput}
+use Rattle.front_end.specs.declared.input.FrontStep.{FrontStep}
 use Rattle.front_core.specs.declared.link.Link.{Link}
 use Rattle.front_core.specs.Asking.{AreRefusedIn, Book, book}
 use Rattle.front_core.specs.Breaking.{BreaksOff}

@@ -8,10 +8,10 @@ use Rattle.session.specs.Connections.{served_by}
 use Rattle.session.specs.Items.{joined}
 use Rattle.session.specs.Sessions.{ending_at}
 use Rattle.session.specs.Standings.{Standing, fresh}
-use Rattle.front_core.specs.declared.input.FrontEnding.{FrontEnding}
-use Rattle.front_core.specs.declared.input.FrontEnding.TheVariants as because
-use Rattle.front_core.specs.declared.input.FrontOutput.{FrontOutput}
-use Rattle.front_core.specs.declared.input.FrontOutput.TheVariants.{Close}
+use Rattle.front_end.specs.declared.input.FrontEnding.{FrontEnding}
+use Rattle.front_end.specs.declared.input.FrontEnding.TheVariants as because
+use Rattle.front_end.specs.declared.input.FrontOutput.{FrontOutput}
+use Rattle.front_end.specs.declared.input.FrontOutput.TheVariants.{Close}
 use Rattle.front_core.specs.declared.link.Link.{Link}
 use Rattle.front_core.specs.Asking.{Grown}
 use Rattle.front_core.specs.Closing.{closes, closing, leaving, staying, writes}

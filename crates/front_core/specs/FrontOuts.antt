@@ -4,9 +4,9 @@ use Rattle.std.specs.Prelude.{◌≡◌, ◌⊎◌, ℕ, List, [], ◌∷◌, �
 use Rattle.portal_base.specs.declared.limits.Settings.{Settings}
 use Rattle.session.specs.Answers.{Outcome}
 use Rattle.session.specs.Standings.{client}
-use Rattle.front_core.specs.declared.input.FrontInput.{FrontInput}
-use Rattle.front_core.specs.declared.input.FrontInput.TheVariants as come
-use Rattle.front_core.specs.declared.input.FrontOutput.{FrontOutput}
+use Rattle.front_end.specs.declared.input.FrontInput.{FrontInput}
+use Rattle.front_end.specs.declared.input.FrontInput.TheVariants as come
+use Rattle.front_end.specs.declared.input.FrontOutput.{FrontOutput}
 use Rattle.front_core.specs.Doing.{CameDoes, EndedDoes, FailedDoes, OpenedDoes, Passes, TookDoes}
 use Rattle.front_core.specs.Fronts.{Front}
 use Rattle.front_core.specs.Waking.{WakeDoes, Waits}

@@ -9,8 +9,8 @@ use Rattle.portal_model.specs.Seated.{Binding, Exchange}
 use Rattle.session.specs.Items.{joined}
 use Rattle.session.specs.Pushes.{with_serial}
 use Rattle.session.specs.Standings.{Standing, fresh}
-use Rattle.front_core.specs.declared.input.FrontEnding.{FrontEnding}
-use Rattle.front_core.specs.declared.input.FrontOutput.{FrontOutput}
+use Rattle.front_end.specs.declared.input.FrontEnding.{FrontEnding}
+use Rattle.front_end.specs.declared.input.FrontOutput.{FrontOutput}
 use Rattle.front_core.specs.declared.seats.Begun.{Begun}
 use Rattle.front_core.specs.declared.seats.Begun.TheVariants as begun
 use Rattle.front_core.specs.Asking.{Asked, Book}

@@ -10,7 +10,7 @@ use Rattle.session.specs.Answers.{Outcome, last_spoken, signals_for, spoken}
 use Rattle.session.specs.Asked.{is_host}
 use Rattle.session.specs.Items.{joined}
 use Rattle.session.specs.Pushes.{is_ready, with_serial}
-use Rattle.front_core.specs.declared.input.FrontOutput.{FrontOutput}
+use Rattle.front_end.specs.declared.input.FrontOutput.{FrontOutput}
 use Rattle.front_core.specs.declared.link.Link.{Link}
 use Rattle.front_core.specs.Doing.{Answered, Passes}
 use Rattle.front_core.specs.Fronts.{Front, state_of}

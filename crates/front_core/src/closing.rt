@@ -3,7 +3,7 @@
 ghost use Rattle.std.specs.Prelude.{◌≡◌};
 ghost use Rattle.front_core.specs.Closing.{closing, ended_by};
 
-use crate::input::FrontEnding;
+use front_end::input::FrontEnding;
 use session::served::Fed;
 
 /// How many bytes of answers a client may let lie.

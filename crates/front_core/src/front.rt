@@ -7,10 +7,10 @@ ghost use Rattle.portal_desk.specs.Opening.{IsOpeningState};
 ghost use Rattle.portal_model.specs.History.{Legal, run};
 ghost use Rattle.portal_model.specs.Seated.{is_open};
 
-use crate::input::{FrontInput, FrontStep};
 use crate::links::Links;
 use crate::signalling::Signalling;
 use crate::steps::take_step;
+use front_end::input::{FrontInput, FrontStep};
 use portal_base::limits::Settings;
 use portal_base::memory::WantOfMemory;
 use std::alloc::Global;

@@ -14,7 +14,6 @@
 //!
 //! | Room | Holds |
 //! |---|---|
-//! | `input` | [`input::FrontInput`], [`input::FrontOutput`] and [`input::FrontStep`] |
 //! | `signalling` | [`signalling::Signalling`]: what keeps a history, and tells who waits |
 //! | `link`, `links` | what is open on a link, and a table of that |
 //! | `closing` | when a link is closed, and why |
@@ -37,7 +36,6 @@
 
 mod closing;
 pub mod front;
-pub mod input;
 pub mod link;
 pub mod links;
 mod seats;

@@ -15,12 +15,12 @@ ghost use Rattle.std.specs.Prelude.{IfOk, ◌+◌, ◌++◌, [], length};
 ghost use Rattle.portal_model.specs.declared.request.Request.TheVariants.{Enter};
 
 use crate::closing::closing;
-use crate::input::{FrontEnding, FrontInput, FrontOutput, FrontStep};
 use crate::link::Link;
 use crate::links::Links;
 use crate::seats::{Begun, begin, hear, leave};
 use crate::signalling::Signalling;
 use crate::waking::{waits, wake};
+use front_end::input::{FrontEnding, FrontInput, FrontOutput, FrontStep};
 use portal_base::limits::Settings;
 use portal_base::list::{ByteList, List};
 use portal_base::memory::WantOfMemory;
@@ -282,7 +282,7 @@ fn with_room(alloc: Global) -> Result<Vec<FrontOutput>, WantOfMemory>
 }
 
 ghost use Rattle.std.specs.Prelude.{vec_capacity, ◌∷◌};
-ghost use Rattle.front_core.specs.declared.input.FrontOutput.TheVariants.{Close};
+ghost use Rattle.front_end.specs.declared.input.FrontOutput.TheVariants.{Close};
 
 /// Puts the close of a link into room that was taken: behind Leave nothing may fail.
 fn close_reserved(outputs: &mut Vec<FrontOutput>, link: u32, ending: FrontEnding)

@@ -11,12 +11,12 @@ ghost use Rattle.portal_model.specs.History.{run};
 ghost use Rattle.std.specs.Prelude.{◌⊎◌, [], ◌∷◌};
 ghost use Rattle.portal_model.specs.declared.request.Request.TheVariants.{Collect};
 
-use crate::input::FrontOutput;
 use crate::link::Link;
 use crate::links::Links;
 use crate::seats::push;
 use crate::signalling::Signalling;
 use crate::steps::settle;
+use front_end::input::FrontOutput;
 use portal_base::list::List;
 use portal_base::memory::WantOfMemory;
 use session::served::Fed;

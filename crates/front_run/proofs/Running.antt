@@ -6,16 +6,16 @@ use Rattle.portal_model.specs.declared.entry.Entry.{Entry}
 use Rattle.portal_model.specs.State.{State}
 use Rattle.portal_model.proofs.SeatLaws.{begins-itself, begins-through}
 use Rattle.session.specs.Answers.{Outcome}
-use Rattle.front_core.specs.declared.input.FrontInput.{FrontInput}
-use Rattle.front_core.specs.declared.input.FrontOutput.{FrontOutput}
+use Rattle.front_end.specs.declared.input.FrontInput.{FrontInput}
+use Rattle.front_end.specs.declared.input.FrontOutput.{FrontOutput}
 use Rattle.front_core.specs.Asking.{AreRefusedIn, Book}
 use Rattle.front_core.specs.Cores.{Hall, front_in}
 use Rattle.front_core.specs.FrontOuts.{FrontOut, Turn}
 use Rattle.front_core.specs.Fronts.{Front}
 use Rattle.front_core.proofs.Growing.{counted_joined, refused_joined, went_nowhere}
-use Rattle.front_run.specs.declared.end.FrontEvent.{FrontEvent}
-use Rattle.front_run.specs.declared.end.FrontEvent.TheVariants.{Gave, Took}
-use Rattle.front_run.specs.Ends.{EndIs, Talk, Talked, events_of, given_events, logged, talk}
+use Rattle.front_end.specs.declared.end.FrontEvent.{FrontEvent}
+use Rattle.front_end.specs.declared.end.FrontEvent.TheVariants.{Gave, Took}
+use Rattle.front_end.specs.Ends.{EndIs, Talk, Talked, events_of, given_events, logged, talk}
 use Rattle.front_run.specs.Runs.{Counted, HaltsAt, RunsShort, RunsThrough, ServesInput}
 use Rattle.front_run.specs.declared.run.FrontStatus.{FrontStatus}
 

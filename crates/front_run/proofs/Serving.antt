@@ -6,10 +6,10 @@ use Rattle.portal_base.specs.Outside.{HasRisen}
 use Rattle.portal_base.specs.declared.limits.Settings.{Settings}
 use Rattle.portal_model.specs.Seated.{BeginsWith}
 use Rattle.session.specs.Answers.{Outcome}
-use Rattle.front_core.specs.declared.input.FrontInput.{FrontInput}
-use Rattle.front_core.specs.declared.input.FrontInput.TheVariants.{Wake}
-use Rattle.front_core.specs.declared.input.FrontOutput.{FrontOutput}
-use Rattle.front_core.specs.declared.input.FrontStep.{FrontStep}
+use Rattle.front_end.specs.declared.input.FrontInput.{FrontInput}
+use Rattle.front_end.specs.declared.input.FrontInput.TheVariants.{Wake}
+use Rattle.front_end.specs.declared.input.FrontOutput.{FrontOutput}
+use Rattle.front_end.specs.declared.input.FrontStep.{FrontStep}
 use Rattle.front_core.specs.Asking.{Book}
 use Rattle.front_core.specs.Breaking.{BreaksOff}
 use Rattle.front_core.specs.Cores.{Done, Hall, StepEnds, Steps, StepsAs, Stopped, front_in}
@@ -17,12 +17,12 @@ use Rattle.front_core.specs.FrontOuts.{Does, Turn}
 use Rattle.front_core.specs.Fronts.{Front}
 use Rattle.front_core.specs.Waking.{Waits}
 use Rattle.front_core.proofs.Begins.{breaks_begins, does_begins, does_opening}
-use Rattle.front_run.specs.declared.end.FrontEvent.{FrontEvent}
-use Rattle.front_run.specs.declared.end.FrontEvent.TheVariants.{Gave}
-use Rattle.front_run.specs.declared.end.NextInput.TheVariants as next
+use Rattle.front_end.specs.declared.end.FrontEvent.{FrontEvent}
+use Rattle.front_end.specs.declared.end.FrontEvent.TheVariants.{Gave}
+use Rattle.front_end.specs.declared.end.NextInput.TheVariants as next
 use Rattle.front_run.specs.declared.run.FrontStatus.{FrontStatus}
 use Rattle.front_run.specs.declared.run.FrontStatus.TheVariants as status
-use Rattle.front_run.specs.Ends.{EndIs, Nexts, Talk, Talked, events_of, given_events, logged, talk}
+use Rattle.front_end.specs.Ends.{EndIs, Nexts, Talk, Talked, events_of, given_events, logged, talk}
 use Rattle.front_run.specs.Runs.{AreFirst, AreGiven, Counted, HaltCounts, HaltsAt, InputEnds, RunsAs, RunsShort, RunsThrough, ServesInput}
 use Rattle.front_run.proofs.Running.{TakesInput, counted_on, through_halts}
 

@@ -2,8 +2,8 @@
 use Rattle.std.specs.Prelude.{◌≡◌, List}
 use Rattle.portal_base.specs.declared.limits.Settings.{Settings}
 use Rattle.session.specs.Answers.{Outcome, denied}
-use Rattle.front_core.specs.declared.input.FrontInput.TheVariants.{Wake}
-use Rattle.front_core.specs.declared.input.FrontOutput.{FrontOutput}
+use Rattle.front_end.specs.declared.input.FrontInput.TheVariants.{Wake}
+use Rattle.front_end.specs.declared.input.FrontOutput.{FrontOutput}
 use Rattle.front_core.specs.Cores.{Agrees}
 use Rattle.front_core.specs.FrontOuts.{Does}
 use Rattle.front_core.specs.Fronts.{Front}

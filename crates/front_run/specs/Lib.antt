@@ -1,4 +1,2 @@
-pub mod Ends
 pub mod Runs
 pub mod Laws
-pub mod InMemory

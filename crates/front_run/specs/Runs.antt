@@ -10,18 +10,18 @@ use Rattle.app_world.specs.World.{app_run, trace}
 use Rattle.served_world.specs.Laws.{AreAlike}
 use Rattle.served_world.specs.ServedWorld.{requests_in, served_run, served_trace}
 use Rattle.session.specs.Answers.{Outcome, denied}
-use Rattle.front_core.specs.declared.input.FrontInput.{FrontInput}
-use Rattle.front_core.specs.declared.input.FrontInput.TheVariants.{Wake}
-use Rattle.front_core.specs.declared.input.FrontOutput.{FrontOutput}
+use Rattle.front_end.specs.declared.input.FrontInput.{FrontInput}
+use Rattle.front_end.specs.declared.input.FrontInput.TheVariants.{Wake}
+use Rattle.front_end.specs.declared.input.FrontOutput.{FrontOutput}
 use Rattle.front_core.specs.Asking.{AreRefusedIn, Book}
 use Rattle.front_core.specs.Breaking.{BreaksOff}
 use Rattle.front_core.specs.Cores.{Hall, front_in}
 use Rattle.front_core.specs.FrontOuts.{Does, FrontOut, Turn}
 use Rattle.front_core.specs.Fronts.{Front}
-use Rattle.front_run.specs.declared.end.FrontEvent.TheVariants.{Took}
+use Rattle.front_end.specs.declared.end.FrontEvent.TheVariants.{Took}
 use Rattle.front_run.specs.declared.run.FrontStatus.{FrontStatus}
 use Rattle.front_run.specs.declared.run.FrontStatus.TheVariants as status
-use Rattle.front_run.specs.Ends.{EndIs, Talk, Talked, events_of, given_events, logged}
+use Rattle.front_end.specs.Ends.{EndIs, Talk, Talked, events_of, given_events, logged}
 
 -- these are the first of those
 abbrev pub AreFirst : List FrontOutput → List FrontOutput → Type 0

@@ -1,6 +1,6 @@
 //! A front that runs: what comes to it is taken from an end, and what it gives goes there.
 //!
-//! **It promises**, over whatever is an [`end::FrontEnd`], that the outputs which were given are
+//! **It promises**, over whatever is an [`front_end::end::FrontEnd`], that the outputs which were given are
 //! those that the definition of a front has of the inputs that were taken, with one wake behind
 //! each input where a host waits: all of them where no input is to come any more, and else the
 //! first of them. Those of an input and of its wake stand ahead of the next input. The history of
@@ -11,8 +11,6 @@
 //!
 //! | Room | Holds |
 //! |---|---|
-//! | `end` | [`end::FrontEnd`]: where inputs come from, and outputs go |
-//! | `in_memory` | [`in_memory::MemoryEnd`]: an end in memory, which tells |
 //! | `run` | [`run::run_front`] |
 //! | `laws` | a wake tells everybody |
 //!
@@ -22,7 +20,5 @@
 //! ```
 #![tactic(auto)]
 
-pub mod end;
-pub mod in_memory;
 pub mod laws;
 pub mod run;

@@ -4,16 +4,16 @@ ghost use Rattle.std.specs.Prelude.{◌≡◌, ℕ, [], false, OnOk, OnErr, Matc
 ghost use Rattle.front_core.specs.Asking.{book};
 ghost use Rattle.front_core.specs.Cores.{hall};
 ghost use Rattle.front_core.specs.Fronts.{front, links_of};
-ghost use Rattle.front_run.specs.Ends.{end_is};
+ghost use Rattle.front_end.specs.Ends.{end_is};
 ghost use Rattle.front_run.specs.Runs.{AreGiven, AreIsolated, AreServed, InputEnds, RunsAs};
 ghost use Rattle.portal_model.specs.History.{Legal, run};
 ghost use Rattle.portal_model.specs.Seated.{BeginsWith, is_open};
 
-use crate::end::{FrontEnd, Given2, NextInput};
 use app_world::laws::applications_are_isolated;
 use front_core::front::FrontCore;
-use front_core::input::{FrontInput, FrontOutput, FrontStep};
 use front_core::signalling::Signalling;
+use front_end::end::{FrontEnd, Given2, NextInput};
+use front_end::input::{FrontInput, FrontOutput, FrontStep};
 use portal_base::limits::Settings;
 use portal_base::list::List;
 use portal_base::memory::{Replica, WantOfMemory};

@@ -28,8 +28,12 @@ pub struct Door {
     pub(crate) socket: UnixListener,
     pub(crate) who: Who,
     pub(crate) kind: Kind,
+    /// How many of its clients have a connection.
+    pub(crate) links: usize,
     /// Whether it waits for its turn.
     pub(crate) is_queued: bool,
+    /// Whether it isn't asked until a link closes.
+    pub(crate) is_held: bool,
 }
 
 /// What asking a listener for a client came to.
@@ -42,7 +46,7 @@ pub(crate) enum Knock {
     /// The next one has gone.
     Gone,
     /// No client can be taken for now.
-    HeldUp(io::Error),
+    HeldUp,
     /// The listener fails.
     Failed(io::Error),
 }
@@ -55,25 +59,27 @@ impl Door {
             socket: UnixListener::from_std(socket),
             who,
             kind,
+            links: 0,
             is_queued: false,
+            is_held: false,
         })
     }
 
-    /// Asks for the next client.
-    pub(crate) fn knock(&self, alloc: Global) -> Knock {
+    /// Asks for the next client, of the listener at this place.
+    pub(crate) fn knock(&self, alloc: Global, place: usize) -> Knock {
         let error = match self.socket.accept() {
-            Ok((stream, _)) => return Knock::Client(Wire::new(alloc, stream, self.kind)),
+            Ok((stream, _)) => return Knock::Client(Wire::new(alloc, stream, self.kind, place)),
             Err(error) => error,
         };
         match error.kind() {
             ErrorKind::WouldBlock => return Knock::Nobody,
             ErrorKind::Interrupted => return Knock::Gone,
-            ErrorKind::OutOfMemory => return Knock::HeldUp(error),
+            ErrorKind::OutOfMemory => return Knock::HeldUp,
             _ => {}
         }
         match error.raw_os_error() {
             Some(code) if CLIENT_GONE.contains(&code) => Knock::Gone,
-            Some(code) if HOLDS_UP.contains(&code) => Knock::HeldUp(error),
+            Some(code) if HOLDS_UP.contains(&code) => Knock::HeldUp,
             _ => Knock::Failed(error),
         }
     }

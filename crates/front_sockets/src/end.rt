@@ -1,11 +1,12 @@
 //! The end of a front at Unix sockets.
 
-ghost use Rattle.std.specs.Prelude.{◌≡◌, IfOk};
+ghost use Rattle.std.specs.Prelude.{◌≡◌, ◌≤◌, IfOk};
+ghost use Rattle.portal_base.specs.Outside.{HasRisen};
 
 use crate::door::Door;
 use crate::sockets::{Next, Sockets};
-use front_core::input::FrontOutput;
-use front_run::end::{FrontEnd, Given2, NextInput};
+use front_end::end::{FrontEnd, Given2, NextInput};
+use front_end::input::FrontOutput;
 use mio::Poll;
 use portal_base::list::List;
 use std::alloc::Global;
@@ -25,12 +26,20 @@ pub struct SocketEnd {
 
 impl SocketEnd {
     /// The end at these listeners, whose sockets are told of by this.
-    pub fn new(alloc: Global, poll: Poll, doors: List<Door>) -> io::Result<SocketEnd>
+    ///
+    /// So many connections may be there at once, and one of each listener at the least: with more a
+    /// listener is left unasked until a link closes, and who connects waits.
+    pub fn new(
+        alloc: Global,
+        poll: Poll,
+        doors: List<Door>,
+        most_links: usize,
+    ) -> io::Result<SocketEnd>
         ensures ends { IfOk result (λ end. end.ends ≡ 0) }
         ensures faults { IfOk result (λ end. end.faults ≡ 0) }
     {
         Ok(SocketEnd {
-            sockets: Sockets::new(alloc, poll, doors)?,
+            sockets: Sockets::new(alloc, poll, doors, most_links)?,
             last_fault: None,
             ends: 0,
             faults: 0,
@@ -40,6 +49,16 @@ impl SocketEnd {
     /// What the system said of the last fault.
     pub fn last_fault(&self) -> Option<&io::Error> {
         self.last_fault.as_ref()
+    }
+
+    /// The system failed, which is counted.
+    fn fail(&mut self, error: io::Error)
+        ensures ends { self.new.ends ≡ self.old.ends }
+        ensures faults { self.old.faults ≤ self.new.faults }
+        ensures rise { HasRisen self.old.faults self.new.faults }
+    {
+        self.last_fault = Some(error);
+        self.faults = self.faults.saturating_add(1);
     }
 }
 
@@ -60,8 +79,7 @@ impl FrontEnd for SocketEnd {
                 NextInput::Closed
             }
             Next::Failed(error) => {
-                self.last_fault = Some(error);
-                self.faults = self.faults.saturating_add(1);
+                self.fail(error);
                 NextInput::Failed
             }
             Next::Memory => NextInput::Memory,
@@ -72,8 +90,7 @@ impl FrontEnd for SocketEnd {
         match self.sockets.give(alloc, output) {
             Ok(()) => Given2::Done,
             Err(error) => {
-                self.last_fault = Some(error);
-                self.faults = self.faults.saturating_add(1);
+                self.fail(error);
                 Given2::Failed
             }
         }

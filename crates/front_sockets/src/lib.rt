@@ -7,8 +7,9 @@
 //! No call on a socket waits. A wait is one for all sockets (epoll(7), by `mio`, which tells each
 //! readiness once), and all that are ready take turns: in its turn a link gives one piece of at
 //! most 65,536 bytes, or takes one, and a listener gives one client; behind each round of turns
-//! it is looked who else is ready. Where no descriptor is left for a client its listener is asked
-//! again once a link has closed.
+//! it is looked who else is ready. So many connections may be there as its maker says, among them one
+//! of each listener: where that is all, or no descriptor is left, a listener is asked again once
+//! a link has closed.
 //!
 //! It has a link of its own, on which it asks as the host's mount: by it the end finds out
 //! whether the history is full, and spends what is left of it (`own`).
@@ -22,7 +23,7 @@
 //! | `own` | the end's own link |
 //!
 //! ```text
-//! let mut end = SocketEnd::new(system, doors)?;
+//! let mut end = SocketEnd::new(alloc, Poll::new(&rt)?, doors, most_links)?;
 //! let done = run_front(alloc, &rt, &mut end, portal, &settings);
 //! ```
 #![tactic(auto)]

@@ -5,7 +5,7 @@
 //! the history has room for the longest one, the client's request was longer, and all goes on.
 //! Else the rest is spent by shorter ones, down to the shortest, and then no request has room.
 
-use front_core::input::{FrontEnding, FrontInput};
+use front_end::input::{FrontEnding, FrontInput};
 use portal_base::list::{ByteList, List};
 use portal_base::memory::WantOfMemory;
 use portal_base::who::{Kind, Who};
@@ -16,7 +16,7 @@ use std::alloc::Global;
 pub(crate) const OWN: u32 = 1;
 
 /// The length of a FUSE_WRITE without its content: `fuse_in_header`, and `fuse_write_in`.
-const WRITE_LEN: usize = 80;
+const WRITE_LEN: u32 = 80;
 
 /// The most content of one, in bytes.
 const MOST_CONTENT: u32 = 131_072;
@@ -53,27 +53,39 @@ enum Stage {
     Spent(u32),
     /// The history has no room for any request.
     Full,
-    /// The history has no room for the link itself.
+    /// The same, and the link isn't open.
+    Over,
+    /// The link was refused at the begin of a history. It is tried again where a client is refused.
     Refused,
 }
 
 /// The end's own link.
 #[derive(Drop)]
-pub(crate) struct Own {
+pub(crate) struct OwnLink {
     stage: Stage,
 }
 
-impl Own {
+impl OwnLink {
     /// One that isn't open yet.
-    pub(crate) fn new() -> Own {
-        Own {
+    pub(crate) fn new() -> OwnLink {
+        OwnLink {
             stage: Stage::Closed,
         }
     }
 
     /// Whether the history is full.
     pub(crate) fn is_full(&self) -> bool {
-        self.stage == Stage::Full
+        matches!(self.stage, Stage::Full | Stage::Over)
+    }
+
+    /// The last input on it of a history that is full, where the link is open; else all is to begin
+    /// anew.
+    pub(crate) fn last(&mut self) -> Option<FrontInput> {
+        if self.stage == Stage::Full {
+            return Some(FrontInput::Ended { link: OWN });
+        }
+        self.stage = Stage::Closed;
+        None
     }
 
     /// The next input on it, where there is one.
@@ -101,9 +113,11 @@ impl Own {
 
     /// A client was told that there is no room.
     pub(crate) fn probe(&mut self) {
-        if self.stage == Stage::Rests {
-            self.stage = Stage::Probes;
-        }
+        self.stage = match self.stage {
+            Stage::Rests => Stage::Probes,
+            Stage::Refused => Stage::Closed,
+            stage => stage,
+        };
     }
 
     /// These bytes answer what was asked.
@@ -122,7 +136,12 @@ impl Own {
     /// The link was closed.
     pub(crate) fn close(&mut self, ending: FrontEnding) {
         self.stage = match ending {
-            FrontEnding::Served(Served::Full { .. }) => Stage::Refused,
+            _ if self.stage == Stage::Full => Stage::Over,
+            // A history that holds something has no room for the link.
+            FrontEnding::Served(Served::Full { cost, limit: _ }) if cost > 0 => Stage::Over,
+            FrontEnding::Served(Served::Full { cost: _, limit: _ } | Served::Memory) => {
+                Stage::Refused
+            }
             _ => Stage::Closed,
         };
     }
@@ -153,9 +172,9 @@ pub(crate) fn has_error(frames: &[u8], error: i32) -> bool {
 
 /// A FUSE_WRITE of so much content to the handle 0.
 fn spending_request(alloc: Global, content: u32) -> Result<ByteList, WantOfMemory> {
-    let len = WRITE_LEN.saturating_add(content as usize);
-    let mut bytes = List::from_vec(vec![in alloc; 0; len]?);
-    put(&mut bytes, 0, &(len as u32).to_le_bytes());
+    let len = WRITE_LEN.saturating_add(content);
+    let mut bytes = List::from_vec(vec![in alloc; 0; len as usize]?);
+    put(&mut bytes, 0, &len.to_le_bytes());
     put(&mut bytes, 4, &FUSE_WRITE.to_le_bytes());
     put(&mut bytes, 8, &UNIQUE.to_le_bytes());
     put(&mut bytes, 16, &ROOT.to_le_bytes());

@@ -1,9 +1,9 @@
 //! All sockets of an end, and whose turn it is.
 
 use crate::door::{Door, Knock};
-use crate::own::{OWN, Own, has_error};
+use crate::own::{OWN, OwnLink, has_error};
 use crate::wire::{PIECE, Turned, Wire};
-use front_core::input::{FrontEnding, FrontInput, FrontOutput};
+use front_end::input::{FrontEnding, FrontInput, FrontOutput};
 use memchr::memmem;
 use mio::{Events, Interest, Poll, Token};
 use portal_base::list::List;
@@ -13,10 +13,15 @@ use session::served::Served;
 use std::alloc::Global;
 use std::collections::VecDeque;
 use std::io;
+use std::io::ErrorKind;
 use std::time::Duration;
 
 /// How many sockets are told of at once.
 const EVENTS: usize = 256;
+
+/// For how many milliseconds listeners are left unasked that are held up where no link is there
+/// that could close.
+const PAUSE: u64 = 100;
 
 /// The first number of a client's link.
 const FIRST: u32 = OWN + 1;
@@ -50,31 +55,34 @@ pub(crate) struct Sockets {
     events: Events,
     doors: Vec<Door>,
     wires: Vec<Option<Wire>>,
+    /// How many connections there may be at once.
+    most_links: usize,
     queue: VecDeque<usize>,
     /// How many turns are left of this round.
     left: usize,
-    own: Own,
+    own: OwnLink,
     buffer: Vec<u8>,
-    /// Listeners are to be asked again once a link has closed.
-    held_up: bool,
-    /// The history was full, and each link ended.
-    is_over: bool,
 }
 
 impl Sockets {
-    /// The sockets of these listeners.
-    pub(crate) fn new(alloc: Global, poll: Poll, doors: List<Door>) -> io::Result<Sockets> {
+    /// The sockets of these listeners, by which so many connections may be there at once; beyond
+    /// that each listener may have one.
+    pub(crate) fn new(
+        alloc: Global,
+        poll: Poll,
+        doors: List<Door>,
+        most_links: usize,
+    ) -> io::Result<Sockets> {
         let mut sockets = Sockets {
             poll,
             events: Events::with_capacity(alloc, EVENTS)?,
             doors: Vec::new(alloc),
             wires: Vec::new(alloc),
+            most_links,
             queue: VecDeque::new(alloc),
             left: 0,
-            own: Own::new(),
+            own: OwnLink::new(),
             buffer: vec![in alloc; 0; PIECE]?,
-            held_up: false,
-            is_over: false,
         };
         for (place, door) in doors.into_vec().into_iter().enumerate() {
             sockets.add_door(place, door)?;
@@ -95,10 +103,6 @@ impl Sockets {
 
     /// The next input. It may wait for one.
     pub(crate) fn next(&mut self, alloc: Global) -> Next {
-        if self.is_over {
-            self.is_over = false;
-            return Next::Over;
-        }
         for _ in 0..u64::MAX {
             match self.own.next(alloc) {
                 Ok(Some(input)) => return Next::Input(input),
@@ -111,10 +115,11 @@ impl Sockets {
             match self.turn(alloc) {
                 Ok(Some(next)) => return next,
                 Ok(None) => {}
+                Err(error) if error.kind() == ErrorKind::OutOfMemory => return Next::Memory,
                 Err(error) => return Next::Failed(error),
             }
         }
-        Next::Failed(io::Error::from(io::ErrorKind::Other))
+        Next::Failed(io::Error::from(ErrorKind::Other))
     }
 
     /// At the end of a history each link ends, the end's own one last.
@@ -122,94 +127,126 @@ impl Sockets {
         for (place, wire) in self.wires.iter().enumerate() {
             match wire {
                 Some(wire) if wire.is_open => {
-                    return Next::Input(FrontInput::Ended {
-                        link: link_at(place),
-                    });
+                    let link = link_at(place);
+                    return Next::Input(FrontInput::Ended { link });
                 }
                 _ => {}
             }
         }
-        Next::Input(FrontInput::Ended { link: OWN })
+        match self.own.last() {
+            Some(input) => Next::Input(input),
+            None => Next::Over,
+        }
     }
 
-    /// One turn, or a wait where nobody has one.
+    /// One turn, ahead of which it may wait where nobody has one.
     fn turn(&mut self, alloc: Global) -> io::Result<Option<Next>> {
         if self.left == 0 {
-            // Behind a round others may be ready too.
-            let now = if self.queue.is_empty() {
-                None
-            } else {
-                Some(Duration::from_millis(0))
-            };
-            self.wait(now)?;
+            self.wait()?;
             self.left = self.queue.len();
         }
+        self.left = self.left.saturating_sub(1);
         let Some(place) = self.queue.pop_front() else {
-            self.left = 0;
             return Ok(None);
         };
-        self.left = self.left.saturating_sub(1);
-        let doors = self.doors.len();
-        if place < doors {
-            return self.turn_of_door(alloc, place);
+        match place.checked_sub(self.doors.len()) {
+            Some(place) => self.turn_of_wire(alloc, place),
+            None => self.turn_of_door(alloc, place),
         }
-        self.turn_of_wire(alloc, place.saturating_sub(doors))
     }
 
-    /// Waits until a socket is ready, at most so long, and lets each that is wait for its turn.
-    fn wait(&mut self, most: Option<Duration>) -> io::Result<()> {
+    /// Waits until a socket is ready, and lets each that is wait for its turn. Where some wait for
+    /// their turn already it is only looked who else is ready.
+    fn wait(&mut self) -> io::Result<()> {
+        let most = self.longest_wait();
         self.poll.poll(&mut self.events, most)?;
         let doors = self.doors.len();
         for event in self.events.iter() {
-            let place = event.token().0;
-            let is_to_queue = if place < doors {
-                is_door_to_queue(&mut self.doors, place)
-            } else {
-                let to_read = event.is_readable() || event.is_read_closed() || event.is_error();
-                let to_write = event.is_writable() || event.is_write_closed();
-                is_wire_to_queue(
-                    &mut self.wires,
-                    place.saturating_sub(doors),
-                    to_read,
-                    to_write,
-                )
+            let token = event.token().0;
+            let is_to_queue = match token.checked_sub(doors) {
+                Some(place) => {
+                    let to_read = event.is_readable() || event.is_read_closed() || event.is_error();
+                    let to_write = event.is_writable() || event.is_write_closed();
+                    is_wire_to_queue(&mut self.wires, place, to_read, to_write)
+                }
+                None => is_door_to_queue(&mut self.doors, token),
             };
             if is_to_queue {
-                self.queue.push_back(place)?;
+                self.queue.push_back(token)?;
             }
+        }
+        if !self.has_links() {
+            self.ask_held()?;
         }
         Ok(())
     }
 
+    /// How long a wait may be.
+    fn longest_wait(&self) -> Option<Duration> {
+        if !self.queue.is_empty() {
+            return Some(Duration::from_millis(0));
+        }
+        if !self.has_links() && self.doors.iter().any(|door| door.is_held) {
+            return Some(Duration::from_millis(PAUSE));
+        }
+        None
+    }
+
+    /// Whether a client has a connection.
+    fn has_links(&self) -> bool {
+        self.doors.iter().any(|door| door.links > 0)
+    }
+
     /// A listener gives its next client.
     fn turn_of_door(&mut self, alloc: Global, place: usize) -> io::Result<Option<Next>> {
+        let has_room = self.has_room(place);
         let Some(door) = self.doors.get_mut(place) else {
             return Ok(None);
         };
         door.is_queued = false;
-        match door.knock(alloc) {
-            Knock::Client(wire) => match door.who.replica(alloc) {
-                Ok(who) => {
-                    let kind = door.kind;
-                    self.queue_door(place)?;
-                    let link = self.add_wire(wire)?;
-                    Ok(Some(Next::Input(FrontInput::Opened { link, who, kind })))
-                }
-                Err(WantOfMemory) => Ok(Some(Next::Memory)),
-            },
+        if !has_room {
+            return self.hold(place);
+        }
+        match door.knock(alloc, place) {
+            Knock::Client(wire) => self.open(alloc, place, wire),
             Knock::Nobody => Ok(None),
             Knock::Gone => {
                 self.queue_door(place)?;
                 Ok(None)
             }
-            // It is left unasked until a link closes.
-            Knock::HeldUp(_) => {
-                self.held_up = true;
-                self.give_up_closed()?;
-                Ok(None)
-            }
+            Knock::HeldUp => self.hold(place),
             Knock::Failed(error) => Err(error),
         }
+    }
+
+    /// Whether a listener may give one more client: one that has none may always, and for each
+    /// such room for one is left.
+    fn has_room(&self, place: usize) -> bool {
+        let mut links = 0_usize;
+        for door in self.doors.iter() {
+            links = links.saturating_add(door.links.max(1));
+        }
+        match self.doors.get(place) {
+            Some(door) => door.links == 0 || links < self.most_links,
+            None => false,
+        }
+    }
+
+    /// A listener is left unasked until a link closes. What its connections still had to send whose
+    /// links were closed is given up: they go in their turn.
+    fn hold(&mut self, place: usize) -> io::Result<Option<Next>> {
+        if let Some(door) = self.doors.get_mut(place) {
+            door.is_held = true;
+        }
+        for at in 0..self.wires.len() {
+            if let Some(Some(wire)) = self.wires.get_mut(at) {
+                if wire.door == place && !wire.is_open {
+                    wire.give_up();
+                }
+            }
+            self.queue_wire(at)?;
+        }
+        Ok(None)
     }
 
     /// Lets a listener wait for its turn.
@@ -220,27 +257,56 @@ impl Sockets {
         Ok(())
     }
 
-    /// Takes a client's connection over: the number of its link.
-    fn add_wire(&mut self, wire: Wire) -> io::Result<u32> {
-        let place = match self.wires.iter().position(|wire| wire.is_none()) {
-            Some(place) => place,
-            None => {
-                self.wires.push(None)?;
-                self.wires.len().saturating_sub(1)
-            }
+    /// The link of a client that a listener has given. Where the system watches no more sockets its
+    /// connection is closed.
+    fn open(&mut self, alloc: Global, place: usize, wire: Wire) -> io::Result<Option<Next>> {
+        self.queue_door(place)?;
+        let Some(door) = self.doors.get(place) else {
+            return Ok(None);
         };
+        let Ok(who) = door.who.replica(alloc) else {
+            return Ok(Some(Next::Memory));
+        };
+        let kind = door.kind;
+        let Some(link) = self.add_wire(wire)? else {
+            return Ok(None);
+        };
+        if let Some(door) = self.doors.get_mut(place) {
+            door.links = door.links.saturating_add(1);
+        }
+        Ok(Some(Next::Input(FrontInput::Opened { link, who, kind })))
+    }
+
+    /// Takes a client's connection over, where the system watches it: the number of its link.
+    fn add_wire(&mut self, wire: Wire) -> io::Result<Option<u32>> {
+        let place = self.free_place()?;
         let mut wire = wire;
         let token = self.doors.len().saturating_add(place);
         let both = Interest::READABLE | Interest::WRITABLE;
-        self.poll
-            .registry()
-            .register(&mut wire.stream, Token(token), both)?;
+        let registry = self.poll.registry();
+        if registry
+            .register(&mut wire.stream, Token(token), both)
+            .is_err()
+        {
+            return Ok(None);
+        }
         wire.is_queued = true;
         self.queue.push_back(token)?;
         if let Some(slot) = self.wires.get_mut(place) {
             *slot = Some(wire);
         }
-        Ok(link_at(place))
+        Ok(Some(link_at(place)))
+    }
+
+    /// The first place that has no connection.
+    fn free_place(&mut self) -> io::Result<usize> {
+        match self.wires.iter().position(|wire| wire.is_none()) {
+            Some(place) => Ok(place),
+            None => {
+                self.wires.push(None)?;
+                Ok(self.wires.len().saturating_sub(1))
+            }
+        }
     }
 
     /// A link takes its turn.
@@ -250,15 +316,12 @@ impl Sockets {
             return Ok(None);
         };
         let turned = wire.turn(self.buffer.as_mut_slice());
-        wire.is_queued = wire.has_work();
+        wire.is_queued = false;
         if let Turned::Done = turned {
             self.free(place)?;
             return Ok(None);
         }
-        if wire.is_queued {
-            let token = self.doors.len().saturating_add(place);
-            self.queue.push_back(token)?;
-        }
+        self.queue_wire(place)?;
         let input = match turned {
             Turned::Came(count) => {
                 let came = self.buffer.get(..count).unwrap_or(&[]);
@@ -275,32 +338,28 @@ impl Sockets {
         Ok(Some(Next::Input(input)))
     }
 
-    /// A link's connection goes, and listeners that waited for that are asked again.
+    /// A connection goes, and listeners that were held up are asked again.
     fn free(&mut self, place: usize) -> io::Result<()> {
         if let Some(slot) = self.wires.get_mut(place) {
-            *slot = None;
-        }
-        if !self.held_up {
-            return Ok(());
-        }
-        self.held_up = false;
-        for place in 0..self.doors.len() {
-            self.queue_door(place)?;
-        }
-        Ok(())
-    }
-
-    /// What connections still had to send whose links were closed is given up: they go in their
-    /// turn.
-    fn give_up_closed(&mut self) -> io::Result<()> {
-        let doors = self.doors.len();
-        for place in 0..self.wires.len() {
-            if let Some(Some(wire)) = self.wires.get_mut(place) {
-                if !wire.is_open {
-                    wire.give_up();
+            if let Some(wire) = slot.take() {
+                if let Some(door) = self.doors.get_mut(wire.door) {
+                    door.links = door.links.saturating_sub(1);
                 }
             }
-            self.queue_at(place, doors.saturating_add(place))?;
+        }
+        self.ask_held()
+    }
+
+    /// Lets listeners that were held up wait for their turn.
+    fn ask_held(&mut self) -> io::Result<()> {
+        for place in 0..self.doors.len() {
+            let Some(door) = self.doors.get_mut(place) else {
+                return Ok(());
+            };
+            if door.is_held {
+                door.is_held = false;
+                self.queue_door(place)?;
+            }
         }
         Ok(())
     }
@@ -312,20 +371,8 @@ impl Sockets {
                 self.own.answered(bytes.as_slice());
                 Ok(())
             }
-            FrontOutput::Write { link, bytes } => {
-                let doors = self.doors.len();
-                let place = place_of(link);
-                let Some(Some(wire)) = self.wires.get_mut(place) else {
-                    return Ok(());
-                };
-                wire.put(bytes.as_slice());
-                if tells_no_room(wire.kind, bytes.as_slice()) {
-                    self.own.probe();
-                }
-                self.queue_at(place, doors.saturating_add(place))
-            }
+            FrontOutput::Write { link, bytes } => self.write(link, bytes.as_slice()),
             FrontOutput::Close { link, ending } if link == OWN => {
-                self.is_over = self.own.is_full();
                 self.own.close(ending);
                 Ok(())
             }
@@ -333,24 +380,35 @@ impl Sockets {
         }
     }
 
-    fn close(&mut self, alloc: Global, link: u32, ending: FrontEnding) -> io::Result<()> {
-        let doors = self.doors.len();
+    fn write(&mut self, link: u32, bytes: &[u8]) -> io::Result<()> {
         let place = place_of(link);
         let Some(Some(wire)) = self.wires.get_mut(place) else {
             return Ok(());
         };
-        if let FrontEnding::Served(Served::Full { .. }) = ending {
+        wire.put(bytes);
+        if tells_no_room(wire.kind, bytes) {
             self.own.probe();
         }
-        let sends = matches!(ending, FrontEnding::Served(_));
-        wire.close(alloc, sends);
-        self.queue_at(place, doors.saturating_add(place))
+        self.queue_wire(place)
+    }
+
+    fn close(&mut self, alloc: Global, link: u32, ending: FrontEnding) -> io::Result<()> {
+        let place = place_of(link);
+        let Some(Some(wire)) = self.wires.get_mut(place) else {
+            return Ok(());
+        };
+        wire.close(alloc, matches!(ending, FrontEnding::Served(_)));
+        if let FrontEnding::Served(Served::Full { cost: _, limit: _ }) = ending {
+            self.own.probe();
+        }
+        self.queue_wire(place)
     }
 
     /// Lets a link wait for its turn where it has something to do.
-    fn queue_at(&mut self, place: usize, token: usize) -> io::Result<()> {
+    fn queue_wire(&mut self, place: usize) -> io::Result<()> {
         if is_wire_to_queue(&mut self.wires, place, false, false) {
-            self.queue.push_back(token)?;
+            self.queue
+                .push_back(self.doors.len().saturating_add(place))?;
         }
         Ok(())
     }
@@ -364,14 +422,16 @@ fn tells_no_room(kind: Kind, bytes: &[u8]) -> bool {
     }
 }
 
-/// A listener is to wait for its turn: whether it didn't yet.
+/// A listener that isn't held up is to wait for its turn: whether it didn't yet.
 fn is_door_to_queue(doors: &mut Vec<Door>, place: usize) -> bool {
     let Some(door) = doors.get_mut(place) else {
         return false;
     };
-    let is_new = !door.is_queued;
+    if door.is_queued || door.is_held {
+        return false;
+    }
     door.is_queued = true;
-    is_new
+    true
 }
 
 /// A link is ready so, and is to wait for its turn where it has something to do: whether it
@@ -393,9 +453,12 @@ fn is_wire_to_queue(
     true
 }
 
-/// The number of the link at a place.
+/// The number of the link at a place, of which there are fewer than numbers.
 fn link_at(place: usize) -> u32 {
-    FIRST.saturating_add(place as u32)
+    match u32::try_from(place) {
+        Ok(place) => FIRST.saturating_add(place),
+        Err(_) => u32::MAX,
+    }
 }
 
 /// The place of a link of this number.

@@ -4,6 +4,7 @@ use bytes::BytesMut;
 use mio::net::UnixStream;
 use portal_base::who::Kind;
 use std::alloc::Global;
+use std::io;
 use std::io::{ErrorKind, Read, Write};
 
 /// How many bytes are read or written at a turn, at most.
@@ -16,6 +17,8 @@ pub(crate) const PIECE: usize = 65_536;
 pub(crate) struct Wire {
     pub(crate) stream: UnixStream,
     pub(crate) kind: Kind,
+    /// The place of the listener that gave it.
+    pub(crate) door: usize,
     unsent: BytesMut,
     /// How many bytes were sent that the front wasn't told of.
     sent: u64,
@@ -47,11 +50,12 @@ pub(crate) enum Turned {
 }
 
 impl Wire {
-    /// A connection of a client that speaks so.
-    pub(crate) fn new(alloc: Global, stream: UnixStream, kind: Kind) -> Wire {
+    /// A connection of a client that speaks so, by the listener at a place.
+    pub(crate) fn new(alloc: Global, stream: UnixStream, kind: Kind, door: usize) -> Wire {
         Wire {
             stream,
             kind,
+            door,
             unsent: BytesMut::new(alloc),
             sent: 0,
             can_read: true,
@@ -81,7 +85,7 @@ impl Wire {
 
     /// One turn: at most a piece is sent, and at most one is read into the buffer.
     pub(crate) fn turn(&mut self, buffer: &mut [u8]) -> Turned {
-        self.send();
+        self.send_unsent();
         if !self.is_open {
             return self.turn_closed();
         }
@@ -129,45 +133,49 @@ impl Wire {
     }
 
     /// Sends at most a piece of what is unsent, where that needn't wait.
-    fn send(&mut self) {
+    fn send_unsent(&mut self) {
         if !self.can_write || self.unsent.is_empty() || self.has_failed {
             return;
         }
-        let unsent = self.unsent.as_slice();
-        let count = unsent.len().min(PIECE);
-        let Some(piece) = unsent.get(..count) else {
-            return;
-        };
-        let sent = self.stream.write(piece);
-        let count = match sent {
-            Ok(count) => count,
-            Err(error) => {
-                self.meet(error.kind());
-                return;
-            }
-        };
-        let count = count.min(self.unsent.len());
+        let written = write_piece(&mut self.stream, self.unsent.as_slice());
+        let count = self.sent_of(written).min(self.unsent.len());
         self.unsent.advance(count);
-        self.sent = self.sent.saturating_add(count as u64);
+        if self.unsent.is_empty() {
+            // What was a long rest takes no memory from now on.
+            self.unsent = BytesMut::new(*self.unsent.allocator());
+        }
     }
 
-    /// A write met this.
-    fn meet(&mut self, kind: ErrorKind) {
-        match kind {
+    /// How many bytes a write has sent, which is counted.
+    fn sent_of(&mut self, written: io::Result<usize>) -> usize {
+        let error = match written {
+            Ok(count) => {
+                self.sent = self.sent.saturating_add(count as u64);
+                return count;
+            }
+            Err(error) => error,
+        };
+        match error.kind() {
             ErrorKind::WouldBlock => self.can_write = false,
             ErrorKind::Interrupted => {}
             _ => self.has_failed = true,
         }
+        0
     }
 
-    /// Takes bytes over that are to be sent, and sends at most a piece at once. Without memory for
-    /// them the connection fails.
+    /// Takes bytes over that are to be sent, and sends at most a piece at once where none waits.
+    /// Without memory for the rest the connection fails.
     pub(crate) fn put(&mut self, bytes: &[u8]) {
-        if self.unsent.extend_from_slice(bytes).is_err() {
-            self.has_failed = true;
-            return;
+        let mut count = 0;
+        if self.unsent.is_empty() && self.can_write && !self.has_failed {
+            let written = write_piece(&mut self.stream, bytes);
+            count = self.sent_of(written);
         }
-        self.send();
+        if let Some(rest) = bytes.get(count..) {
+            if self.unsent.extend_from_slice(rest).is_err() {
+                self.has_failed = true;
+            }
+        }
     }
 
     /// What is unsent isn't sent any more.
@@ -181,5 +189,13 @@ impl Wire {
         if !sends {
             self.unsent = BytesMut::new(alloc);
         }
+    }
+}
+
+/// Sends a front of these bytes, at most a piece, where that needn't wait: how many.
+fn write_piece(stream: &mut UnixStream, bytes: &[u8]) -> io::Result<usize> {
+    match bytes.get(..PIECE) {
+        Some(piece) => stream.write(piece),
+        None => stream.write(bytes),
     }
 }

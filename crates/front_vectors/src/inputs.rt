@@ -2,7 +2,7 @@
 
 ghost use Rattle.std.specs.Prelude.{◌<◌, ◌^◌};
 
-use front_core::input::FrontInput;
+use front_end::input::FrontInput;
 use portal_base::limits::{Limits, Settings};
 use portal_base::list::{ByteList, List};
 use portal_base::names::HostPath;

@@ -4,8 +4,8 @@ ghost use Rattle.std.specs.Prelude.{◌≡◌, []};
 
 use crate::inputs::{SCRIPT, inputs, limits_for, options, settings};
 use crate::shown::{put_history, put_input, put_output};
-use front_run::end::FrontEvent;
-use front_run::in_memory::MemoryEnd;
+use front_end::end::FrontEvent;
+use front_end::in_memory::MemoryEnd;
 use front_run::run::{FrontDone, run_front};
 use portal_base::limits::Settings;
 use portal_lines::{ScriptPortal, opened_by};

@@ -1,6 +1,6 @@
 //! How what a front gives is printed.
 
-use front_core::input::{FrontInput, FrontOutput};
+use front_end::input::{FrontInput, FrontOutput};
 use portal_history::History;
 use portal_model::request::Request;
 use std::alloc::Global;

@@ -5,7 +5,7 @@ ghost use Rattle.std.specs.Prelude.{◌≡◌, []};
 use crate::inputs::{SCRIPT, inputs, limits_for, options, settings};
 use crate::shown::{put_history, put_output};
 use front_core::front::FrontCore;
-use front_core::input::{FrontInput, FrontStep};
+use front_end::input::{FrontInput, FrontStep};
 use portal_base::limits::Settings;
 use portal_base::list::List;
 use portal_lines::{ScriptPortal, opened_by};

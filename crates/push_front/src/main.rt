@@ -6,20 +6,24 @@
 //! | Room | Holds |
 //! |---|---|
 //! | `words` | what the words ask for |
+//! | `room` | how many files the service has open, and how many connections beside these |
 //! | `prepare` | what the service stands on, opened |
 //! | `rounds` | the service, one history after another |
-//! | `told` | what is told, and how the service ended |
+//! | `told` | what is told |
 //!
 //! `docs/serve.md` says how it is run, and for whom it is; `docs/statuses.md` how it ends.
 #![tactic(auto)]
 
 mod prepare;
+mod room;
 mod rounds;
 mod told;
 mod words;
 
+use crate::words::Asked;
 use host_real::System;
-use std::alloc::AllocGlobal;
+use serve_command::answer::tell;
+use serve_start::end::ServeEnd;
 use std::net::Net;
 use std::process::ExitCode;
 
@@ -28,11 +32,11 @@ fn main(rt: HostRuntime) -> ExitCode {
 }
 
 /// Does what the words ask for: the number that the program ends with.
-fn answer<R: System + Net + AllocGlobal>(rt: &R, system: &HostRuntime) -> u8 {
-    match words::asked(system) {
-        words::Asked::Tell(text) => told::print(system, text.as_str()),
-        words::Asked::Faulty(why) => told::usage(system, why.as_str()),
-        words::Asked::Memory => told::end(system, &serve_start::end::ServeEnd::Memory),
-        words::Asked::Serve(words) => told::end(system, &rounds::serve(rt, system, &words)),
+fn answer<R: System + Net>(rt: &R, system: &HostRuntime) -> u8 {
+    match words::read(system) {
+        Asked::Tell(text) => told::print(system, text.as_str()),
+        Asked::Faulty(why) => told::usage(system, why.as_str()),
+        Asked::Memory => tell(system, &ServeEnd::Memory),
+        Asked::Serve(words) => tell(system, &rounds::serve(rt, system, &words)),
     }
 }

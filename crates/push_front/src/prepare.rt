@@ -1,55 +1,35 @@
 //! What the service stands on, opened.
 
+use crate::told::reason;
 use front_sockets::{Door, SocketEnd};
-use host_real::{OpenError, RealTree, System, files_beside};
+use host_real::{OpenError, RealTree, System};
 use keeper_sqlite::{DatabaseFault, SqliteKeeper};
-use libc::types::rlimit;
 use mio::Poll;
 use portal_base::limits::Settings;
 use portal_base::list::List;
-use portal_base::memory::{Replica, WantOfMemory};
+use portal_base::memory::Replica;
 use portal_base::outside::Words;
 use portal_base::text::Text;
+use serve_command::standing::{Hall, Place, Standing};
+use serve_command::store::ToldKeeper;
 use serve_start::end::ServeEnd;
-use serve_start::files::files_wanted;
 use serve_start::settings::settings;
-use serve_start::sockets::{Socket, sockets_of};
+use serve_start::sockets::Socket;
 use serve_words::words::ServeWords;
+use std::io::ErrorKind;
 use std::net::Net;
-use std::os::unix::net::UnixListener;
-use std::{fmt, fs, io};
+use std::{fmt, io};
 use system_devices::SystemWords;
-use unix_links::SocketFolder;
+use unix_links::{SocketFolder, Watch};
 
-/// The most files that are counted.
-const MOST_FILES: u64 = 1_000_000;
-
-/// A socket that is made, and is to stand at its path.
-#[derive(Drop)]
-struct Place {
-    socket: Socket,
-    listener: UnixListener,
-}
-
-/// The sockets of a service, which were made in a folder out of sight.
-#[derive(Drop)]
-pub(crate) struct Hall {
-    folder: SocketFolder,
-    places: List<Place>,
-}
-
-/// The tree of the files of a service, which leaves room for its connections.
+/// The tree of the files of a service, which keeps at most so many of them open.
 pub(crate) fn open_root<R: System>(
     rt: &R,
     system: &HostRuntime,
-    words: &ServeWords,
+    root: &Text,
+    kept: usize,
 ) -> Result<RealTree<R>, ServeEnd> {
-    let sockets = 2 + 2 * words.apps.len().min(64) as u64;
-    // A connection of each socket at the least.
-    let wanted = files_wanted(files_open(system), sockets, sockets);
-    see_files(wanted)?;
-    let kept = files_beside(wanted);
-    match RealTree::open(*rt, *system, system.alloc(), words.root.as_str(), kept) {
+    match RealTree::open(*rt, *system, system.alloc(), root.as_str(), kept) {
         Ok(tree) => Ok(tree),
         Err(OpenError::Memory) => Err(ServeEnd::Memory),
         Err(error) => Err(ServeEnd::NoRoot {
@@ -58,37 +38,10 @@ pub(crate) fn open_root<R: System>(
     }
 }
 
-/// How many files the process has open, at most a million; three where `/proc` isn't mounted.
-fn files_open(system: &HostRuntime) -> u64
-    ensures { result ≤ 1000000 }
-{
-    let Ok(entries) = fs::read_dir(system, "/proc/self/fd") else {
-        return 3;
-    };
-    (entries.take(MOST_FILES as usize).count() as u64).min(MOST_FILES)
-}
-
-ghost use Rattle.std.specs.Prelude.{◌≤◌};
-
-/// Refuses where fewer files may be open (getrlimit(2)).
-fn see_files(wanted: u64) -> Result<(), ServeEnd> {
-    let mut limit = rlimit {
-        rlim_cur: 0,
-        rlim_max: 0,
-    };
-    if libc::getrlimit(libc::RLIMIT_NOFILE, &mut limit) != 0 || limit.rlim_cur >= wanted {
-        return Ok(());
-    }
-    Err(ServeEnd::FewFiles {
-        wanted,
-        allowed: limit.rlim_cur,
-    })
-}
-
 /// Words that nobody can foresee, and the settings of the service with a guid that was drawn.
 pub(crate) fn draw(
     system: &HostRuntime,
-    words: &ServeWords,
+    history: u64,
 ) -> Result<(SystemWords, Settings), ServeEnd> {
     let mut drawn = match SystemWords::open(system) {
         Ok(drawn) => drawn,
@@ -99,7 +52,7 @@ pub(crate) fn draw(
         }
     };
     let guid = guid_of(&mut drawn);
-    let settings = settings(system.alloc(), words.history, guid)?;
+    let settings = settings(system.alloc(), history, guid)?;
     Ok((drawn, settings))
 }
 
@@ -112,16 +65,24 @@ fn guid_of(words: &mut SystemWords) -> [u8; 16] {
     [a, b, c, d, e, f, g, h, i, j, k, l, m, n, o, p]
 }
 
-/// The sockets, made out of sight in their folder. Where one can't be, none is left.
-pub(crate) fn make_sockets(system: &HostRuntime, words: &ServeWords) -> Result<Hall, ServeEnd> {
-    let alloc = system.alloc();
-    let sockets = sockets_of(alloc, &words.sockets, words.apps.as_slice())?;
-    let folder = match SocketFolder::take(system, words.sockets.as_str()) {
+/// The sockets, made out of sight in their folder, which is taken. Where one can't be, none is
+/// left.
+pub(crate) fn make_sockets(
+    system: &HostRuntime,
+    path: &Text,
+    sockets: &[Socket],
+) -> Result<Hall, ServeEnd> {
+    let own = Text::copied(system.alloc(), path.as_str())?;
+    let folder = match SocketFolder::take(system, path.as_str()) {
         Ok(folder) => folder,
-        Err(error) => return Err(no_socket(system, &words.sockets, &error)),
+        Err(error) => return Err(no_socket(system, path, &error)),
     };
     match places(system, &folder, sockets) {
-        Ok(places) => Ok(Hall { folder, places }),
+        Ok(places) => Ok(Hall {
+            folder,
+            path: own,
+            places,
+        }),
         Err(end) => {
             folder.clear(system);
             Err(end)
@@ -132,26 +93,28 @@ pub(crate) fn make_sockets(system: &HostRuntime, words: &ServeWords) -> Result<H
 fn places(
     system: &HostRuntime,
     folder: &SocketFolder,
-    sockets: List<Socket>,
+    sockets: &[Socket],
 ) -> Result<List<Place>, ServeEnd> {
     let mut places = List::new(system.alloc());
-    for socket in sockets.into_vec() {
-        let listener = match folder.bind(system, places.len(), socket.path.as_str()) {
+    for socket in sockets {
+        let path = &socket.path;
+        let listener = match folder.bind(system, places.len(), path.as_str()) {
             Ok(listener) => listener,
-            Err(error) => return Err(no_socket(system, &socket.path, &error)),
+            Err(error) => return Err(no_socket(system, path, &error)),
         };
-        places.push(Place { socket, listener })?;
+        let path = Text::copied(system.alloc(), path.as_str())?;
+        places.push(Place { path, listener })?;
     }
     Ok(places)
 }
 
 /// The store in a file.
-pub(crate) fn open_store(
-    system: &HostRuntime,
-    words: &ServeWords,
-) -> Result<SqliteKeeper, ServeEnd> {
-    match SqliteKeeper::open(system, words.store.as_str()) {
-        Ok(keeper) => Ok(keeper),
+pub(crate) fn open_store<'a>(
+    system: &'a HostRuntime,
+    store: &Text,
+) -> Result<ToldKeeper<'a>, ServeEnd> {
+    match SqliteKeeper::open(system, store.as_str()) {
+        Ok(keeper) => Ok(ToldKeeper::new(system, keeper)),
         Err(DatabaseFault::Memory) => Err(ServeEnd::Memory),
         Err(error) => Err(ServeEnd::KeeperFault {
             why: reason(system, &error)?,
@@ -159,71 +122,74 @@ pub(crate) fn open_store(
     }
 }
 
-/// The end at sockets that were made, which are put in their places then. Where one can't be,
-/// none stays.
-pub(crate) fn stand<N: Net>(
+/// The end at sockets that were made, at which so many connections may be.
+pub(crate) fn end_at<N: Net>(
     net: &N,
     system: &HostRuntime,
-    words: &ServeWords,
-    hall: Hall,
+    folder: &Text,
+    standing: &Standing<'_>,
+    sockets: &[Socket],
+    links: usize,
 ) -> Result<SocketEnd, ServeEnd> {
-    match end_at(net, system, &hall.places) {
-        Ok(end) => {
-            show(system, &hall)?;
-            hall.folder.clear(system);
-            Ok(end)
-        }
-        Err(error) => {
-            hall.folder.clear(system);
-            Err(no_socket(system, &words.sockets, &error))
-        }
+    let mut doors = List::new(system.alloc());
+    for socket in sockets {
+        doors.push(door_of(system, standing, socket)?)?;
+    }
+    match end_of_doors(net, system, doors, links) {
+        Ok(end) => Ok(end),
+        Err(error) => Err(no_socket(system, folder, &error)),
     }
 }
 
-/// The end at these sockets.
-fn end_at<N: Net>(net: &N, system: &HostRuntime, places: &List<Place>) -> io::Result<SocketEnd> {
-    let alloc = system.alloc();
-    let mut doors = Vec::new(alloc);
-    for place in places.as_slice() {
-        let who = match place.socket.who.replica(alloc) {
-            Ok(who) => who,
-            Err(WantOfMemory) => return Err(io::Error::from(io::ErrorKind::OutOfMemory)),
-        };
-        doors.push(Door::new(place.listener.try_clone()?, who, place.socket.kind)?)?;
-    }
-    SocketEnd::new(alloc, Poll::new(net)?, List::from_vec(doors))
+fn end_of_doors<N: Net>(
+    net: &N,
+    system: &HostRuntime,
+    doors: List<Door>,
+    links: usize,
+) -> io::Result<SocketEnd> {
+    SocketEnd::new(system.alloc(), Poll::new(net)?, doors, links)
 }
 
-/// Puts each socket in its place.
-fn show(system: &HostRuntime, hall: &Hall) -> Result<(), ServeEnd> {
-    for (number, place) in hall.places.as_slice().iter().enumerate() {
-        let path = &place.socket.path;
-        if let Err(error) = hall.folder.show(system, number, path.as_str()) {
-            for shown in hall.places.as_slice().iter().take(number) {
-                let _ = fs::remove_file(system, shown.socket.path.as_str());
-            }
-            hall.folder.clear(system);
-            return Err(no_socket(system, path, &error));
-        }
+/// The listener of a socket that was made.
+fn door_of(
+    system: &HostRuntime,
+    standing: &Standing<'_>,
+    socket: &Socket,
+) -> Result<Door, ServeEnd> {
+    let who = socket.who.replica(system.alloc())?;
+    let made = match standing.socket_at(&socket.path) {
+        Some(made) => made.try_clone(),
+        None => Err(io::Error::from(ErrorKind::NotFound)),
+    };
+    let door = match made {
+        Ok(made) => Door::new(made, who, socket.kind),
+        Err(error) => Err(error),
+    };
+    match door {
+        Ok(door) => Ok(door),
+        Err(error) => Err(no_socket(system, &socket.path, &error)),
     }
-    Ok(())
+}
+
+/// Puts the sockets in their places, and tells that they stand. Where one can't be, none stays.
+pub(crate) fn show(system: &HostRuntime, standing: &Standing<'_>) -> Result<(), ServeEnd> {
+    standing.expect(1);
+    if standing.begin() {
+        return Ok(());
+    }
+    match standing.fault() {
+        Some((place, error)) => Err(no_socket(system, &place.path, error)),
+        None => Err(ServeEnd::SocketFault),
+    }
 }
 
 /// The end of a service of which a socket can't be made.
-fn no_socket<E: fmt::Display>(system: &HostRuntime, path: &Text, error: &E) -> ServeEnd {
+pub(crate) fn no_socket<E: fmt::Display>(system: &HostRuntime, path: &Text, error: &E) -> ServeEnd {
     let Ok(path) = Text::copied(system.alloc(), path.as_str()) else {
         return ServeEnd::Memory;
     };
     match reason(system, error) {
         Ok(why) => ServeEnd::NoSocket { path, why },
-        Err(end) => end,
-    }
-}
-
-/// What an error says of itself.
-pub(crate) fn reason<E: fmt::Display>(system: &HostRuntime, error: &E) -> Result<String, ServeEnd> {
-    match format!(in system.alloc(); "{error}") {
-        Ok(text) => Ok(text),
-        Err(_) => Err(ServeEnd::Memory),
+        Err(_) => ServeEnd::Memory,
     }
 }

@@ -11,15 +11,15 @@ use std::io::ErrorKind;
 const HELP: &str = "\
 Serves the document portal and the permission store at Unix sockets, on one thread.
 
-usage: push_front --root DIR --store FILE --sockets DIR [--history N] [APP..]
+usage: push_front --root <DIR> --store <FILE> --sockets <DIR> [--history <N>] [APP]...
        push_front version
 
-  --root DIR     the folder that host paths are looked up below
-  --store FILE   the database of what is kept; made where there is none
-  --sockets DIR  the folder that the sockets are made in; made where there is none
-  --history N    how many bytes the history of requests may cost, up to 4294967296
-                 (536870912)
-  APP..          the applications, up to 64, each with a bus and a mount
+  --root <DIR>     The folder that host paths are looked up below
+  --store <FILE>   The database of what is kept; made where there is none
+  --sockets <DIR>  The folder that the sockets are made in; made where there is none
+  --history <N>    How many bytes the history of requests may cost, up to 4294967296
+                   [default: 536870912]
+  [APP]...         The applications, up to 64, each with a bus and a mount
 
 The sockets, and the numbers that it ends with, are those of `docportal serve`.
 docs/serve.md says which of the two programs is for whom.
@@ -45,7 +45,7 @@ pub(crate) enum Asked {
 }
 
 /// What the words of the program ask for.
-pub(crate) fn asked(system: &HostRuntime) -> Asked {
+pub(crate) fn read(system: &HostRuntime) -> Asked {
     let arguments = match env::args(system) {
         Ok(arguments) => arguments,
         Err(error) if error.kind() == ErrorKind::OutOfMemory => return Asked::Memory,

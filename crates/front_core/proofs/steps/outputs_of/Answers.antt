@@ -1,5 +1,5 @@
 use Rattle.front_core.specs.Cores.{hall}
-use Rattle.front_core.specs.declared.input.FrontInput.TheVariants as come
+use Rattle.front_end.specs.declared.input.FrontInput.TheVariants as come
 use Rattle.front_core.proofs.Ending.{by_input}
 use Rattle.front_core.proofs.steps.outputs_of.Goals as goal
 

@@ -2,7 +2,7 @@ use Rattle.std.proofs.Common.{◌≡◌, [], false}
 use Rattle.front_core.specs.Asking.{book}
 use Rattle.front_core.specs.Cores.{front_in, hall}
 use Rattle.front_core.specs.Fronts.{front, links_of}
-use Rattle.front_run.specs.Ends.{end_is}
+use Rattle.front_end.specs.Ends.{end_is}
 use Rattle.front_run.specs.Runs.{RunsThrough}
 use Rattle.front_run.proofs.run.run_core.Given as goal
 

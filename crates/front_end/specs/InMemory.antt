@@ -1,8 +1,8 @@
 -- What an end in memory tells.
 use Rattle.std.specs.Prelude.{◌≡◌, ℕ, ◌≤◌, Bool, true, false}
 use Rattle.portal_base.specs.Outside.{HasRisen}
-use Rattle.front_run.specs.declared.in_memory.MemoryEnd.{MemoryEnd}
-use Rattle.front_run.specs.Ends.{Talk, talk}
+use Rattle.front_end.specs.declared.in_memory.MemoryEnd.{MemoryEnd}
+use Rattle.front_end.specs.Ends.{Talk, talk}
 
 abbrev pub talk_of : MemoryEnd → Talk
 talk_of e = talk e.coming e.log

@@ -1,9 +1,9 @@
 //! Where a front's inputs come from, and where its outputs go.
 
 ghost use Rattle.std.specs.Prelude.{◌≡◌, ℕ, Option};
-ghost use Rattle.front_run.specs.Ends.{GiveCounts, Gives, NextCounts, Nexts, Talk};
+ghost use Rattle.front_end.specs.Ends.{GiveCounts, Gives, NextCounts, Nexts, Talk};
 
-use front_core::input::{FrontInput, FrontOutput};
+use crate::input::{FrontInput, FrontOutput};
 use std::alloc::Global;
 
 /// What stands in the list of an end that tells.

@@ -1,11 +1,11 @@
 //! An end in memory, which tells.
 
 ghost use Rattle.std.specs.Prelude.{◌≡◌, [], Some};
-ghost use Rattle.front_run.specs.Ends.{talk};
-ghost use Rattle.front_run.specs.InMemory.{calls_of, ends_of, fail_at_of, faults_of, talk_of};
+ghost use Rattle.front_end.specs.Ends.{talk};
+ghost use Rattle.front_end.specs.InMemory.{calls_of, ends_of, fail_at_of, faults_of, talk_of};
 
 use crate::end::{FrontEnd, FrontEvent, Given2, NextInput};
-use front_core::input::{FrontInput, FrontOutput};
+use crate::input::{FrontInput, FrontOutput};
 use portal_base::list::List;
 use portal_base::memory::Replica;
 use std::alloc::Global;
@@ -66,7 +66,7 @@ impl MemoryEnd {
     }
 }
 
-ghost use Rattle.front_run.specs.InMemory.{FailCounts};
+ghost use Rattle.front_end.specs.InMemory.{FailCounts};
 
 impl FrontEnd for MemoryEnd {
     ghost talk = { λ e. Some (talk_of e) };

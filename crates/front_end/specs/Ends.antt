@@ -1,14 +1,14 @@
 -- What an end tells, and what its calls do to it.
 use Rattle.std.specs.Prelude.{◌≡◌, ℕ, ◌≤◌, List, [], ◌∷◌, ◌++◌, map, Option, Some, None}
 use Rattle.portal_base.specs.Outside.{HasRisen}
-use Rattle.front_core.specs.declared.input.FrontInput.{FrontInput}
-use Rattle.front_core.specs.declared.input.FrontOutput.{FrontOutput}
-use Rattle.front_run.specs.declared.end.FrontEvent.{FrontEvent}
-use Rattle.front_run.specs.declared.end.FrontEvent.TheVariants.{Gave, Took}
-use Rattle.front_run.specs.declared.end.Given2.{Given2}
-use Rattle.front_run.specs.declared.end.Given2.TheVariants as given
-use Rattle.front_run.specs.declared.end.NextInput.{NextInput}
-use Rattle.front_run.specs.declared.end.NextInput.TheVariants as next
+use Rattle.front_end.specs.declared.input.FrontInput.{FrontInput}
+use Rattle.front_end.specs.declared.input.FrontOutput.{FrontOutput}
+use Rattle.front_end.specs.declared.end.FrontEvent.{FrontEvent}
+use Rattle.front_end.specs.declared.end.FrontEvent.TheVariants.{Gave, Took}
+use Rattle.front_end.specs.declared.end.Given2.{Given2}
+use Rattle.front_end.specs.declared.end.Given2.TheVariants as given
+use Rattle.front_end.specs.declared.end.NextInput.{NextInput}
+use Rattle.front_end.specs.declared.end.NextInput.TheVariants as next
 
 -- the inputs to come; and the inputs that were taken and the outputs that were given, in one list
 pub record Talk : Type 0 where
