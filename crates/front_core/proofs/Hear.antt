@@ -1,7 +1,7 @@
 -- What bytes on a link come to, by what its session made of them.
-use Rattle.std.proofs.Common.{◌≡◌, inl, inr, true, false, ℕ, ◌+◌, List, [], ◌∷◌, ◌++◌, length, Some, refl, sym, ap, ◌∙◌, subst}
+use Rattle.std.proofs.Common.{◌≡◌, inl, inr, true, false, ℕ, ◌+◌, ◌<◌, take, get_or, List, [], ◌∷◌, ◌++◌, length, Some, refl, sym, ap, ◌∙◌, subst}
 use Rattle.std.specs.Prelude.{◌⊎◌}
-use Rattle.std.proofs.lemmas.List.{append-nil, append_assoc}
+use Rattle.std.proofs.lemmas.List.{append-nil, append_assoc, take_more}
 use Rattle.portal_base.specs.Outside.{onto}
 use Rattle.portal_core.specs.Lending.{GoesOn, seated_at}
 use Rattle.portal_model.specs.declared.entry.Entry.{Entry}
@@ -37,6 +37,9 @@ some_is x y e = cc
 -- one item behind others
 one_joined : (is : List (List ℕ)) (i : List ℕ) → joined is ++ i ≡ joined (is ++ i ∷ [])
 one_joined is i = ap (λ (z : List ℕ). joined is ++ z) (sym (append-nil i)) ∙ sym (joined-append is (i ∷ []))
+
+pub joined_more : (xs : List (List ℕ)) (i : ℕ) (x : List ℕ) → i < length xs → x ≡ get_or xs i x → joined (take i xs) ++ x ≡ joined (take (i + 1) xs)
+joined_more xs i x inside is = one_joined (take i xs) x ∙ ap joined (ap (λ (z : List ℕ). take i xs ++ z ∷ []) is ∙ sym (take_more xs i x inside))
 
 -- and what it asks
 requests_one : (xs : List Act) (x : Act) → requests_of (xs ++ x ∷ []) ≡ requests_of xs ++ asked_by x

@@ -65,11 +65,16 @@ pub(crate) fn begin<S: Storied>(
     let mut desk = LocalDesk::new(portal, seat);
     let begun = Session::begin(alloc, &mut desk, who, kind, settings);
     desk.known();
+    let refusals = desk.refusals();
     match begun {
         Ok(session) => Ok(Begun::Session(session)),
-        // A request that was asked is counted.
-        Err(why) if desk.refusals() > 0 => Ok(Begun::Refused(why)),
-        Err(_) => Err(WantOfMemory),
+        Err(why) => {
+            // A request that was asked is counted.
+            if refusals == 0 {
+                return Err(WantOfMemory);
+            }
+            Ok(Begun::Refused(why))
+        }
     }
 }
 
@@ -103,8 +108,9 @@ pub(crate) fn hear<S: Storied>(
     if !is_heard(came) {
         return Err(WantOfMemory);
     }
+    let answer = joined(alloc, written.pieces().as_slice())?;
     Ok(HeardBytes {
-        written: joined(alloc, written.pieces().as_slice())?,
+        written: answer,
         came,
     })
 }

@@ -1,14 +1,16 @@
 -- What one input comes to, with its wake.
-use Rattle.std.proofs.Common.{◌≡◌, inl, inr, ℕ, ◌≤◌, List, [], ◌∷◌, ◌++◌, map, Option, Some, None, Result, Ok, Err, Bool, true, false, refl, sym, ap, ◌∙◌, subst}
-use Rattle.std.specs.Prelude.{IsTrue}
+use Rattle.std.proofs.Common.{◌≡◌, inl, inr, ℕ, ◌≤◌, length, arith, List, [], ◌∷◌, ◌++◌, map, Option, Some, None, Result, Ok, Err, Bool, true, false, refl, sym, ap, ◌∙◌, subst}
+use Rattle.std.specs.Prelude.{IfSome, IsTrue}
 use Rattle.std.proofs.lemmas.List.{append-nil, append_assoc, map-append}
 use Rattle.portal_base.specs.Outside.{HasRisen}
 use Rattle.portal_base.specs.declared.limits.Settings.{Settings}
+use Rattle.portal_model.specs.Seated.{BeginsWith}
 use Rattle.session.specs.Answers.{Outcome}
 use Rattle.front_end.specs.declared.input.FrontInput.{FrontInput}
 use Rattle.front_end.specs.declared.input.FrontInput.TheVariants.{Wake}
 use Rattle.front_end.specs.declared.input.FrontOutput.{FrontOutput}
 use Rattle.front_end.specs.declared.input.FrontStep.{FrontStep}
+use Rattle.front_core.specs.Asking.{Book}
 use Rattle.front_core.specs.Breaking.{BreaksOff}
 use Rattle.front_core.specs.Cores.{Done, Hall, StepEnds, Steps, StepsAs, Stopped, front_in}
 use Rattle.front_core.specs.FrontOuts.{Does, Turn}
@@ -17,11 +19,12 @@ use Rattle.front_core.specs.Waking.{Waits}
 use Rattle.front_core.proofs.Begins.{breaks_begins, does_begins, does_opening}
 use Rattle.front_end.specs.declared.end.FrontEvent.{FrontEvent}
 use Rattle.front_end.specs.declared.end.FrontEvent.TheVariants.{Gave}
+use Rattle.front_end.specs.declared.end.NextInput.TheVariants as next
 use Rattle.front_run.specs.declared.run.FrontStatus.{FrontStatus}
 use Rattle.front_run.specs.declared.run.FrontStatus.TheVariants as status
-use Rattle.front_end.specs.Ends.{EndIs, Talk, given_events, logged, talk}
-use Rattle.front_run.specs.Runs.{AreFirst, AreGiven, Counted, HaltCounts, HaltsAt, InputEnds, ServesInput}
-use Rattle.front_run.proofs.Running.{counted_on}
+use Rattle.front_end.specs.Ends.{EndIs, Nexts, Talk, Talked, events_of, given_events, logged, talk}
+use Rattle.front_run.specs.Runs.{AreFirst, AreGiven, Counted, HaltCounts, HaltsAt, InputEnds, RunsAs, RunsShort, RunsThrough, ServesInput}
+use Rattle.front_run.proofs.Running.{TakesInput, counted_on, through_halts}
 
 -- ---- what is told
 
@@ -168,7 +171,7 @@ faulted_last s c m d input step out given t u v x due y first told last = record
 
 -- ---- by what giving answered
 
-counts_on : (why : FrontStatus) (e f g : EndIs) → f.ends ≡ e.ends → f.faults ≡ e.faults → HaltCounts why f g → HaltCounts why e g
+pub counts_on : (why : FrontStatus) (e f g : EndIs) → f.ends ≡ e.ends → f.faults ≡ e.faults → HaltCounts why f g → HaltCounts why e g
 counts_on status.Closed e f g a b h = h
 counts_on status.EndFault e f g a b h = subst (λ (n : ℕ). (g.ends ≡ n) × (e.faults ≤ g.faults) × HasRisen e.faults g.faults) a
     (subst (λ (n : ℕ). (g.ends ≡ f.ends) × (n ≤ g.faults) × HasRisen n g.faults) b h)
@@ -189,3 +192,78 @@ wake_ends s c m d input step out (Err status.Closed) e f g x due y told a b h = 
 wake_ends s c m d input step out (Err status.EndFault) e f g x due y told a b h =
     (faulted_last s c m d input step out h.0 e.told f.told g.told x due y h.1 told h.2, counts_on status.EndFault e f g a b h.3)
 wake_ends s c m d input step out (Err status.Memory) e f g x due y told a b h = absurd h
+
+-- ---- outputs that are given, one after another
+
+pub nothing_left : {X : Type 0} (rows : List X) → length rows ≡ 0 → rows ≡ []
+nothing_left [] e = refl
+nothing_left (x ∷ xs) e = absurd (omega arith)
+
+pub more_given : (all left rest : List FrontOutput) (output : FrontOutput) (t u v : Option Talk) → ((given : List FrontOutput) × (all ≡ given ++ left) × (u ≡ logged t (given_events given))) → left ≡ output ∷ rest → v ≡ logged u (Gave output ∷ [])
+    → (given : List FrontOutput) × (all ≡ given ++ rest) × (v ≡ logged t (given_events given))
+more_given all left rest output t u v s is gave = (
+  s.0 ++ output ∷ [],
+  s.1 ∙ (ap (λ (z : List FrontOutput). s.0 ++ z) is ∙ sym (append_assoc s.0 (output ∷ []) rest)),
+  given_on t u v s.0 (output ∷ []) s.2 gave,
+)
+
+pub all_given : (all given left : List FrontOutput) (t u : Option Talk) → all ≡ given ++ left → left ≡ [] → u ≡ logged t (given_events given) → u ≡ logged t (given_events all)
+all_given all given left t u is none told = told ∙ ap (λ (z : List FrontOutput). logged t (given_events z)) (sym (append-nil given) ∙ (ap (λ (z : List FrontOutput). given ++ z) (sym none) ∙ sym is))
+
+-- ---- by what asking for an input answered
+
+pub takes : (t : Option Talk) (i : FrontInput) (u : Option Talk) → Nexts t (next.Input i) u → TakesInput t i u
+takes None i u h = h
+takes (Some old) i u h = h
+
+pub closed_none : (t u : Option Talk) → Nexts t next.Closed u → IfSome u (λ z. z.coming ≡ [])
+closed_none None u h = subst (λ (o : Option Talk). IfSome o (λ z. z.coming ≡ [])) (sym h) tt
+closed_none (Some old) u h = subst (λ (o : Option Talk). IfSome o (λ z. z.coming ≡ [])) (sym h.1) h.0
+
+pub closed_same : (t u : Option Talk) → Nexts t next.Closed u → u ≡ t
+closed_same None u h = h
+closed_same (Some old) u h = h.1
+
+pub failed_same : (t u : Option Talk) → Nexts t next.Failed u → u ≡ t
+failed_same None u h = h
+failed_same (Some old) u h = h
+
+pub memory_same : (t u : Option Talk) → Nexts t next.Memory u → u ≡ t
+memory_same None u h = h
+memory_same (Some old) u h = h
+
+-- what the end tells is the same
+pub through_at : (s : Settings) (a : Front) (v : Book) (e f g : EndIs) (b : Front) (w : Book) → RunsThrough s a v e f b w → g.told ≡ f.told → RunsThrough s a v e g b w
+through_at s a v e f g b w r same = record {
+  inputs = r.inputs;
+  outcomes = r.outcomes;
+  outs = r.outs;
+  out = r.out;
+  book = r.book;
+  history = r.history;
+  told = subst (λ (o : Option Talk). Talked e.told r.inputs (events_of r.inputs r.outs) o) (sym same) r.told;
+}
+
+pub risen_from : (a b c : ℕ) → b ≡ a → HasRisen b c → HasRisen a c
+risen_from a b c same h = subst (λ (n : ℕ). HasRisen n c) same h
+
+-- the run ended so
+pub runs_closed : (s : Settings) (a : Front) (v : Book) (e f g : EndIs) (b : Front) (w : Book) → RunsThrough s a v e f b w → f.ends ≡ e.ends → Nexts f.told next.Closed g.told → HasRisen f.ends g.ends → RunsAs status.Closed s a v e g w
+runs_closed s a v e f g b w r same n h = (risen_from e.ends f.ends g.ends same h, closed_none f.told g.told n, (b, through_at s a v e f g b w r (closed_same f.told g.told n)))
+
+pub runs_failed : (s : Settings) (a : Front) (v : Book) (e f g : EndIs) (b : Front) (w : Book) → RunsThrough s a v e f b w → f.faults ≡ e.faults → Nexts f.told next.Failed g.told → HasRisen f.faults g.faults → RunsAs status.EndFault s a v e g w
+runs_failed s a v e f g b w r same n h = (risen_from e.faults f.faults g.faults same h, inl (b, through_at s a v e f g b w r (failed_same f.told g.told n)))
+
+pub runs_starved : (s : Settings) (a : Front) (v : Book) (e f g : EndIs) (b : Front) (w : Book) → RunsThrough s a v e f b w → Nexts f.told next.Memory g.told → RunsAs status.Memory s a v e g w
+runs_starved s a v e f g b w r n = inl (b, through_at s a v e f g b w r (memory_same f.told g.told n))
+
+-- at an input
+pub runs_short : (why : FrontStatus) (s : Settings) (a : Front) (v : Book) (e f g h : EndIs) (c : Hall) (k : Book) (i : FrontInput) → RunsThrough s a v e f (front_in c) c.book → f.ends ≡ e.ends → f.faults ≡ e.faults → Nexts f.told (next.Input i) g.told → g.ends ≡ f.ends → g.faults ≡ f.faults
+    → HaltsAt why s c i g.told h.told k → HaltCounts why g h → RunsAs why s a v e h k
+runs_short status.Closed s a v e f g h c k i r ends faults n same like x counts = absurd counts
+runs_short status.EndFault s a v e f g h c k i r ends faults n same like x counts = (risen_from e.faults g.faults h.faults (like ∙ faults) counts.2, inr (through_halts status.EndFault s a v e f g h c k i r (takes f.told i g.told n) x))
+runs_short status.Memory s a v e f g h c k i r ends faults n same like x counts = inr (through_halts status.Memory s a v e f g h c k i r (takes f.told i g.told n) x)
+
+-- the history goes on, whatever the status is
+pub through_begins : (s : Settings) (a : Front) (v : Book) (e f : EndIs) (b : Front) (w : Book) → RunsThrough s a v e f b w → (w.opening ≡ v.opening) × BeginsWith w.history v.history
+through_begins s a v e f b w r = (r.book.opening, r.book.begins)
