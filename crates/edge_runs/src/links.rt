@@ -312,15 +312,20 @@ fn shut_over(
         code: Cell::new(None),
     };
     let mut listener = given(alloc, SocketListener::new(socket, &bell, &watch, false))?;
-    let has_failed = match listener.accept(alloc) {
-        Accepted::Failed => true,
-        Accepted::Link { .. } | Accepted::Closed | Accepted::Memory => false,
+    let told = match listener.accept(alloc) {
+        Accepted::Failed => noted(alloc, &watch),
+        Accepted::Link { source, sink } => {
+            listener.done(source, sink);
+            bad()
+        }
+        Accepted::Closed | Accepted::Memory => bad(),
     };
     drop(listener);
-    match has_failed {
-        true => Ok(debug(alloc, &watch.code.get())?),
-        false => bad(),
-    }
+    told
+}
+
+fn noted(alloc: Global, watch: &Noting) -> Result<String, VectorError> {
+    Ok(debug(alloc, &watch.code.get())?)
 }
 
 /// The text that the next read gives, or why it gives none.
