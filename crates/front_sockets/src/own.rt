@@ -34,7 +34,10 @@ const ROOT: u64 = 1;
 const SIZE_AT: usize = 56;
 
 /// The error of a request for which the history has no room, as a frame tells it.
-const NO_ROOM: i32 = -libc::ENOSPC;
+pub(crate) const NO_ROOM: i32 = -libc::ENOSPC;
+
+/// And that of one whose handle nobody has.
+const NO_HANDLE: i32 = -libc::EBADF;
 
 /// How far the end has come on its own link.
 #[derive(Clone, Copy, PartialEq, Eq)]
@@ -123,12 +126,14 @@ impl OwnLink {
     /// These bytes answer what was asked.
     pub(crate) fn answered(&mut self, bytes: &[u8]) {
         let refused = has_error(bytes, NO_ROOM);
+        let spent = has_error(bytes, NO_HANDLE);
         self.stage = match self.stage {
-            Stage::Probed if !refused => Stage::Rests,
-            Stage::Probed => Stage::Spends(MOST_CONTENT / 2),
-            Stage::Spent(content) if !refused => Stage::Spends(content),
-            Stage::Spent(0) => Stage::Full,
-            Stage::Spent(content) => Stage::Spends(content / 2),
+            Stage::Probed if refused => Stage::Spends(MOST_CONTENT / 2),
+            Stage::Spent(0) if refused => Stage::Full,
+            Stage::Spent(content) if refused => Stage::Spends(content / 2),
+            Stage::Spent(content) if spent => Stage::Spends(content),
+            // There was room; or no memory, and then the next client that is refused shows it.
+            Stage::Probed | Stage::Spent(_) => Stage::Rests,
             stage => stage,
         };
     }

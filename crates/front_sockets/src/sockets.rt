@@ -1,7 +1,7 @@
 //! All sockets of an end, and whose turn it is.
 
 use crate::door::{Door, Knock};
-use crate::own::{OWN, OwnLink, has_error};
+use crate::own::{NO_ROOM, OWN, OwnLink, has_error};
 use crate::wire::{PIECE, Turned, Wire};
 use front_end::input::{FrontEnding, FrontInput, FrontOutput};
 use memchr::memmem;
@@ -26,10 +26,7 @@ const PAUSE: u64 = 100;
 /// The first number of a client's link.
 const FIRST: u32 = OWN + 1;
 
-/// The error of a frame for which the history has no room.
-const NO_ROOM: i32 = -libc::ENOSPC;
-
-/// The error of a call for which it has none.
+/// The error of a call for which the history has no room.
 const LIMITS_EXCEEDED: &[u8] = b"org.freedesktop.DBus.Error.LimitsExceeded";
 
 /// The next of all sockets.
