@@ -1,6 +1,6 @@
 //! What each input does.
 
-ghost use Rattle.std.specs.Prelude.{◌≡◌, ◌≤◌, OnOk, Some};
+ghost use Rattle.std.specs.Prelude.{◌≡◌, ◌≤◌, OnOk, Some, None};
 ghost use Rattle.front_core.specs.Breaking.{BreaksOff, CameStops, Stops};
 ghost use Rattle.front_core.specs.Closing.{closes, closing, most_pending, writes};
 ghost use Rattle.front_core.specs.Cores.{Agrees, Ends, StepEnds, front_in, hall};
@@ -308,6 +308,7 @@ pub(crate) fn settle<S: Signalling>(
     requires whose { now.is_host ≡ is_host now.session.client.who }
     requires open_now { bound (run (S.opening portal.old) (S.entries portal.old)) link
         ≡ Some (binding_of now.session) }
+    requires taken { links_of links.old link ≡ None }
     ensures { SettlesAs link now.session now.pending came bytes
         (hall (S.opening portal.old) (S.entries portal.old) (S.refusals portal.old) links.old)
         result
@@ -319,22 +320,25 @@ pub(crate) fn settle<S: Signalling>(
         pending,
     } = now;
     let pending = pending + bytes.len() as u64;
-    let why = closing(pending, came);
-    let outputs = outputs_at(alloc, link, bytes, why)?;
-    match why {
-        None => links.put(
-            link,
-            Link {
-                session,
-                is_host,
-                pending,
-            },
-        )?,
-        Some(_) => {
+    match closing(pending, came) {
+        None => {
+            let outputs = outputs_at(alloc, link, bytes, None)?;
+            links.put(
+                link,
+                Link {
+                    session,
+                    is_host,
+                    pending,
+                },
+            )?;
+            Ok(outputs)
+        }
+        Some(ending) => {
+            let last = outputs_at(alloc, link, bytes, Some(ending))?;
             let _served = leave(alloc, portal, link, session);
+            Ok(last)
         }
     }
-    Ok(outputs)
 }
 
 /// The bytes that are written on a link, where there are any, and its close, where it is closed.
@@ -346,12 +350,28 @@ fn outputs_at(
 ) -> Result<List<FrontOutput>, WantOfMemory>
     ensures { IfOk result (λ outputs. outputs ≡ writes link bytes ++ closes link why) }
 {
+    let mut outputs = written_at(alloc, link, bytes)?;
+    match why {
+        None => Ok(outputs),
+        Some(ending) => {
+            outputs.push(FrontOutput::Close { link, ending })?;
+            Ok(outputs)
+        }
+    }
+}
+
+/// The bytes that are written on a link, where there are any.
+fn written_at(
+    alloc: Global,
+    link: u32,
+    bytes: ByteList,
+) -> Result<List<FrontOutput>, WantOfMemory>
+    ensures { IfOk result (λ outputs. outputs ≡ writes link bytes) }
+{
     let mut outputs = List::new(alloc);
-    if !bytes.is_empty() {
-        outputs.push(FrontOutput::Write { link, bytes })?;
+    if bytes.is_empty() {
+        return Ok(outputs);
     }
-    if let Some(ending) = why {
-        outputs.push(FrontOutput::Close { link, ending })?;
-    }
+    outputs.push(FrontOutput::Write { link, bytes })?;
     Ok(outputs)
 }
