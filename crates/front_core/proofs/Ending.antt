@@ -57,15 +57,11 @@ came_ends c d m l link at bytes written came now (Err error) there took h s = ca
 abbrev pub TellStops : Bool → Front → ℕ → List Outcome → List Entry → Type 0
 TellStops due a link os k = Stops a link [] os k ⊎ (IsTrue due × Stops a link (Request.Collect ∷ []) os k)
 
-is_true : (due : Bool) → due ≡ true → IsTrue due
-is_true true h = tt
-is_true false h = absurd (cc)
-
 pub told_stopped : (c d : Hall) (link : ℕ) (due : Bool) → due ≡ true → PushedOnly link c.book d.book → Stopped (TellStops due (front_in c) link) c d
 told_stopped c d link due is x = record {
   opening = x.1.0.opening;
   outcomes = x.0 ∷ [];
-  part_of = inr (is_true due is, (x.1.1, x.1.0.grown));
+  part_of = inr (is, (x.1.1, x.1.0.grown));
   caused = x.1.0.caused;
   counted = x.1.0.counted;
 }
@@ -245,10 +241,8 @@ taken_out f g link took = ap (λ (z : ℕ → Option Link). z link) took ∙ pla
 -- ---- what is written
 
 pub writes_none : (link : ℕ) (bytes : List ℕ) (empty : Bool) (out : List FrontOutput) → (IsTrue empty → bytes ≡ []) × (bytes ≡ [] → IsTrue empty) → empty ≡ true → out ≡ [] → out ≡ writes link bytes
-writes_none link bytes true out both is none = none ∙ sym (ap (writes link) (both.0 tt))
-writes_none link bytes false out both is none = absurd (cc)
+writes_none link bytes empty out both is none = none ∙ sym (ap (writes link) (both.0 is))
 
 pub writes_some : (link : ℕ) (bytes : List ℕ) (empty : Bool) (out : List FrontOutput) → (IsTrue empty → bytes ≡ []) × (bytes ≡ [] → IsTrue empty) → empty ≡ false → out ≡ Write link bytes ∷ [] → out ≡ writes link bytes
-writes_some link bytes true out both is some = absurd (cc)
-writes_some link [] false out both is some = absurd (both.1 refl)
-writes_some link (b ∷ bs) false out both is some = some
+writes_some link [] empty out both is some = let nothing : empty ≡ true = both.1 refl in absurd (cc)
+writes_some link (b ∷ bs) empty out both is some = some

@@ -65,13 +65,9 @@ due_some s n o at r there is = is ∙ sym (ap (is_due s n) there)
 pub due_none : (s : State) (n : ℕ) (o : Option Link) → o ≡ None → false ≡ is_due s n o
 due_none s n o none = sym (ap (is_due s n) none)
 
-is_true : (b : Bool) → b ≡ true → IsTrue b
-is_true true h = tt
-is_true false h = absurd (cc)
-
 -- this one does
 pub waits_here : (a : Front) (n : ℕ) (r : Bool) → r ≡ is_due (state_of a) n (a.links n) → r ≡ true → (IsTrue true → Waits a) × (Waits a → IsTrue true)
-waits_here a n r is yes = ((λ _. (n, is_true (is_due (state_of a) n (a.links n)) (sym is ∙ yes))), λ _. tt)
+waits_here a n r is yes = ((λ _. (n, sym is ∙ yes)), λ _. refl)
 
 below_or : (k n : ℕ) → k < n + 1 → (k < n) ⊎ (k ≡ n)
 below_or k n h = omega arith
@@ -86,9 +82,8 @@ none_more s l n r none is no k less = elim (below_or k n less) as (λ _. is_due 
 reached : (n m : ℕ) → (m < n) ⊎ (n ≤ m)
 reached n m = omega arith
 
-never : (b : Bool) → IsTrue b → b ≡ false → ⊥
-never true h k = cc
-never false h k = h
+never : (b : Bool) → b ≡ true → b ≡ false → ⊥
+never b h k = cc
 
 -- and then none does
 pub none_waits : (s : State) (l : List (Option Link)) (n : ℕ) → ((k : ℕ) → k < n → is_due s k (links_of l k) ≡ false) → length l ≤ n → (k : ℕ) → IsTrue (is_due s k (links_of l k)) → ⊥

@@ -4,6 +4,9 @@ use Rattle.front_core.specs.Cores.{front_in, hall}
 use Rattle.front_core.proofs.Telling.{none_more, none_waits, waits_here}
 use Rattle.front_core.proofs.waking.waits.Goals as goal
 
+not_both : false ≡ true → ⊥
+not_both h = cc
+
 pub links-init : goal.links-init
 links-init g c = record { inside = omega arith; none_yet = λ n less. absurd (omega arith) }
 
@@ -22,4 +25,4 @@ links-preserved g c = record {
 pub returns : goal.returns
 returns g c =
     let long : length c.args.links.now ≤ c.loop-links.link = omega arith in
-    ((λ h. absurd h), λ w. none_waits (run (g.S.Storied.opening c.args.portal.now) (g.S.Storied.entries c.args.portal.now)) c.args.links.now c.loop-links.link c.loop-links.invariant.none_yet long w.0 w.1)
+    ((λ h. absurd (not_both h)), λ w. absurd (none_waits (run (g.S.Storied.opening c.args.portal.now) (g.S.Storied.entries c.args.portal.now)) c.args.links.now c.loop-links.link c.loop-links.invariant.none_yet long w.0 w.1))
