@@ -1,6 +1,6 @@
 -- How the parts of a step end, by what their last call answered.
 use Prim.Native.Nat.{zero}
-use Rattle.std.proofs.Common.{◌≡◌, ◌≢◌, suc, nat_lt, ◌&&◌, inl, inr, ℕ, ◌+◌, ◌≤◌, List, [], ◌∷◌, ◌++◌, length, Option, Some, None, Result, Ok, Err, is_err, is_some, Bool, true, false, refl, sym, ap, ◌∙◌, subst, arith}
+use Rattle.std.proofs.Common.{◌≡◌, ◌≢◌, suc, nat_lt, inl, inr, ℕ, ◌+◌, ◌≤◌, List, [], ◌∷◌, ◌++◌, length, Option, Some, None, Result, Ok, Err, is_err, is_some, Bool, true, false, refl, sym, ap, ◌∙◌, subst, arith}
 use Rattle.std.specs.Prelude.{◌⊎◌, IfOk, IsTrue, OnOk}
 use Rattle.std.proofs.lemmas.Bool.Decides.{nat_tests}
 use Rattle.std.specs.Option.{option_map}
@@ -89,19 +89,15 @@ nothing_open does c l link by none left =
       counted = x.counted;
     }
 
-never_free : (b : Bool) → (b && false) ≡ true → ⊥
-never_free true h = cc
-never_free false h = cc
-
-always_free : (n : ℕ) → (nat_lt 0 (suc n) && true) ≡ false → ⊥
+always_free : (n : ℕ) → nat_lt 0 (suc n) ≡ false → ⊥
 always_free n h = grind (arith, nat_tests)
 
-numbered : (n : ℕ) → (nat_lt 0 n && true) ≡ true → n ≢ 0
+numbered : (n : ℕ) → nat_lt 0 n ≡ true → n ≢ 0
 numbered n h = λ e. grind (arith, nat_tests)
 
 pub free_is : (n : ℕ) (o : Option Link) → is_free n o ≡ true → (n ≢ 0) × (o ≡ None)
 free_is n None h = (numbered n h, refl)
-free_is n (Some at) h = absurd (never_free (nat_lt 0 n) h)
+free_is n (Some at) h = absurd (cc)
 
 opened_passes : (a : Front) (n : ℕ) (c : Client) (o : Option Link) → is_free n o ≡ false → OpenedDoes a n c o [] [] a
 opened_passes a zero c o h = (refl, refl, refl)

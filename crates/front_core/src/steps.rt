@@ -122,7 +122,10 @@ fn opened<S: Signalling>(
 fn is_free(links: &Links, link: u32) -> bool
     ensures { result ≡ is_free link (links_of links.now link) }
 {
-    link > 0 && links.get(link).is_none()
+    match links.get(link) {
+        Some(_) => false,
+        None => link > 0,
+    }
 }
 
 /// A link whose session has just begun.
@@ -274,19 +277,19 @@ fn failed<S: Signalling>(
 /// A list of outputs that has room for one.
 fn with_room(alloc: Global) -> Result<Vec<FrontOutput>, WantOfMemory>
     ensures empty { IfOk result (λ outputs. outputs.items ≡ []) }
-    ensures room { IfOk result (λ outputs. 1 ≤ vec_capacity outputs) }
+    ensures room { IfOk result (λ outputs. vec_len outputs < vec_capacity outputs) }
 {
     let mut outputs = Vec::new(alloc);
     outputs.reserve(1)?;
     Ok(outputs)
 }
 
-ghost use Rattle.std.specs.Prelude.{vec_capacity, ◌∷◌};
+ghost use Rattle.std.specs.Prelude.{vec_capacity, vec_len, ◌∷◌, ◌<◌};
 ghost use Rattle.front_end.specs.declared.input.FrontOutput.TheVariants.{Close};
 
 /// Puts the close of a link into room that was taken: behind Leave nothing may fail.
 fn close_reserved(outputs: &mut Vec<FrontOutput>, link: u32, ending: FrontEnding)
-    requires { length outputs.old.items + 1 ≤ vec_capacity outputs.old }
+    requires { vec_len outputs.old < vec_capacity outputs.old }
     ensures { outputs.new.items ≡ outputs.old.items ++ Close link ending ∷ [] }
 {
     outputs.push_reserved(FrontOutput::Close { link, ending });
@@ -361,11 +364,7 @@ fn outputs_at(
 }
 
 /// The bytes that are written on a link, where there are any.
-fn written_at(
-    alloc: Global,
-    link: u32,
-    bytes: ByteList,
-) -> Result<List<FrontOutput>, WantOfMemory>
+fn written_at(alloc: Global, link: u32, bytes: ByteList) -> Result<List<FrontOutput>, WantOfMemory>
     ensures { IfOk result (λ outputs. outputs ≡ writes link bytes) }
 {
     let mut outputs = List::new(alloc);

@@ -35,9 +35,7 @@ leave-_served-requires-clause-open_now g c =
     bound_of (front_in v) c.args.link c.in-Some.now c.requires there
 
 pub close_reserved-requires : goal.close_reserved-requires
-close_reserved-requires g c =
-    let empty : length c.in_ok-outputs.outputs.items ≡ 0 = ap length c.in_ok-outputs.ensures.empty in
-    omega arith
+close_reserved-requires g c = c.in_ok-outputs.ensures.room
 
 pub returns-in_err-outputs : goal.returns-in_err-outputs
 returns-in_err-outputs g c =
