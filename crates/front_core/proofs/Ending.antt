@@ -1,6 +1,6 @@
 -- How the parts of a step end, by what their last call answered.
 use Prim.Native.Nat.{zero}
-use Rattle.std.proofs.Common.{◌≡◌, ◌≢◌, suc, nat_lt, ◌&&◌, inl, inr, ℕ, ◌+◌, ◌≤◌, List, [], ◌∷◌, ◌++◌, length, Option, Some, None, Result, Ok, Err, is_err, is_some, Bool, true, false, refl, sym, ap, ◌∙◌, subst, arith}
+use Rattle.std.proofs.Common.{◌≡◌, ◌≢◌, suc, nat_lt, inl, inr, ℕ, ◌+◌, ◌≤◌, List, [], ◌∷◌, ◌++◌, length, Option, Some, None, Result, Ok, Err, is_err, is_some, Bool, true, false, refl, sym, ap, ◌∙◌, subst, arith}
 use Rattle.std.specs.Prelude.{◌⊎◌, IfOk, IsTrue, OnOk}
 use Rattle.std.proofs.lemmas.Bool.Decides.{nat_tests}
 use Rattle.std.specs.Option.{option_map}
@@ -15,36 +15,34 @@ use Rattle.portal_model.specs.Seated.{binding_of, is_open}
 use Rattle.portal_model.specs.State.{connection_of}
 use Rattle.portal_model.proofs.SeatLaws.{begins-itself}
 use Rattle.session.specs.declared.act.Client.{Client}
+use Rattle.session.specs.Asked.{is_host}
 use Rattle.session.specs.declared.served.Fed.{Fed}
 use Rattle.session.specs.Answers.{Outcome}
 use Rattle.session.specs.Connections.{served_by}
 use Rattle.session.specs.Standings.{Standing, client as client_of}
+use Rattle.front_end.specs.declared.input.FrontEnding.{FrontEnding}
 use Rattle.front_end.specs.declared.input.FrontEnding.TheVariants as because
 use Rattle.front_end.specs.declared.input.FrontInput.{FrontInput}
 use Rattle.front_end.specs.declared.input.FrontInput.TheVariants as come
 use Rattle.front_end.specs.declared.input.FrontOutput.{FrontOutput}
+use Rattle.front_end.specs.declared.input.FrontOutput.TheVariants.{Write}
 use Rattle.front_end.specs.declared.input.FrontStep.{FrontStep}
 use Rattle.front_core.specs.declared.link.Link.{Link}
 use Rattle.front_core.specs.declared.seats.Begun.TheVariants as begun
 use Rattle.front_core.specs.Asking.{Asked, Book}
-use Rattle.front_core.specs.Closing.{closes, writes}
+use Rattle.front_core.specs.Closing.{closes, closing, writes}
 use Rattle.front_core.specs.Breaking.{BreaksOff, CameStops, Stops, WakeStops}
 use Rattle.front_core.specs.Cores.{Agrees, Done, Ends, Hall, Stands, StepEnds, StepsAs, Stopped, binding, front_in}
 use Rattle.front_core.specs.Doing.{CameDoes, OpenedDoes, Passes}
 use Rattle.front_core.specs.FrontOuts.{Does}
-use Rattle.front_core.specs.Fronts.{Front, is_free, links_of, placed, state_of}
-use Rattle.front_core.specs.Seats.{Begins, Heard, Pushed, PushedOnly, Settles, SettlesAs}
+use Rattle.front_core.specs.Fronts.{Front, is_free, link_with, links_of, placed, state_of}
+use Rattle.front_core.specs.Seats.{Begins, Heard, Left, Pushed, PushedOnly, Settles, SettlesAs}
 use Rattle.front_core.specs.Waking.{TellsIf, WakesBelow, is_due}
 use Rattle.front_core.proofs.Agree.{numbered_at}
 use Rattle.front_core.proofs.Begins.{last_begins}
 use Rattle.front_core.proofs.Doing.{begun_stopped, below_more, came_done, came_unsettled, hall_with, nothing_stopped, passed, refused_done, told_done, wake_stopped}
-use Rattle.front_core.proofs.Growing.{went_nowhere}
-use Rattle.front_core.proofs.LinkTable.{taken_none}
-
--- where it came to something, that keeps what is true between two inputs
-pub ends_agree : {E : Type 0} (does : List Outcome → List FrontOutput → Front → Type 0) (part : List Outcome → List Entry → Type 0) (c d : Hall) (r : Result (List FrontOutput) E) → ((os : List Outcome) (out : List FrontOutput) → does os out (front_in d) → Agrees (front_in d)) → Ends does part c r d → OnOk r (Agrees (front_in d))
-ends_agree does part c d (Ok out) keeps x = keeps x.outcomes out x.does_so
-ends_agree does part c d (Err error) keeps x = tt
+use Rattle.front_core.proofs.Growing.{asked_nothing, went_nowhere}
+use Rattle.front_core.proofs.LinkTable.{emptied, placed_here, taken_none}
 
 -- bytes were heard, and their link was settled, or there was no memory for that
 pub came_ends : {E : Type 0} (c d : Hall) (m : Book) (l : List (Option Link)) (link : ℕ) (at : Link) (bytes written : List ℕ) (came : Fed) (now : Standing) (r : Result (List FrontOutput) E) → links_of c.links link ≡ Some at
@@ -59,15 +57,11 @@ came_ends c d m l link at bytes written came now (Err error) there took h s = ca
 abbrev pub TellStops : Bool → Front → ℕ → List Outcome → List Entry → Type 0
 TellStops due a link os k = Stops a link [] os k ⊎ (IsTrue due × Stops a link (Request.Collect ∷ []) os k)
 
-is_true : (due : Bool) → due ≡ true → IsTrue due
-is_true true h = tt
-is_true false h = absurd (cc)
-
 pub told_stopped : (c d : Hall) (link : ℕ) (due : Bool) → due ≡ true → PushedOnly link c.book d.book → Stopped (TellStops due (front_in c) link) c d
 told_stopped c d link due is x = record {
   opening = x.1.0.opening;
   outcomes = x.0 ∷ [];
-  part_of = inr (is_true due is, (x.1.1, x.1.0.grown));
+  part_of = inr (is, (x.1.1, x.1.0.grown));
   caused = x.1.0.caused;
   counted = x.1.0.counted;
 }
@@ -95,19 +89,15 @@ nothing_open does c l link by none left =
       counted = x.counted;
     }
 
-never_free : (b : Bool) → (b && false) ≡ true → ⊥
-never_free true h = cc
-never_free false h = cc
-
-always_free : (n : ℕ) → (nat_lt 0 (suc n) && true) ≡ false → ⊥
+always_free : (n : ℕ) → nat_lt 0 (suc n) ≡ false → ⊥
 always_free n h = grind (arith, nat_tests)
 
-numbered : (n : ℕ) → (nat_lt 0 n && true) ≡ true → n ≢ 0
+numbered : (n : ℕ) → nat_lt 0 n ≡ true → n ≢ 0
 numbered n h = λ e. grind (arith, nat_tests)
 
 pub free_is : (n : ℕ) (o : Option Link) → is_free n o ≡ true → (n ≢ 0) × (o ≡ None)
 free_is n None h = (numbered n h, refl)
-free_is n (Some at) h = absurd (never_free (nat_lt 0 n) h)
+free_is n (Some at) h = absurd (cc)
 
 opened_passes : (a : Front) (n : ℕ) (c : Client) (o : Option Link) → is_free n o ≡ false → OpenedDoes a n c o [] [] a
 opened_passes a zero c o h = (refl, refl, refl)
@@ -196,3 +186,59 @@ pub refused_ends : {E : Type 0} (s : Settings) (c : Hall) (m : Book) (link : ℕ
 refused_ends s c m link who kind why (Ok out) some none b is =
     subst (λ (z : List FrontOutput). Done (OpenedDoes (front_in c) link (client_of who kind s) (links_of c.links link)) c z (hall_with m c.links)) (sym is) (refused_done c m link (client_of who kind s) why some none b)
 refused_ends s c m link who kind why (Err error) some none b is = begun_stopped s c (hall_with m c.links) link who kind (begun.Refused why) b
+
+-- nothing is given
+pub given_none : (does : List Outcome → List FrontOutput → Front → Type 0) (c : Hall) (out : List FrontOutput) (d : Hall) → out ≡ [] → Done does c [] d → Done does c out d
+given_none does c out d is x = subst (λ (z : List FrontOutput). Done does c z d) (sym is) x
+
+pub given_one : (does : List Outcome → List FrontOutput → Front → Type 0) (c : Hall) (one : FrontOutput) (out : List FrontOutput) (d : Hall) → out ≡ one ∷ [] → Done does c (one ∷ []) d → Done does c out d
+given_one does c one out d is x = subst (λ (z : List FrontOutput). Done does c z d) (sym is) x
+
+-- ---- a link goes on, or is closed
+
+pub unsettled : {E : Type 0} (link : ℕ) (session : Standing) (pending : ℕ) (came : Fed) (bytes : List ℕ) (c : Hall) (r : Result (List FrontOutput) E) (d : Hall) → is_err r ≡ true → d.book ≡ c.book → SettlesAs link session pending came bytes c r d
+unsettled link session pending came bytes c (Ok out) d lost same = absurd (cc)
+unsettled link session pending came bytes c (Err error) d lost same = same
+
+-- a link with this session, as it stands in the table
+link_is : (session : Standing) (h : Bool) (p q : ℕ) → h ≡ is_host session.client.who → p ≡ q → record { session = session; is_host = h; pending = p } ≡ link_with session q
+link_is session h p q whose same = λ i. record { session = session; is_host = whose i; pending = same i }
+
+pub settles_on : (link : ℕ) (session : Standing) (h : Bool) (pending total : ℕ) (came : Fed) (bytes : List ℕ) (c : Hall) (out : List FrontOutput) (l : List (Option Link)) → total ≡ pending + length bytes → None ≡ closing total came → h ≡ is_host session.client.who
+    → links_of l ≡ placed (links_of c.links) link (Some (record { session = session; is_host = h; pending = total })) → out ≡ writes link bytes ++ closes link None → Settles link session pending came bytes c out (hall_with c.book l)
+settles_on link session h pending total came bytes c out l sum goes whose put given =
+    let p = pending + length bytes in
+    record {
+      why = None;
+      why_is = goes ∙ ap (λ (n : ℕ). closing n came) sum;
+      left = [];
+      asked = asked_nothing link c.book;
+      unrefused = refl;
+      links = put ∙ ap (λ (z : Link). placed (links_of c.links) link (Some z)) (link_is session h total p whose sum);
+      given = given;
+    }
+
+pub settles_closed : (link : ℕ) (session : Standing) (pending total : ℕ) (came : Fed) (bytes : List ℕ) (why : FrontEnding) (c : Hall) (out : List FrontOutput) (m : Book) → total ≡ pending + length bytes → Some why ≡ closing total came → Left link c.book m
+    → links_of c.links link ≡ None → out ≡ writes link bytes ++ closes link (Some why) → Settles link session pending came bytes c out (hall_with m c.links)
+settles_closed link session pending total came bytes why c out m sum goes left taken given = record {
+  why = Some why;
+  why_is = goes ∙ ap (λ (n : ℕ). closing n came) sum;
+  left = left.0;
+  asked = left.1;
+  unrefused = left.2;
+  links = sym (emptied (links_of c.links) link taken);
+  given = given;
+}
+
+-- a link that was taken out isn't there
+pub taken_out : (f g : ℕ → Option Link) (link : ℕ) → g ≡ placed f link None → g link ≡ None
+taken_out f g link took = ap (λ (z : ℕ → Option Link). z link) took ∙ placed_here f link None
+
+-- ---- what is written
+
+pub writes_none : (link : ℕ) (bytes : List ℕ) (empty : Bool) (out : List FrontOutput) → (IsTrue empty → bytes ≡ []) × (bytes ≡ [] → IsTrue empty) → empty ≡ true → out ≡ [] → out ≡ writes link bytes
+writes_none link bytes empty out both is none = none ∙ sym (ap (writes link) (both.0 is))
+
+pub writes_some : (link : ℕ) (bytes : List ℕ) (empty : Bool) (out : List FrontOutput) → (IsTrue empty → bytes ≡ []) × (bytes ≡ [] → IsTrue empty) → empty ≡ false → out ≡ Write link bytes ∷ [] → out ≡ writes link bytes
+writes_some link [] empty out both is some = let nothing : empty ≡ true = both.1 refl in absurd (cc)
+writes_some link (b ∷ bs) empty out both is some = some

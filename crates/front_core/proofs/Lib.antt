@@ -7,4 +7,5 @@ pub mod Agree
 pub mod Doing
 pub mod Begins
 pub mod Ending
+pub mod Telling
 pub mod WakesTell

@@ -267,9 +267,8 @@ quiet_or b n m false is less at_it below = let not_it : m ≢ n = λ e. grind (a
 reached : (n m : ℕ) → (m < n) ⊎ (n ≤ m)
 reached n m = omega arith
 
-not_both : (b : Bool) → IsTrue b → b ≡ false → ⊥
-not_both true h k = cc
-not_both false h k = h
+not_both : (b : Bool) → b ≡ true → b ≡ false → ⊥
+not_both b h k = cc
 
 below_quiet : (n : ℕ) (a b : Front) (os : List Outcome) (out : List FrontOutput) → Agrees a → WakesBelow n a os out b → denied os ≡ 0 → QuietBelow n a b
 below_quiet zero a b os out agrees d none = record { quiet = λ m less. absurd (omega arith); apart = λ m far. passes_apart a b os out m d }

@@ -1,5 +1,5 @@
 -- What a front is between two of its inputs.
-use Rattle.std.specs.Prelude.{ℕ, ◌==◌, nat_lt, Bool, ◌&&◌, is_none, List, Option, None, if◌then◌else◌, slice_index_or}
+use Rattle.std.specs.Prelude.{ℕ, ◌==◌, nat_lt, Bool, false, List, Option, Some, None, if◌then◌else◌, slice_index_or}
 use Rattle.portal_model.specs.declared.entry.Entry.{Entry}
 use Rattle.portal_model.specs.History.{run}
 use Rattle.portal_model.specs.State.{State}
@@ -39,4 +39,5 @@ link_with session pending = record {
 
 -- a link may be opened at a number from 1 at which none is open
 abbrev pub is_free : ℕ → Option Link → Bool
-is_free n o = nat_lt 0 n && is_none o
+is_free n None = nat_lt 0 n
+is_free n (Some at) = false

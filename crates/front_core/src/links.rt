@@ -50,10 +50,11 @@ impl Links {
     pub fn get(&self, link: u32) -> Option<&Link>
         ensures { option_copied result ≡ links_of self.now link }
     {
-        match self.slots.get(link as usize) {
-            Some(Some(now)) => Some(now),
-            _ => None,
+        let index = link as usize;
+        if index >= self.slots.len() {
+            return None;
         }
+        self.slots[index].as_ref()
     }
 
     /// Takes what is open at a number.

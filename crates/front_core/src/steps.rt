@@ -1,6 +1,6 @@
 //! What each input does.
 
-ghost use Rattle.std.specs.Prelude.{◌≡◌, ◌≤◌, OnOk, Some};
+ghost use Rattle.std.specs.Prelude.{◌≡◌, ◌≤◌, OnOk, Some, None};
 ghost use Rattle.front_core.specs.Breaking.{BreaksOff, CameStops, Stops};
 ghost use Rattle.front_core.specs.Closing.{closes, closing, most_pending, writes};
 ghost use Rattle.front_core.specs.Cores.{Agrees, Ends, StepEnds, front_in, hall};
@@ -122,7 +122,10 @@ fn opened<S: Signalling>(
 fn is_free(links: &Links, link: u32) -> bool
     ensures { result ≡ is_free link (links_of links.now link) }
 {
-    link > 0 && links.get(link).is_none()
+    match links.get(link) {
+        Some(_) => false,
+        None => link > 0,
+    }
 }
 
 /// A link whose session has just begun.
@@ -274,19 +277,19 @@ fn failed<S: Signalling>(
 /// A list of outputs that has room for one.
 fn with_room(alloc: Global) -> Result<Vec<FrontOutput>, WantOfMemory>
     ensures empty { IfOk result (λ outputs. outputs.items ≡ []) }
-    ensures room { IfOk result (λ outputs. 1 ≤ vec_capacity outputs) }
+    ensures room { IfOk result (λ outputs. vec_len outputs < vec_capacity outputs) }
 {
     let mut outputs = Vec::new(alloc);
     outputs.reserve(1)?;
     Ok(outputs)
 }
 
-ghost use Rattle.std.specs.Prelude.{vec_capacity, ◌∷◌};
+ghost use Rattle.std.specs.Prelude.{vec_capacity, vec_len, ◌∷◌, ◌<◌};
 ghost use Rattle.front_end.specs.declared.input.FrontOutput.TheVariants.{Close};
 
 /// Puts the close of a link into room that was taken: behind Leave nothing may fail.
 fn close_reserved(outputs: &mut Vec<FrontOutput>, link: u32, ending: FrontEnding)
-    requires { length outputs.old.items + 1 ≤ vec_capacity outputs.old }
+    requires { vec_len outputs.old < vec_capacity outputs.old }
     ensures { outputs.new.items ≡ outputs.old.items ++ Close link ending ∷ [] }
 {
     outputs.push_reserved(FrontOutput::Close { link, ending });
@@ -308,6 +311,7 @@ pub(crate) fn settle<S: Signalling>(
     requires whose { now.is_host ≡ is_host now.session.client.who }
     requires open_now { bound (run (S.opening portal.old) (S.entries portal.old)) link
         ≡ Some (binding_of now.session) }
+    requires taken { links_of links.old link ≡ None }
     ensures { SettlesAs link now.session now.pending came bytes
         (hall (S.opening portal.old) (S.entries portal.old) (S.refusals portal.old) links.old)
         result
@@ -319,22 +323,25 @@ pub(crate) fn settle<S: Signalling>(
         pending,
     } = now;
     let pending = pending + bytes.len() as u64;
-    let why = closing(pending, came);
-    let outputs = outputs_at(alloc, link, bytes, why)?;
-    match why {
-        None => links.put(
-            link,
-            Link {
-                session,
-                is_host,
-                pending,
-            },
-        )?,
-        Some(_) => {
+    match closing(pending, came) {
+        None => {
+            let outputs = outputs_at(alloc, link, bytes, None)?;
+            links.put(
+                link,
+                Link {
+                    session,
+                    is_host,
+                    pending,
+                },
+            )?;
+            Ok(outputs)
+        }
+        Some(ending) => {
+            let last = outputs_at(alloc, link, bytes, Some(ending))?;
             let _served = leave(alloc, portal, link, session);
+            Ok(last)
         }
     }
-    Ok(outputs)
 }
 
 /// The bytes that are written on a link, where there are any, and its close, where it is closed.
@@ -346,12 +353,24 @@ fn outputs_at(
 ) -> Result<List<FrontOutput>, WantOfMemory>
     ensures { IfOk result (λ outputs. outputs ≡ writes link bytes ++ closes link why) }
 {
+    let mut outputs = written_at(alloc, link, bytes)?;
+    match why {
+        None => Ok(outputs),
+        Some(ending) => {
+            outputs.push(FrontOutput::Close { link, ending })?;
+            Ok(outputs)
+        }
+    }
+}
+
+/// The bytes that are written on a link, where there are any.
+fn written_at(alloc: Global, link: u32, bytes: ByteList) -> Result<List<FrontOutput>, WantOfMemory>
+    ensures { IfOk result (λ outputs. outputs ≡ writes link bytes) }
+{
     let mut outputs = List::new(alloc);
-    if !bytes.is_empty() {
-        outputs.push(FrontOutput::Write { link, bytes })?;
+    if bytes.is_empty() {
+        return Ok(outputs);
     }
-    if let Some(ending) = why {
-        outputs.push(FrontOutput::Close { link, ending })?;
-    }
+    outputs.push(FrontOutput::Write { link, bytes })?;
     Ok(outputs)
 }

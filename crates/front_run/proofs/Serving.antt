@@ -1,10 +1,11 @@
 -- What one input comes to, with its wake.
 use Rattle.std.proofs.Common.{◌≡◌, inl, inr, ℕ, ◌≤◌, length, arith, List, [], ◌∷◌, ◌++◌, map, Option, Some, None, Result, Ok, Err, Bool, true, false, refl, sym, ap, ◌∙◌, subst}
-use Rattle.std.specs.Prelude.{IfSome, IsTrue}
+use Rattle.std.specs.Prelude.{IfSome, IsErrAnd, IsTrue}
 use Rattle.std.proofs.lemmas.List.{append-nil, append_assoc, map-append}
 use Rattle.portal_base.specs.Outside.{HasRisen}
 use Rattle.portal_base.specs.declared.limits.Settings.{Settings}
 use Rattle.portal_model.specs.Seated.{BeginsWith}
+use Rattle.portal_model.proofs.SeatLaws.{begins-through}
 use Rattle.session.specs.Answers.{Outcome}
 use Rattle.front_end.specs.declared.input.FrontInput.{FrontInput}
 use Rattle.front_end.specs.declared.input.FrontInput.TheVariants.{Wake}
@@ -22,9 +23,9 @@ use Rattle.front_end.specs.declared.end.FrontEvent.TheVariants.{Gave}
 use Rattle.front_end.specs.declared.end.NextInput.TheVariants as next
 use Rattle.front_run.specs.declared.run.FrontStatus.{FrontStatus}
 use Rattle.front_run.specs.declared.run.FrontStatus.TheVariants as status
-use Rattle.front_end.specs.Ends.{EndIs, Nexts, Talk, Talked, events_of, given_events, logged, talk}
+use Rattle.front_end.specs.Ends.{EndIs, NextCounts, Nexts, Talk, Talked, events_of, given_events, logged, talk}
 use Rattle.front_run.specs.Runs.{AreFirst, AreGiven, Counted, HaltCounts, HaltsAt, InputEnds, RunsAs, RunsShort, RunsThrough, ServesInput}
-use Rattle.front_run.proofs.Running.{TakesInput, counted_on, through_halts}
+use Rattle.front_run.proofs.Running.{TakesInput, counted_nothing, counted_on, talked_nothing, through_halts, through_more}
 
 -- ---- what is told
 
@@ -86,8 +87,7 @@ starved_first s c d input t u x same = record {
 }
 
 not_waits : (wake : Bool) (a : Front) → (IsTrue wake → Waits a) × (Waits a → IsTrue wake) → wake ≡ false → Waits a → ⊥
-not_waits true a both h w = absurd (cc)
-not_waits false a both h w = both.1 w
+not_waits wake a both h w = let waits : wake ≡ true = both.1 w in cc
 
 pub served_alone : (s : Settings) (c d : Hall) (input : FrontInput) (step : FrontStep) (t u : Option Talk) → Steps s c input step d → step.wake ≡ false → u ≡ logged t (given_events step.outputs) → ServesInput s c input t u d
 served_alone s c d input step t u x quiet told = record {
@@ -121,8 +121,7 @@ faulted_first s c d input out given t u x first told = record {
 -- ---- a wake was due
 
 is_waits : (wake : Bool) (a : Front) → (IsTrue wake → Waits a) × (Waits a → IsTrue wake) → wake ≡ true → Waits a
-is_waits true a both h = both.0 tt
-is_waits false a both h = absurd (cc)
+is_waits wake a both h = both.0 h
 
 -- an input, and the wake behind it
 pub turn_of : (s : Settings) (c m d : Hall) (input : FrontInput) (step : FrontStep) (out : List FrontOutput) (x : Steps s c input step m) → step.wake ≡ true → (y : Done (Does s (front_in m) Wake) m out d) → Turn s (front_in c) input (x.done.outcomes ++ y.outcomes) (step.outputs ++ out) (front_in d)
@@ -264,6 +263,41 @@ runs_short status.Closed s a v e f g h c k i r ends faults n same like x counts 
 runs_short status.EndFault s a v e f g h c k i r ends faults n same like x counts = (risen_from e.faults g.faults h.faults (like ∙ faults) counts.2, inr (through_halts status.EndFault s a v e f g h c k i r (takes f.told i g.told n) x))
 runs_short status.Memory s a v e f g h c k i r ends faults n same like x counts = inr (through_halts status.Memory s a v e f g h c k i r (takes f.told i g.told n) x)
 
--- the history goes on, whatever the status is
-pub through_begins : (s : Settings) (a : Front) (v : Book) (e f : EndIs) (b : Front) (w : Book) → RunsThrough s a v e f b w → (w.opening ≡ v.opening) × BeginsWith w.history v.history
-through_begins s a v e f b w r = (r.book.opening, r.book.begins)
+-- ---- by what a call that failed answered
+
+pub input_failed : {X : Type 0} (s : Settings) (c : Hall) (input : FrontInput) (r : Result X FrontStatus) (why : FrontStatus) (e f : EndIs) (d : Hall) → IsErrAnd r (λ w. w ≡ why) → HaltsAt why s c input e.told f.told d.book × HaltCounts why e f → InputEnds s c input e r f d
+input_failed s c input (Ok done) why e f d is x = absurd is
+input_failed s c input (Err w) why e f d is x = subst (λ (z : FrontStatus). HaltsAt z s c input e.told f.told d.book × HaltCounts z e f) (sym is) x
+
+-- a step of the core that was set alike
+pub at_settings : {E : Type 0} (s t : Settings) (spent : Bool) (c : Hall) (input : FrontInput) (r : Result FrontStep E) (after : Bool) (d : Hall) → s ≡ t → StepsAs spent s c input r after d → StepsAs spent t c input r after d
+at_settings s t spent c input r after d same x = subst (λ (z : Settings). StepsAs spent z c input r after d) same x
+
+-- ---- a run, so far
+
+-- nothing came yet
+pub through_begun : (s : Settings) (a : Front) (k : Hall) (e : EndIs) → front_in k ≡ a → RunsThrough s a k.book e e (front_in k) k.book
+through_begun s a k e is = record {
+  inputs = [];
+  outcomes = [];
+  outs = [];
+  out = (refl, refl, is);
+  book = counted_nothing k.book;
+  history = refl;
+  told = talked_nothing e.told;
+}
+
+-- one input more was served
+pub run_goes_on : {X : Type 0} (s t : Settings) (a : Front) (v : Book) (e f g h : EndIs) (c d : Hall) (i : FrontInput) (done : X) → t ≡ s → RunsThrough s a v e f (front_in c) c.book → Nexts f.told (next.Input i) g.told → InputEnds t c i g (Ok {X} {FrontStatus} done) h d → RunsThrough s a v e h (front_in d) d.book
+run_goes_on s t a v e f g h c d i done same r n x =
+    through_more s a v e f g h c d i r (takes f.told i g.told n) (subst (λ (z : Settings). ServesInput z c i g.told h.told d) same x.0)
+
+-- or not
+pub run_stops : {X : Type 0} (s t : Settings) (a : Front) (v : Book) (e f g h : EndIs) (c d : Hall) (i : FrontInput) (why : FrontStatus) → t ≡ s → RunsThrough s a v e f (front_in c) c.book → f.ends ≡ e.ends → f.faults ≡ e.faults → Nexts f.told (next.Input i) g.told → NextCounts f.ends f.faults (next.Input i) g.ends g.faults
+    → InputEnds t c i g (Err {X} {FrontStatus} why) h d → RunsAs why s a v e h d.book
+run_stops s t a v e f g h c d i why same r ends faults n counts x =
+    runs_short why s a v e f g h c d.book i r ends faults n counts.0 counts.1 (subst (λ (z : Settings). HaltsAt why z c i g.told h.told d.book) same x.0) x.1
+
+-- and the history went on
+pub stops_begin : {X : Type 0} (t : Settings) (v : Book) (g h : EndIs) (c d : Hall) (i : FrontInput) (why : FrontStatus) → c.book.opening ≡ v.opening → BeginsWith c.book.history v.history → InputEnds t c i g (Err {X} {FrontStatus} why) h d → (d.book.opening ≡ v.opening) × BeginsWith d.book.history v.history
+stops_begin t v g h c d i why opening begins x = (x.0.book.opening ∙ opening, begins-through d.book.history c.book.history v.history x.0.book.begins begins)

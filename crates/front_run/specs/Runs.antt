@@ -3,11 +3,12 @@ use Rattle.std.specs.Prelude.{◌≡◌, ◌⊎◌, ℕ, ◌≤◌, List, [], �
 use Rattle.portal_base.specs.Outside.{HasRisen}
 use Rattle.portal_base.specs.declared.limits.Settings.{Settings}
 use Rattle.portal_model.specs.declared.entry.Entry.{Entry}
+use Rattle.portal_model.specs.declared.reply.Reply.{Reply}
 use Rattle.portal_model.specs.History.{replies}
 use Rattle.portal_model.specs.Seated.{BeginsWith, rises_by}
 use Rattle.portal_model.specs.State.{State}
 use Rattle.app_world.specs.World.{app_run, trace}
-use Rattle.served_world.specs.Laws.{AreAlike}
+use Rattle.served_world.specs.Laws.{AreAlike, AreGiven as AreReplied}
 use Rattle.served_world.specs.ServedWorld.{requests_in, served_run, served_trace}
 use Rattle.session.specs.Answers.{Outcome, denied}
 use Rattle.front_end.specs.declared.input.FrontInput.{FrontInput}
@@ -147,8 +148,8 @@ RunsAs status.Memory s a v e f w =
 abbrev pub AreIsolated : State → List Entry → Type 0
 AreIsolated s h = (app : List ℕ) → s.told ≡ true → replies app s h ≡ app_run (trace app s h)
 
--- Over any tree they are so but for the contents that a READ shows, by the trace that holds what the
--- tree showed to its own requests.
+-- Over any tree those that it was given are so but for the contents that a READ shows, by the trace
+-- that holds what the tree showed to its own requests.
 abbrev pub AreServed : State → List Entry → Type 0
-AreServed s h = (app : List ℕ) → AreAlike false (requests_in (served_trace app s h))
-    (served_run (served_trace app s h)) (replies app s h)
+AreServed s h = (app : List ℕ) (given : List Reply) → AreReplied app s h given
+    → AreAlike false (requests_in (served_trace app s h)) (served_run (served_trace app s h)) given

@@ -5,17 +5,18 @@ use Rattle.session.specs.declared.served.Fed.TheVariants as fed
 use Rattle.front_core.specs.declared.link.Link.{Link}
 use Rattle.front_core.specs.Asking.{book}
 use Rattle.front_core.specs.Cores.{IsSound, front_in, hall}
-use Rattle.front_core.specs.Doing.{CameDoes, EndedDoes, FailedDoes, TookDoes}
+use Rattle.front_core.specs.Doing.{CameDoes}
 use Rattle.front_core.specs.Fronts.{links_of}
 use Rattle.front_core.proofs.Agree.{bound_of, sound_of}
-use Rattle.front_core.proofs.Doing.{came_stopped, ended_done, failed_done, nothing_stopped, took_done}
-use Rattle.front_core.proofs.Ending.{came_ends, from_one, nothing_open, stopped_ends}
+use Rattle.front_core.proofs.Doing.{came_stopped}
+use Rattle.front_core.proofs.Ending.{came_ends, from_one, given_none, nothing_open, stopped_ends, taken_out}
 use Rattle.front_core.proofs.steps.came.Goals as goal
 
 pub returns-in_default : goal.returns-in_default
 returns-in_default g c =
     let none : links_of c.args.links.now c.args.link ≡ None = sym c.take.ensures.taken ∙ c.in_default.is in
-    nothing_open (CameDoes (front_in (hall (g.S.Storied.opening c.args.portal.now) (g.S.Storied.entries c.args.portal.now) (g.S.Storied.refusals c.args.portal.now) c.args.links.now)) c.args.link c.args.bytes.now) (hall (g.S.Storied.opening c.args.portal.now) (g.S.Storied.entries c.args.portal.now) (g.S.Storied.refusals c.args.portal.now) c.args.links.now) c.take.new.links c.args.link (λ os out b p. p) none c.take.ensures.left
+    given_none (CameDoes (front_in (hall (g.S.Storied.opening c.args.portal.now) (g.S.Storied.entries c.args.portal.now) (g.S.Storied.refusals c.args.portal.now) c.args.links.now)) c.args.link c.args.bytes.now (links_of c.args.links.now c.args.link)) (hall (g.S.Storied.opening c.args.portal.now) (g.S.Storied.entries c.args.portal.now) (g.S.Storied.refusals c.args.portal.now) c.args.links.now) c.new.result (hall (g.S.Storied.opening c.args.portal.now) (g.S.Storied.entries c.args.portal.now) (g.S.Storied.refusals c.args.portal.now) c.take.new.links) c.new.ensures
+    (nothing_open (CameDoes (front_in (hall (g.S.Storied.opening c.args.portal.now) (g.S.Storied.entries c.args.portal.now) (g.S.Storied.refusals c.args.portal.now) c.args.links.now)) c.args.link c.args.bytes.now) (hall (g.S.Storied.opening c.args.portal.now) (g.S.Storied.entries c.args.portal.now) (g.S.Storied.refusals c.args.portal.now) c.args.links.now) c.take.new.links c.args.link (λ os out b p. p) none c.take.ensures.left)
 
 pub hear-heard-requires-clause-seat : goal.hear-heard-requires-clause-seat
 hear-heard-requires-clause-seat g c =
@@ -74,6 +75,9 @@ settle-requires-clause-open_now g c =
     let sound = sound_of (front_in v) c.args.link at c.requires there in
     c.in_ok-heard.ensures.stays_open (bound_of (front_in v) c.args.link at c.requires there)
     ∙ ap (λ (z : Client). Some (record { who = z.who; kind = z.kind })) (sym c.in_ok-heard.ensures.client_stays)
+
+pub settle-requires-clause-taken : goal.settle-requires-clause-taken
+settle-requires-clause-taken g c = taken_out (links_of c.args.links.now) (links_of c.take.new.links) c.args.link c.take.ensures.left
 
 pub returns : goal.returns
 returns g c =

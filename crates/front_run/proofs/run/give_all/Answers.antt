@@ -26,8 +26,7 @@ loop-output-preserved g c =
 
 pub returns-in-Failed : goal.returns-in-Failed
 returns-in-Failed g c =
-    let at = c.loop-output in
-    (
+    let at = c.loop-output in (
       at.invariant.so_far.0,
       (into_iter_items at.output-iterator, sym c.into_vec-output-items.ensures ∙ (sym c.into_iter-output-iterator.ensures.into_iter_gives.0 ∙ at.invariant.so_far.1)),
       c.in-Failed.ensures.gives ∙ at.invariant.so_far.2,

@@ -12,9 +12,9 @@ take_step-requires g c =
     agrees_now c.args.self.now.is_spent _ unspent c.args.self.now.stands
 
 pub invariant_of-self-clause-stands : goal.invariant_of-self-clause-stands
-invariant_of-self-clause-stands g c = stands_then c.take_step-stepped.result _ _ c.is_err.ensures c.take_step-stepped.ensures.agrees
+invariant_of-self-clause-stands g c = stands_then c.take_step-stepped.result _ _ c.is_err.ensures.value c.take_step-stepped.ensures.agrees
 
 pub returns-clause-steps : goal.returns-clause-steps
 returns-clause-steps g c =
     let unspent : c.args.self.now.is_spent ≡ false = cc in
-    step_is _ c.args.self.now.is_spent _ _ c.take_step-stepped.result _ _ unspent c.is_err.ensures c.take_step-stepped.ensures.ends
+    step_is _ c.args.self.now.is_spent _ _ c.take_step-stepped.result _ _ unspent c.is_err.ensures.value c.take_step-stepped.ensures.ends
