@@ -177,22 +177,10 @@ fn came<S: Signalling>(
         result
         (hall (S.opening portal.new) (S.entries portal.new) (S.refusals portal.new) links.new) }
 {
-    let Some(
-        Link {
-            mut session,
-            is_host,
-            pending,
-        },
-    ) = links.take(link)
-    else {
+    let Some(mut now) = links.take(link) else {
         return Ok(List::new(alloc));
     };
-    let heard = hear(alloc, portal, link, &mut session, bytes)?;
-    let now = Link {
-        session,
-        is_host,
-        pending,
-    };
+    let heard = hear(alloc, portal, link, &mut now.session, bytes)?;
     settle(alloc, portal, links, link, now, heard.came, heard.written)
 }
 

@@ -21,7 +21,7 @@ returns-in_default g c =
 pub hear-heard-requires-clause-seat : goal.hear-heard-requires-clause-seat
 hear-heard-requires-clause-seat g c =
     let v = (hall (g.S.Storied.opening c.args.portal.now) (g.S.Storied.entries c.args.portal.now) (g.S.Storied.refusals c.args.portal.now) c.args.links.now) in
-    let at : Link = (record { session = c.in-Some.session; is_host = c.in-Some.is_host; pending = c.in-Some.pending }) in
+    let at = c.in-Some.now in
     let there : links_of c.args.links.now c.args.link ≡ Some at = sym c.take.ensures.taken ∙ c.in-Some.is in
     let sound = sound_of (front_in v) c.args.link at c.requires there in
     from_one (front_in v) c.args.link at c.requires there
@@ -29,7 +29,7 @@ hear-heard-requires-clause-seat g c =
 pub hear-heard-requires-clause-goes_on : goal.hear-heard-requires-clause-goes_on
 hear-heard-requires-clause-goes_on g c =
     let v = (hall (g.S.Storied.opening c.args.portal.now) (g.S.Storied.entries c.args.portal.now) (g.S.Storied.refusals c.args.portal.now) c.args.links.now) in
-    let at : Link = (record { session = c.in-Some.session; is_host = c.in-Some.is_host; pending = c.in-Some.pending }) in
+    let at = c.in-Some.now in
     let there : links_of c.args.links.now c.args.link ≡ Some at = sym c.take.ensures.taken ∙ c.in-Some.is in
     let sound = sound_of (front_in v) c.args.link at c.requires there in
     sound.goes_on
@@ -37,7 +37,7 @@ hear-heard-requires-clause-goes_on g c =
 pub returns-in_err-heard : goal.returns-in_err-heard
 returns-in_err-heard g c =
     let v = (hall (g.S.Storied.opening c.args.portal.now) (g.S.Storied.entries c.args.portal.now) (g.S.Storied.refusals c.args.portal.now) c.args.links.now) in
-    let at : Link = (record { session = c.in-Some.session; is_host = c.in-Some.is_host; pending = c.in-Some.pending }) in
+    let at = c.in-Some.now in
     let there : links_of c.args.links.now c.args.link ≡ Some at = sym c.take.ensures.taken ∙ c.in-Some.is in
     let sound = sound_of (front_in v) c.args.link at c.requires there in
     let w = (hall (g.S.Storied.opening c.hear-heard.new.portal) (g.S.Storied.entries c.hear-heard.new.portal) (g.S.Storied.refusals c.hear-heard.new.portal) c.take.new.links) in
@@ -46,7 +46,7 @@ returns-in_err-heard g c =
 pub settle-requires-clause-seat : goal.settle-requires-clause-seat
 settle-requires-clause-seat g c =
     let v = (hall (g.S.Storied.opening c.args.portal.now) (g.S.Storied.entries c.args.portal.now) (g.S.Storied.refusals c.args.portal.now) c.args.links.now) in
-    let at : Link = (record { session = c.in-Some.session; is_host = c.in-Some.is_host; pending = c.in-Some.pending }) in
+    let at = c.in-Some.now in
     let there : links_of c.args.links.now c.args.link ≡ Some at = sym c.take.ensures.taken ∙ c.in-Some.is in
     let sound = sound_of (front_in v) c.args.link at c.requires there in
     from_one (front_in v) c.args.link at c.requires there
@@ -54,7 +54,7 @@ settle-requires-clause-seat g c =
 pub settle-requires-clause-few : goal.settle-requires-clause-few
 settle-requires-clause-few g c =
     let v = (hall (g.S.Storied.opening c.args.portal.now) (g.S.Storied.entries c.args.portal.now) (g.S.Storied.refusals c.args.portal.now) c.args.links.now) in
-    let at : Link = (record { session = c.in-Some.session; is_host = c.in-Some.is_host; pending = c.in-Some.pending }) in
+    let at = c.in-Some.now in
     let there : links_of c.args.links.now c.args.link ≡ Some at = sym c.take.ensures.taken ∙ c.in-Some.is in
     let sound = sound_of (front_in v) c.args.link at c.requires there in
     sound.few
@@ -62,7 +62,7 @@ settle-requires-clause-few g c =
 pub settle-requires-clause-whose : goal.settle-requires-clause-whose
 settle-requires-clause-whose g c =
     let v = (hall (g.S.Storied.opening c.args.portal.now) (g.S.Storied.entries c.args.portal.now) (g.S.Storied.refusals c.args.portal.now) c.args.links.now) in
-    let at : Link = (record { session = c.in-Some.session; is_host = c.in-Some.is_host; pending = c.in-Some.pending }) in
+    let at = c.in-Some.now in
     let there : links_of c.args.links.now c.args.link ≡ Some at = sym c.take.ensures.taken ∙ c.in-Some.is in
     let sound = sound_of (front_in v) c.args.link at c.requires there in
     sound.whose ∙ ap (λ (z : Client). is_host z.who) (sym c.in_ok-heard.ensures.client_stays)
@@ -70,7 +70,7 @@ settle-requires-clause-whose g c =
 pub settle-requires-clause-open_now : goal.settle-requires-clause-open_now
 settle-requires-clause-open_now g c =
     let v = (hall (g.S.Storied.opening c.args.portal.now) (g.S.Storied.entries c.args.portal.now) (g.S.Storied.refusals c.args.portal.now) c.args.links.now) in
-    let at : Link = (record { session = c.in-Some.session; is_host = c.in-Some.is_host; pending = c.in-Some.pending }) in
+    let at = c.in-Some.now in
     let there : links_of c.args.links.now c.args.link ≡ Some at = sym c.take.ensures.taken ∙ c.in-Some.is in
     let sound = sound_of (front_in v) c.args.link at c.requires there in
     c.in_ok-heard.ensures.stays_open (bound_of (front_in v) c.args.link at c.requires there)
@@ -82,7 +82,7 @@ settle-requires-clause-taken g c = taken_out (links_of c.args.links.now) (links_
 pub returns : goal.returns
 returns g c =
     let v = (hall (g.S.Storied.opening c.args.portal.now) (g.S.Storied.entries c.args.portal.now) (g.S.Storied.refusals c.args.portal.now) c.args.links.now) in
-    let at : Link = (record { session = c.in-Some.session; is_host = c.in-Some.is_host; pending = c.in-Some.pending }) in
+    let at = c.in-Some.now in
     let there : links_of c.args.links.now c.args.link ≡ Some at = sym c.take.ensures.taken ∙ c.in-Some.is in
     let sound = sound_of (front_in v) c.args.link at c.requires there in
     came_ends v (hall (g.S.Storied.opening c.settle.new.portal) (g.S.Storied.entries c.settle.new.portal) (g.S.Storied.refusals c.settle.new.portal) c.settle.new.links) (book (g.S.Storied.opening c.hear-heard.new.portal) (g.S.Storied.entries c.hear-heard.new.portal) (g.S.Storied.refusals c.hear-heard.new.portal)) c.take.new.links c.args.link at c.args.bytes.now c.in_ok-heard.heard.written c.in_ok-heard.heard.came c.hear-heard.new.session c.settle.result

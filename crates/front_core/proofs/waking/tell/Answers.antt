@@ -31,7 +31,7 @@ returns-in_default g c =
 pub push-written-requires-clause-seat : goal.push-written-requires-clause-seat
 push-written-requires-clause-seat g c =
     let v = (hall (g.S.Storied.opening c.args.portal.now) (g.S.Storied.entries c.args.portal.now) (g.S.Storied.refusals c.args.portal.now) c.args.links.now) in
-    let at : Link = (record { session = c.in-Some.session; is_host = c.in-Some.is_host; pending = c.in-Some.pending }) in
+    let at = c.in-Some.now in
     let there : links_of c.args.links.now c.args.link ≡ Some at = sym c.take.ensures.taken ∙ c.in-Some.is in
     let sound = sound_of (front_in v) c.args.link at c.requires there in
     let due : (is_due (run (g.S.Storied.opening c.args.portal.now) (g.S.Storied.entries c.args.portal.now)) c.args.link (links_of c.args.links.now c.args.link)) ≡ true = cc in
@@ -40,7 +40,7 @@ push-written-requires-clause-seat g c =
 pub push-written-requires-clause-host : goal.push-written-requires-clause-host
 push-written-requires-clause-host g c =
     let v = (hall (g.S.Storied.opening c.args.portal.now) (g.S.Storied.entries c.args.portal.now) (g.S.Storied.refusals c.args.portal.now) c.args.links.now) in
-    let at : Link = (record { session = c.in-Some.session; is_host = c.in-Some.is_host; pending = c.in-Some.pending }) in
+    let at = c.in-Some.now in
     let there : links_of c.args.links.now c.args.link ≡ Some at = sym c.take.ensures.taken ∙ c.in-Some.is in
     let sound = sound_of (front_in v) c.args.link at c.requires there in
     let due : (is_due (run (g.S.Storied.opening c.args.portal.now) (g.S.Storied.entries c.args.portal.now)) c.args.link (links_of c.args.links.now c.args.link)) ≡ true = cc in
@@ -49,7 +49,7 @@ push-written-requires-clause-host g c =
 pub push-written-requires-clause-ready : goal.push-written-requires-clause-ready
 push-written-requires-clause-ready g c =
     let v = (hall (g.S.Storied.opening c.args.portal.now) (g.S.Storied.entries c.args.portal.now) (g.S.Storied.refusals c.args.portal.now) c.args.links.now) in
-    let at : Link = (record { session = c.in-Some.session; is_host = c.in-Some.is_host; pending = c.in-Some.pending }) in
+    let at = c.in-Some.now in
     let there : links_of c.args.links.now c.args.link ≡ Some at = sym c.take.ensures.taken ∙ c.in-Some.is in
     let sound = sound_of (front_in v) c.args.link at c.requires there in
     let due : (is_due (run (g.S.Storied.opening c.args.portal.now) (g.S.Storied.entries c.args.portal.now)) c.args.link (links_of c.args.links.now c.args.link)) ≡ true = cc in
@@ -58,7 +58,7 @@ push-written-requires-clause-ready g c =
 pub returns-in_err-written : goal.returns-in_err-written
 returns-in_err-written g c =
     let v = (hall (g.S.Storied.opening c.args.portal.now) (g.S.Storied.entries c.args.portal.now) (g.S.Storied.refusals c.args.portal.now) c.args.links.now) in
-    let at : Link = (record { session = c.in-Some.session; is_host = c.in-Some.is_host; pending = c.in-Some.pending }) in
+    let at = c.in-Some.now in
     let there : links_of c.args.links.now c.args.link ≡ Some at = sym c.take.ensures.taken ∙ c.in-Some.is in
     let sound = sound_of (front_in v) c.args.link at c.requires there in
     let due : (is_due (run (g.S.Storied.opening c.args.portal.now) (g.S.Storied.entries c.args.portal.now)) c.args.link (links_of c.args.links.now c.args.link)) ≡ true = cc in
@@ -68,7 +68,7 @@ returns-in_err-written g c =
 pub settle-requires-clause-seat : goal.settle-requires-clause-seat
 settle-requires-clause-seat g c =
     let v = (hall (g.S.Storied.opening c.args.portal.now) (g.S.Storied.entries c.args.portal.now) (g.S.Storied.refusals c.args.portal.now) c.args.links.now) in
-    let at : Link = (record { session = c.in-Some.session; is_host = c.in-Some.is_host; pending = c.in-Some.pending }) in
+    let at = c.in-Some.now in
     let there : links_of c.args.links.now c.args.link ≡ Some at = sym c.take.ensures.taken ∙ c.in-Some.is in
     let sound = sound_of (front_in v) c.args.link at c.requires there in
     let due : (is_due (run (g.S.Storied.opening c.args.portal.now) (g.S.Storied.entries c.args.portal.now)) c.args.link (links_of c.args.links.now c.args.link)) ≡ true = cc in
@@ -77,7 +77,7 @@ settle-requires-clause-seat g c =
 pub settle-requires-clause-few : goal.settle-requires-clause-few
 settle-requires-clause-few g c =
     let v = (hall (g.S.Storied.opening c.args.portal.now) (g.S.Storied.entries c.args.portal.now) (g.S.Storied.refusals c.args.portal.now) c.args.links.now) in
-    let at : Link = (record { session = c.in-Some.session; is_host = c.in-Some.is_host; pending = c.in-Some.pending }) in
+    let at = c.in-Some.now in
     let there : links_of c.args.links.now c.args.link ≡ Some at = sym c.take.ensures.taken ∙ c.in-Some.is in
     let sound = sound_of (front_in v) c.args.link at c.requires there in
     let due : (is_due (run (g.S.Storied.opening c.args.portal.now) (g.S.Storied.entries c.args.portal.now)) c.args.link (links_of c.args.links.now c.args.link)) ≡ true = cc in
@@ -86,7 +86,7 @@ settle-requires-clause-few g c =
 pub settle-requires-clause-whose : goal.settle-requires-clause-whose
 settle-requires-clause-whose g c =
     let v = (hall (g.S.Storied.opening c.args.portal.now) (g.S.Storied.entries c.args.portal.now) (g.S.Storied.refusals c.args.portal.now) c.args.links.now) in
-    let at : Link = (record { session = c.in-Some.session; is_host = c.in-Some.is_host; pending = c.in-Some.pending }) in
+    let at = c.in-Some.now in
     let there : links_of c.args.links.now c.args.link ≡ Some at = sym c.take.ensures.taken ∙ c.in-Some.is in
     let sound = sound_of (front_in v) c.args.link at c.requires there in
     let due : (is_due (run (g.S.Storied.opening c.args.portal.now) (g.S.Storied.entries c.args.portal.now)) c.args.link (links_of c.args.links.now c.args.link)) ≡ true = cc in
@@ -95,7 +95,7 @@ settle-requires-clause-whose g c =
 pub settle-requires-clause-open_now : goal.settle-requires-clause-open_now
 settle-requires-clause-open_now g c =
     let v = (hall (g.S.Storied.opening c.args.portal.now) (g.S.Storied.entries c.args.portal.now) (g.S.Storied.refusals c.args.portal.now) c.args.links.now) in
-    let at : Link = (record { session = c.in-Some.session; is_host = c.in-Some.is_host; pending = c.in-Some.pending }) in
+    let at = c.in-Some.now in
     let there : links_of c.args.links.now c.args.link ≡ Some at = sym c.take.ensures.taken ∙ c.in-Some.is in
     let sound = sound_of (front_in v) c.args.link at c.requires there in
     let due : (is_due (run (g.S.Storied.opening c.args.portal.now) (g.S.Storied.entries c.args.portal.now)) c.args.link (links_of c.args.links.now c.args.link)) ≡ true = cc in
@@ -107,7 +107,7 @@ settle-requires-clause-taken g c = taken_out (links_of c.args.links.now) (links_
 pub returns : goal.returns
 returns g c =
     let v = (hall (g.S.Storied.opening c.args.portal.now) (g.S.Storied.entries c.args.portal.now) (g.S.Storied.refusals c.args.portal.now) c.args.links.now) in
-    let at : Link = (record { session = c.in-Some.session; is_host = c.in-Some.is_host; pending = c.in-Some.pending }) in
+    let at = c.in-Some.now in
     let there : links_of c.args.links.now c.args.link ≡ Some at = sym c.take.ensures.taken ∙ c.in-Some.is in
     let sound = sound_of (front_in v) c.args.link at c.requires there in
     let due : (is_due (run (g.S.Storied.opening c.args.portal.now) (g.S.Storied.entries c.args.portal.now)) c.args.link (links_of c.args.links.now c.args.link)) ≡ true = cc in
