@@ -26,7 +26,7 @@ use portal_base::list::{ByteList, List};
 use portal_base::memory::WantOfMemory;
 use portal_base::who::{Kind, Who};
 use session::connection::refused_ending;
-use session::served::{Fed, Served};
+use session::served::Fed;
 use session::session::Session;
 use std::alloc::Global;
 
@@ -113,7 +113,9 @@ fn opened<S: Signalling>(
             Ok(List::new(alloc))
         }
         Begun::Refused(why) => {
-            outputs_at(alloc, link, List::new(alloc), refused(refused_ending(why)))
+            let nothing = List::new(alloc);
+            let ending = FrontEnding::Served(refused_ending(why));
+            outputs_at(alloc, link, nothing, Some(ending))
         }
     }
 }
@@ -150,13 +152,6 @@ fn is_host(who: &Who) -> bool
         Who::Host => true,
         Who::App(_) => false,
     }
-}
-
-/// That a link is closed whose connection was refused so.
-fn refused(served: Served) -> Option<FrontEnding>
-    ensures { result ≡ Some (FrontEnding.Served served) }
-{
-    Some(FrontEnding::Served(served))
 }
 
 /// Bytes come on a link.

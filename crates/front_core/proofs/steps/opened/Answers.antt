@@ -54,5 +54,5 @@ returns-in-Refused g c =
     let free : is_free c.args.link (links_of c.args.links.now c.args.link) ≡ true = cc in
     let numbered = (free_is c.args.link (links_of c.args.links.now c.args.link) free).0 in
     let none = (free_is c.args.link (links_of c.args.links.now c.args.link) free).1 in
-    let is = rw (c.refused.ensures, c.refused_ending.ensures, c.new.ensures) at c.outputs_at.ensures in
+    let is = rw (c.refused_ending.ensures, c.new-nothing.ensures) at c.outputs_at.ensures in
     refused_ends c.args.settings.now (hall (g.S.Storied.opening c.args.portal.now) (g.S.Storied.entries c.args.portal.now) (g.S.Storied.refusals c.args.portal.now) c.args.links.now) (book (g.S.Storied.opening c.begin.new.portal) (g.S.Storied.entries c.begin.new.portal) (g.S.Storied.refusals c.begin.new.portal)) c.args.link c.args.who.now c.args.kind c.in-Refused.why c.outputs_at.result numbered none c.in_ok-begin.ensures.begins is
