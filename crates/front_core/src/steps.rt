@@ -107,7 +107,8 @@ fn opened<S: Signalling>(
     if !is_free(links, link) {
         return Ok(List::new(alloc));
     }
-    match begin(alloc, portal, link, who, kind, settings)? {
+    let begun = begin(alloc, portal, link, who, kind, settings)?;
+    match begun {
         Begun::Session(session) => {
             links.put(link, fresh_link(session, who))?;
             Ok(List::new(alloc))
