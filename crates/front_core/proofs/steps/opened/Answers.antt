@@ -36,7 +36,7 @@ fresh_link-requires g c = ap (λ (z : Client). z.who) (ap (λ (z : Standing). z.
 
 pub returns-in_err-put : goal.returns-in_err-put
 returns-in_err-put g c =
-    let w = (hall (g.S.Storied.opening c.begin-begun.new.portal) (g.S.Storied.entries c.begin-begun.new.portal) (g.S.Storied.refusals c.begin-begun.new.portal) c.put.new.links) in
+    let w = (hall (g.S.Storied.opening c.begin-begun.new.portal) (g.S.Storied.entries c.begin-begun.new.portal) (g.S.Storied.refusals c.begin-begun.new.portal) c.put.new.self) in
     stopped_ends _ _ (hall (g.S.Storied.opening c.args.portal.now) (g.S.Storied.entries c.args.portal.now) (g.S.Storied.refusals c.args.portal.now) c.args.links.now) c.from_residual-in_err-put.result w c.from_residual-in_err-put.ensures.0
     (begun_stopped c.args.settings.now (hall (g.S.Storied.opening c.args.portal.now) (g.S.Storied.entries c.args.portal.now) (g.S.Storied.refusals c.args.portal.now) c.args.links.now) w c.args.link c.args.who.now c.args.kind (begun.Session c.in-Session.session) (rw c.in-Session.is at c.in_ok-begun.ensures.begins))
 
@@ -46,8 +46,8 @@ returns-in-Session g c =
     let numbered = (free_is c.args.link (links_of c.args.links.now c.args.link) free).0 in
     let none = (free_is c.args.link (links_of c.args.links.now c.args.link) free).1 in
     let put = c.in_ok-put.ensures.ok ∙ ap (λ (z : Link). placed (links_of c.args.links.now) c.args.link (Some z)) c.fresh_link.ensures in
-    given_none _ (hall (g.S.Storied.opening c.args.portal.now) (g.S.Storied.entries c.args.portal.now) (g.S.Storied.refusals c.args.portal.now) c.args.links.now) _ (hall (g.S.Storied.opening c.begin-begun.new.portal) (g.S.Storied.entries c.begin-begun.new.portal) (g.S.Storied.refusals c.begin-begun.new.portal) c.put.new.links) (cc)
-    (begun_done (hall (g.S.Storied.opening c.args.portal.now) (g.S.Storied.entries c.args.portal.now) (g.S.Storied.refusals c.args.portal.now) c.args.links.now) (book (g.S.Storied.opening c.begin-begun.new.portal) (g.S.Storied.entries c.begin-begun.new.portal) (g.S.Storied.refusals c.begin-begun.new.portal)) c.put.new.links c.args.link (client c.args.who.now c.args.kind c.args.settings.now) c.in-Session.session numbered none (rw c.in-Session.is at c.in_ok-begun.ensures.begins) put)
+    given_none _ (hall (g.S.Storied.opening c.args.portal.now) (g.S.Storied.entries c.args.portal.now) (g.S.Storied.refusals c.args.portal.now) c.args.links.now) _ (hall (g.S.Storied.opening c.begin-begun.new.portal) (g.S.Storied.entries c.begin-begun.new.portal) (g.S.Storied.refusals c.begin-begun.new.portal) c.put.new.self) (cc)
+    (begun_done (hall (g.S.Storied.opening c.args.portal.now) (g.S.Storied.entries c.args.portal.now) (g.S.Storied.refusals c.args.portal.now) c.args.links.now) (book (g.S.Storied.opening c.begin-begun.new.portal) (g.S.Storied.entries c.begin-begun.new.portal) (g.S.Storied.refusals c.begin-begun.new.portal)) c.put.new.self c.args.link (client c.args.who.now c.args.kind c.args.settings.now) c.in-Session.session numbered none (rw c.in-Session.is at c.in_ok-begun.ensures.begins) put)
 
 pub returns-in-Refused : goal.returns-in-Refused
 returns-in-Refused g c =

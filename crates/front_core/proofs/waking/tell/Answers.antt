@@ -25,8 +25,8 @@ returns-then-not-is_due g c =
 pub returns-in_default : goal.returns-in_default
 returns-in_default g c =
     let none : links_of c.args.links.now c.args.link ≡ None = sym c.take.ensures.taken ∙ c.in_default.is in
-    given_none _ (hall (g.S.Storied.opening c.args.portal.now) (g.S.Storied.entries c.args.portal.now) (g.S.Storied.refusals c.args.portal.now) c.args.links.now) _ (hall (g.S.Storied.opening c.args.portal.now) (g.S.Storied.entries c.args.portal.now) (g.S.Storied.refusals c.args.portal.now) c.take.new.links) (cc)
-    (nothing_open (TellsIf (is_due (run (g.S.Storied.opening c.args.portal.now) (g.S.Storied.entries c.args.portal.now)) c.args.link (links_of c.args.links.now c.args.link)) (front_in (hall (g.S.Storied.opening c.args.portal.now) (g.S.Storied.entries c.args.portal.now) (g.S.Storied.refusals c.args.portal.now) c.args.links.now)) c.args.link) (hall (g.S.Storied.opening c.args.portal.now) (g.S.Storied.entries c.args.portal.now) (g.S.Storied.refusals c.args.portal.now) c.args.links.now) c.take.new.links c.args.link (λ os out b p. p) none c.take.ensures.left)
+    given_none _ (hall (g.S.Storied.opening c.args.portal.now) (g.S.Storied.entries c.args.portal.now) (g.S.Storied.refusals c.args.portal.now) c.args.links.now) _ (hall (g.S.Storied.opening c.args.portal.now) (g.S.Storied.entries c.args.portal.now) (g.S.Storied.refusals c.args.portal.now) c.take.new.self) (cc)
+    (nothing_open (TellsIf (is_due (run (g.S.Storied.opening c.args.portal.now) (g.S.Storied.entries c.args.portal.now)) c.args.link (links_of c.args.links.now c.args.link)) (front_in (hall (g.S.Storied.opening c.args.portal.now) (g.S.Storied.entries c.args.portal.now) (g.S.Storied.refusals c.args.portal.now) c.args.links.now)) c.args.link) (hall (g.S.Storied.opening c.args.portal.now) (g.S.Storied.entries c.args.portal.now) (g.S.Storied.refusals c.args.portal.now) c.args.links.now) c.take.new.self c.args.link (λ os out b p. p) none c.take.ensures.left)
 
 pub push-written-requires-clause-seat : goal.push-written-requires-clause-seat
 push-written-requires-clause-seat g c =
@@ -62,7 +62,7 @@ returns-in_err-written g c =
     let there : links_of c.args.links.now c.args.link ≡ Some at = sym c.take.ensures.taken ∙ c.in-Some.is in
     let sound = sound_of (front_in v) c.args.link at c.requires there in
     let due : (is_due (run (g.S.Storied.opening c.args.portal.now) (g.S.Storied.entries c.args.portal.now)) c.args.link (links_of c.args.links.now c.args.link)) ≡ true = cc in
-    let w = (hall (g.S.Storied.opening c.push-written.new.portal) (g.S.Storied.entries c.push-written.new.portal) (g.S.Storied.refusals c.push-written.new.portal) c.take.new.links) in
+    let w = (hall (g.S.Storied.opening c.push-written.new.portal) (g.S.Storied.entries c.push-written.new.portal) (g.S.Storied.refusals c.push-written.new.portal) c.take.new.self) in
     stopped_ends _ _ v c.from_residual.result w c.from_residual.ensures.0 (told_stopped v w c.args.link (is_due (run (g.S.Storied.opening c.args.portal.now) (g.S.Storied.entries c.args.portal.now)) c.args.link (links_of c.args.links.now c.args.link)) due c.in_err-written.ensures.only)
 
 pub settle-requires-clause-seat : goal.settle-requires-clause-seat
@@ -102,7 +102,7 @@ settle-requires-clause-open_now g c =
     c.in_ok-written.ensures.stays_open (bound_of (front_in v) c.args.link at c.requires there) ∙ ap (λ (z : Standing). Some (binding_of z)) (sym c.in_ok-written.ensures.pushed.now_is)
 
 pub settle-requires-clause-taken : goal.settle-requires-clause-taken
-settle-requires-clause-taken g c = taken_out (links_of c.args.links.now) (links_of c.take.new.links) c.args.link c.take.ensures.left
+settle-requires-clause-taken g c = taken_out (links_of c.args.links.now) (links_of c.take.new.self) c.args.link c.take.ensures.left
 
 pub returns : goal.returns
 returns g c =
@@ -112,4 +112,4 @@ returns g c =
     let sound = sound_of (front_in v) c.args.link at c.requires there in
     let due : (is_due (run (g.S.Storied.opening c.args.portal.now) (g.S.Storied.entries c.args.portal.now)) c.args.link (links_of c.args.links.now c.args.link)) ≡ true = cc in
     let going : fed.More ≡ c.push-written.new.session.fed = sym (ap (λ (z : Standing). z.fed) c.in_ok-written.ensures.pushed.now_is ∙ sound.goes_on) in
-    told_ends v (hall (g.S.Storied.opening c.settle.new.portal) (g.S.Storied.entries c.settle.new.portal) (g.S.Storied.refusals c.settle.new.portal) c.settle.new.links) (book (g.S.Storied.opening c.push-written.new.portal) (g.S.Storied.entries c.push-written.new.portal) (g.S.Storied.refusals c.push-written.new.portal)) c.take.new.links c.args.link at (is_due (run (g.S.Storied.opening c.args.portal.now) (g.S.Storied.entries c.args.portal.now)) c.args.link (links_of c.args.links.now c.args.link)) c.in_ok-written.written fed.More c.push-written.new.session c.settle.result due there c.take.ensures.left c.in_ok-written.ensures.pushed going c.settle.ensures
+    told_ends v (hall (g.S.Storied.opening c.settle.new.portal) (g.S.Storied.entries c.settle.new.portal) (g.S.Storied.refusals c.settle.new.portal) c.settle.new.links) (book (g.S.Storied.opening c.push-written.new.portal) (g.S.Storied.entries c.push-written.new.portal) (g.S.Storied.refusals c.push-written.new.portal)) c.take.new.self c.args.link at (is_due (run (g.S.Storied.opening c.args.portal.now) (g.S.Storied.entries c.args.portal.now)) c.args.link (links_of c.args.links.now c.args.link)) c.in_ok-written.written fed.More c.push-written.new.session c.settle.result due there c.take.ensures.left c.in_ok-written.ensures.pushed going c.settle.ensures
