@@ -139,14 +139,9 @@ pub spent_again : {E : Type 0} (s : Settings) (spent : Bool) (c : Hall) (input :
 spent_again s true c input error is = (refl, refl)
 spent_again s false c input error is = absurd (cc)
 
-pub agrees_now : (spent : Bool) (a : Front) → spent ≡ false → Stands spent a → Agrees a
-agrees_now true a is x = absurd (cc)
-agrees_now false a is x = x
-
 pub stands_then : {X E : Type 0} (r : Result X E) (after : Bool) (a : Front) → after ≡ is_err r → OnOk r (Agrees a) → Stands after a
-stands_then r true a is x = tt
-stands_then (Ok step) false a is x = x
-stands_then (Err error) false a is x = absurd (cc)
+stands_then (Ok step) after a is x = λ unspent. x
+stands_then (Err error) after a is x = λ unspent. absurd (cc)
 
 -- ---- a wake
 
