@@ -147,7 +147,7 @@ module _ (a b : Front) (link : ℕ) (rs : List Request) (os : List Outcome) (now
       ap (bound (state_of b)) same ∙ (state_is link ∙ (grown_here link a.opening os a.history b.history grown ∙ is))
   bound_at false n h = state_is n ∙ (grown_there link n a.opening os a.history b.history h grown ∙ agrees.bound_alike n)
 
-  none_at : (t : Bool) → (0 == link) ≡ t → choose t now (a.links 0) ≡ None
+  none_at : (t : Bool) → (0 == link) ≡ t → is_some (choose t now (a.links 0)) ≡ false
   none_at true h = absurd (numbered (grind (arith, nat_tests)))
   none_at false h = agrees.none_first
 
@@ -155,18 +155,18 @@ module _ (a b : Front) (link : ℕ) (rs : List Request) (os : List Outcome) (now
   comes_agree = record {
     sound = λ n. subst (λ (f : ℕ → Option Link). IfSome (f n) IsSound) (sym c.links) (sound_at (n == link) n);
     bound_alike = λ n. bound_at (n == link) n refl ∙ sym (ap (λ (f : ℕ → Option Link). maybe_binding (f n)) c.links);
-    none_first = ap (λ (f : ℕ → Option Link). f 0) c.links ∙ none_at (0 == link) refl;
+    none_first = ap (λ (f : ℕ → Option Link). is_some (f 0)) c.links ∙ none_at (0 == link) refl;
   }
 
 passes_agree : (a b : Front) (os : List Outcome) (out : List FrontOutput) → Agrees a → Passes a os out b → Agrees b
 passes_agree a b os out agrees p = subst Agrees (sym p.2) agrees
 
-not_some : (at : Link) → None ≡ Some at → ⊥
-not_some at h = cc
-
 -- a link that is open isn't the one of the number 0
 pub numbered_at : (a : Front) (link : ℕ) (at : Link) → Agrees a → a.links link ≡ Some at → link ≢ 0
-numbered_at a link at agrees is zero_is = not_some at (sym (ap a.links zero_is ∙ agrees.none_first) ∙ is)
+numbered_at a link at agrees is zero_is =
+    let there : is_some (a.links 0) ≡ true = ap is_some (ap a.links (sym zero_is) ∙ is) in
+    let none : is_some (a.links 0) ≡ false = agrees.none_first in
+    cc
 
 pub sound_of : (a : Front) (link : ℕ) (at : Link) → Agrees a → a.links link ≡ Some at → IsSound at
 sound_of a link at agrees is = subst (λ (o : Option Link). IfSome o IsSound) is (agrees.sound link)

@@ -1,7 +1,7 @@
 -- How the parts of a step end, by what their last call answered.
 use Prim.Native.Nat.{zero}
-use Rattle.std.proofs.Common.{◌≡◌, ◌≢◌, suc, nat_lt, inl, inr, ℕ, ◌+◌, ◌≤◌, List, [], ◌∷◌, ◌++◌, length, Option, Some, None, Result, Ok, Err, is_err, is_some, Bool, true, false, refl, sym, ap, ◌∙◌, subst, arith}
-use Rattle.std.specs.Prelude.{◌⊎◌, IfOk, IsTrue, OnOk}
+use Rattle.std.proofs.Common.{◌≡◌, ◌≢◌, suc, nat_lt, inl, inr, ℕ, ◌+◌, ◌<◌, ◌≤◌, List, [], ◌∷◌, ◌++◌, length, Option, Some, None, Result, Ok, Err, is_err, is_some, Bool, true, false, refl, sym, ap, ◌∙◌, subst, arith}
+use Rattle.std.specs.Prelude.{◌⊎◌, IfOk, IsTrue, OnOk, if◌then◌else◌}
 use Rattle.std.proofs.lemmas.Bool.Decides.{nat_tests}
 use Rattle.std.specs.Option.{option_map}
 use Rattle.portal_base.specs.declared.limits.Settings.{Settings}
@@ -30,7 +30,7 @@ use Rattle.front_end.specs.declared.input.FrontStep.{FrontStep}
 use Rattle.front_core.specs.declared.link.Link.{Link}
 use Rattle.front_core.specs.declared.seats.Begun.TheVariants as begun
 use Rattle.front_core.specs.Asking.{Asked, Book}
-use Rattle.front_core.specs.Closing.{closes, closing, writes}
+use Rattle.front_core.specs.Closing.{closes, closing, ended_by, most_pending, writes}
 use Rattle.front_core.specs.Breaking.{BreaksOff, CameStops, Stops, WakeStops}
 use Rattle.front_core.specs.Cores.{Agrees, Done, Ends, Hall, Stands, StepEnds, StepsAs, Stopped, binding, front_in}
 use Rattle.front_core.specs.Doing.{CameDoes, OpenedDoes, Passes}
@@ -139,14 +139,9 @@ pub spent_again : {E : Type 0} (s : Settings) (spent : Bool) (c : Hall) (input :
 spent_again s true c input error is = (refl, refl)
 spent_again s false c input error is = absurd (cc)
 
-pub agrees_now : (spent : Bool) (a : Front) → spent ≡ false → Stands spent a → Agrees a
-agrees_now true a is x = absurd (cc)
-agrees_now false a is x = x
-
 pub stands_then : {X E : Type 0} (r : Result X E) (after : Bool) (a : Front) → after ≡ is_err r → OnOk r (Agrees a) → Stands after a
-stands_then r true a is x = tt
-stands_then (Ok step) false a is x = x
-stands_then (Err error) false a is x = absurd (cc)
+stands_then (Ok step) after a is x = λ unspent. x
+stands_then (Err error) after a is x = λ unspent. absurd (cc)
 
 -- ---- a wake
 
@@ -242,3 +237,17 @@ writes_none link bytes empty out both is none = none ∙ sym (ap (writes link) (
 pub writes_some : (link : ℕ) (bytes : List ℕ) (empty : Bool) (out : List FrontOutput) → (IsTrue empty → bytes ≡ []) × (bytes ≡ [] → IsTrue empty) → empty ≡ false → out ≡ Write link bytes ∷ [] → out ≡ writes link bytes
 writes_some link [] empty out both is some = let nothing : empty ≡ true = both.1 refl in absurd (cc)
 writes_some link (b ∷ bs) empty out both is some = some
+
+-- ---- when a link is closed
+
+slow_test : (pending : ℕ) → most_pending < pending → nat_lt most_pending pending ≡ true
+slow_test pending h = grind (arith, nat_tests)
+
+goes_test : (pending : ℕ) → pending ≤ most_pending → nat_lt most_pending pending ≡ false
+goes_test pending h = grind (arith, nat_tests)
+
+pub is_slow : (pending : ℕ) (came : Fed) → most_pending < pending → Some (because.Slow pending) ≡ closing pending came
+is_slow pending came h = sym (ap (λ (b : Bool). if b then Some (because.Slow pending) else ended_by came) (slow_test pending h))
+
+pub goes_by : (pending : ℕ) (came : Fed) (why : Option FrontEnding) → pending ≤ most_pending → why ≡ ended_by came → why ≡ closing pending came
+goes_by pending came why h is = is ∙ sym (ap (λ (b : Bool). if b then Some (because.Slow pending) else ended_by came) (goes_test pending h))

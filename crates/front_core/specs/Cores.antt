@@ -1,5 +1,5 @@
 -- What contracts see of a core, and what a step comes to.
-use Rattle.std.specs.Prelude.{◌≡◌, ◌↔◌, ℕ, ◌≤◌, List, Bool, true, false, Option, None, IfSome, IsTrue}
+use Rattle.std.specs.Prelude.{◌≡◌, ◌↔◌, ℕ, ◌≤◌, List, Bool, true, false, Option, is_some, IfSome, IsTrue}
 use Rattle.std.specs.Prelude.{Result, Ok, Err}
 use Rattle.std.specs.Option.{option_map}
 use Rattle.portal_base.specs.declared.limits.Settings.{Settings}
@@ -48,12 +48,11 @@ binding at = record { who = at.session.client.who; kind = at.session.client.kind
 pub record Agrees (a : Front) : Type 0 where
   pub sound : (n : ℕ) → IfSome (a.links n) IsSound
   pub bound_alike : (n : ℕ) → bound (state_of a) n ≡ option_map binding (a.links n)
-  pub none_first : a.links 0 ≡ None
+  pub none_first : is_some (a.links 0) ≡ false
 
 -- so it is unless memory was wanted
 abbrev pub Stands : Bool → Front → Type 0
-Stands true a = Unit {0}
-Stands false a = Agrees a
+Stands is_spent a = is_spent ≡ false → Agrees a
 
 -- ---- what a part of a step comes to
 

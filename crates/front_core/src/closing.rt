@@ -26,6 +26,8 @@ fn ended_by(came: Fed) -> Option<FrontEnding>
 {
     match came {
         Fed::Over(served) => Some(FrontEnding::Served(served)),
-        _ => None,
+        Fed::More => None,
+        Fed::WriteFault => None,
+        Fed::Memory => None,
     }
 }

@@ -1,6 +1,7 @@
 //! The core of a front.
 
-ghost use Rattle.std.specs.Prelude.{◌≡◌, ℕ, false, [], IfOk};
+ghost use Rattle.std.specs.Prelude.{◌≡◌, ℕ, false, []};
+ghost use Rattle.std.proofs.Props.{props};
 ghost use Rattle.front_core.specs.Cores.{Stands, StepsAs, hall};
 ghost use Rattle.front_core.specs.Fronts.{front, links_of};
 ghost use Rattle.portal_desk.specs.Opening.{IsOpeningState};
@@ -29,7 +30,7 @@ pub struct FrontCore<S: Signalling> {
     // Each link that is open has an open connection of its client at the portal, and no others
     // are there; none lets too many bytes lie.
     ghost stands: { Stands is_spent
-        (front (S.opening portal) (S.entries portal) (links_of links)) },
+        (front (S.opening portal) (S.entries portal) (links_of links)) } by { Prim.hlevel props },
 }
 
 impl<S: Signalling> FrontCore<S> {

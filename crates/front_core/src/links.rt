@@ -61,7 +61,6 @@ impl Links {
     pub fn take(&mut self, link: u32) -> Option<Link>
         ensures taken { result ≡ links_of self.old link }
         ensures left { links_of self.new ≡ placed (links_of self.old) link None }
-        ensures as_long { length self.new ≡ length self.old }
     {
         let index = link as usize;
         if index >= self.slots.len() {
@@ -74,7 +73,6 @@ impl Links {
     pub fn put(&mut self, link: u32, now: Link) -> Result<(), WantOfMemory>
         ensures ok { OnOk result (links_of self.new ≡ placed (links_of self.old) link (Some now)) }
         ensures same { OnErr result (links_of self.new ≡ links_of self.old) }
-        ensures as_long { link < length self.old → length self.new ≡ length self.old }
     {
         let index = link as usize;
         self.reach(index)?;
@@ -87,7 +85,6 @@ impl Links {
         requires { index < 2 ^ 32 }
         ensures reached { OnOk result (index < length self.new) }
         ensures same { links_of self.new ≡ links_of self.old }
-        ensures as_long { index < length self.old → length self.new ≡ length self.old }
     {
         while self.slots.len() <= index {
             self.slots.push(None)?;

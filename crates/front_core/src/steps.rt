@@ -26,7 +26,7 @@ use portal_base::list::{ByteList, List};
 use portal_base::memory::WantOfMemory;
 use portal_base::who::{Kind, Who};
 use session::connection::refused_ending;
-use session::served::{Fed, Served};
+use session::served::Fed;
 use session::session::Session;
 use std::alloc::Global;
 
@@ -107,13 +107,16 @@ fn opened<S: Signalling>(
     if !is_free(links, link) {
         return Ok(List::new(alloc));
     }
-    match begin(alloc, portal, link, who, kind, settings)? {
+    let begun = begin(alloc, portal, link, who, kind, settings)?;
+    match begun {
         Begun::Session(session) => {
             links.put(link, fresh_link(session, who))?;
             Ok(List::new(alloc))
         }
         Begun::Refused(why) => {
-            outputs_at(alloc, link, List::new(alloc), refused(refused_ending(why)))
+            let nothing = List::new(alloc);
+            let ending = FrontEnding::Served(refused_ending(why));
+            outputs_at(alloc, link, nothing, Some(ending))
         }
     }
 }
@@ -152,13 +155,6 @@ fn is_host(who: &Who) -> bool
     }
 }
 
-/// That a link is closed whose connection was refused so.
-fn refused(served: Served) -> Option<FrontEnding>
-    ensures { result ≡ Some (FrontEnding.Served served) }
-{
-    Some(FrontEnding::Served(served))
-}
-
 /// Bytes come on a link.
 fn came<S: Signalling>(
     alloc: Global,
@@ -177,22 +173,10 @@ fn came<S: Signalling>(
         result
         (hall (S.opening portal.new) (S.entries portal.new) (S.refusals portal.new) links.new) }
 {
-    let Some(
-        Link {
-            mut session,
-            is_host,
-            pending,
-        },
-    ) = links.take(link)
-    else {
+    let Some(mut now) = links.take(link) else {
         return Ok(List::new(alloc));
     };
-    let heard = hear(alloc, portal, link, &mut session, bytes)?;
-    let now = Link {
-        session,
-        is_host,
-        pending,
-    };
+    let heard = hear(alloc, portal, link, &mut now.session, bytes)?;
     settle(alloc, portal, links, link, now, heard.came, heard.written)
 }
 

@@ -75,22 +75,10 @@ fn tell<S: Signalling>(
     if !is_due(portal, links, link) {
         return Ok(List::new(alloc));
     }
-    let Some(
-        Link {
-            mut session,
-            is_host,
-            pending,
-        },
-    ) = links.take(link)
-    else {
+    let Some(mut now) = links.take(link) else {
         return Ok(List::new(alloc));
     };
-    let written = push(alloc, portal, link, &mut session)?;
-    let now = Link {
-        session,
-        is_host,
-        pending,
-    };
+    let written = push(alloc, portal, link, &mut now.session)?;
     settle(alloc, portal, links, link, now, Fed::More, written)
 }
 

@@ -117,7 +117,8 @@ fn run_core<R: Wait, E: FrontEnd, S: Signalling>(
     ensures begins { BeginsWith (S.entries core.new.portal) (S.entries core.old.portal) }
 {
     'inputs: for _ in rt.forever() {
-        match end.next(alloc) {
+        let answer = end.next(alloc);
+        match answer {
             NextInput::Input(input) => match serve_input(alloc, end, core, input) {
                 Ok(()) => {}
                 Err(status) => return status,
@@ -147,12 +148,14 @@ fn serve_input<E: FrontEnd, S: Signalling>(
     ensures unspent { OnOk result (core.new.is_spent ≡ false) }
     ensures settings { core.new.settings ≡ core.old.settings }
 {
-    let FrontStep { outputs, wake } = core.step(alloc, input)?;
+    let step = core.step(alloc, input)?;
+    let FrontStep { outputs, wake } = step;
     give_all(alloc, end, outputs)?;
     if !wake {
         return Ok(());
     }
-    let FrontStep { outputs, wake: _ } = core.step(alloc, FrontInput::Wake)?;
+    let woken = core.step(alloc, FrontInput::Wake)?;
+    let FrontStep { outputs, wake: _ } = woken;
     give_all(alloc, end, outputs)
 }
 

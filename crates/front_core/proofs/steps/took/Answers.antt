@@ -17,13 +17,13 @@ use Rattle.front_core.proofs.steps.took.Goals as goal
 pub returns-in_default : goal.returns-in_default
 returns-in_default g c =
     let none : links_of c.args.links.now c.args.link ≡ None = sym c.take.ensures.taken ∙ c.in_default.is in
-    given_none (TookDoes (front_in (hall (g.S.Storied.opening c.args.portal.now) (g.S.Storied.entries c.args.portal.now) (g.S.Storied.refusals c.args.portal.now) c.args.links.now)) c.args.link c.args.count (links_of c.args.links.now c.args.link)) (hall (g.S.Storied.opening c.args.portal.now) (g.S.Storied.entries c.args.portal.now) (g.S.Storied.refusals c.args.portal.now) c.args.links.now) c.new.result (hall (g.S.Storied.opening c.args.portal.now) (g.S.Storied.entries c.args.portal.now) (g.S.Storied.refusals c.args.portal.now) c.take.new.links) c.new.ensures
-    (nothing_open (TookDoes (front_in (hall (g.S.Storied.opening c.args.portal.now) (g.S.Storied.entries c.args.portal.now) (g.S.Storied.refusals c.args.portal.now) c.args.links.now)) c.args.link c.args.count) (hall (g.S.Storied.opening c.args.portal.now) (g.S.Storied.entries c.args.portal.now) (g.S.Storied.refusals c.args.portal.now) c.args.links.now) c.take.new.links c.args.link (λ os out b p. p) none c.take.ensures.left)
+    given_none (TookDoes (front_in (hall (g.S.Storied.opening c.args.portal.now) (g.S.Storied.entries c.args.portal.now) (g.S.Storied.refusals c.args.portal.now) c.args.links.now)) c.args.link c.args.count (links_of c.args.links.now c.args.link)) (hall (g.S.Storied.opening c.args.portal.now) (g.S.Storied.entries c.args.portal.now) (g.S.Storied.refusals c.args.portal.now) c.args.links.now) c.new.result (hall (g.S.Storied.opening c.args.portal.now) (g.S.Storied.entries c.args.portal.now) (g.S.Storied.refusals c.args.portal.now) c.take.new.self) c.new.ensures
+    (nothing_open (TookDoes (front_in (hall (g.S.Storied.opening c.args.portal.now) (g.S.Storied.entries c.args.portal.now) (g.S.Storied.refusals c.args.portal.now) c.args.links.now)) c.args.link c.args.count) (hall (g.S.Storied.opening c.args.portal.now) (g.S.Storied.entries c.args.portal.now) (g.S.Storied.refusals c.args.portal.now) c.args.links.now) c.take.new.self c.args.link (λ os out b p. p) none c.take.ensures.left)
 
 pub returns-in_err-put : goal.returns-in_err-put
 returns-in_err-put g c =
     let v = (hall (g.S.Storied.opening c.args.portal.now) (g.S.Storied.entries c.args.portal.now) (g.S.Storied.refusals c.args.portal.now) c.args.links.now) in
-    let w = (hall (g.S.Storied.opening c.args.portal.now) (g.S.Storied.entries c.args.portal.now) (g.S.Storied.refusals c.args.portal.now) c.put.new.links) in
+    let w = (hall (g.S.Storied.opening c.args.portal.now) (g.S.Storied.entries c.args.portal.now) (g.S.Storied.refusals c.args.portal.now) c.put.new.self) in
     stopped_ends _ _ v c.from_residual.result w c.from_residual.ensures.0 (nothing_stopped v w c.args.link refl)
 
 pub returns : goal.returns
@@ -33,7 +33,7 @@ returns g c =
     let sound = sound_of (front_in v) c.args.link c.in-Some.now c.requires there in
     let at = c.in-Some.now in
     let less : c.saturating_sub.result ≡ at.pending - c.args.count = omega arith in
-    let put = c.in_ok-put.ensures.ok ∙ ap (λ (z : Link). placed (links_of c.take.new.links) c.args.link (Some z)) (link_is at.session at.is_host c.saturating_sub.result (at.pending - c.args.count) sound.whose less) in
+    let put = c.in_ok-put.ensures.ok ∙ ap (λ (z : Link). placed (links_of c.take.new.self) c.args.link (Some z)) (link_is at.session at.is_host c.saturating_sub.result (at.pending - c.args.count) sound.whose less) in
     let does = TookDoes (front_in v) c.args.link c.args.count (links_of c.args.links.now c.args.link) in
-    given_none does v _ (hall (g.S.Storied.opening c.args.portal.now) (g.S.Storied.entries c.args.portal.now) (g.S.Storied.refusals c.args.portal.now) c.put.new.links) (cc)
-    (took_done v c.take.new.links c.put.new.links c.args.link c.args.count at sound.whose there c.take.ensures.left put)
+    given_none does v _ (hall (g.S.Storied.opening c.args.portal.now) (g.S.Storied.entries c.args.portal.now) (g.S.Storied.refusals c.args.portal.now) c.put.new.self) (cc)
+    (took_done v c.take.new.self c.put.new.self c.args.link c.args.count at sound.whose there c.take.ensures.left put)

@@ -9,5 +9,5 @@ returns-then-is_empty c = writes_none c.args.link c.args.bytes c.is_empty.result
 
 pub returns : goal.returns
 returns c =
-    let put : c.push.new.outputs ≡ Write c.args.link c.args.bytes ∷ [] = c.in_ok-push.ensures.ok ∙ ap (λ (z : List FrontOutput). z ++ Write c.args.link c.args.bytes ∷ []) c.new-outputs.ensures in
-    writes_some c.args.link c.args.bytes c.is_empty.result c.push.new.outputs c.is_empty.ensures (cc) put
+    let put : c.push.new.self ≡ Write c.args.link c.args.bytes ∷ [] = c.in_ok-push.ensures.ok ∙ ap (λ (z : List FrontOutput). z ++ Write c.args.link c.args.bytes ∷ []) c.new-outputs.ensures in
+    writes_some c.args.link c.args.bytes c.is_empty.result c.push.new.self c.is_empty.ensures (cc) put

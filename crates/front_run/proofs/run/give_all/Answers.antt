@@ -14,7 +14,7 @@ loop-output-preserved g c =
     let at = c.loop-output in
     let steps : into_iter_items at.output-iterator ≡ c.in-Some.output ∷ into_iter_items c.next.new.self = c.in-Some.ensures.steps.0 in
     record {
-      so_far = more_given _ (into_iter_items at.output-iterator) (into_iter_items c.next.new.self) c.in-Some.output (g.E.FrontEnd.talk c.args.end.now) (g.E.FrontEnd.talk at.end) (g.E.FrontEnd.talk c.give.new.end) at.invariant.so_far steps c.in-Done.ensures.gives;
+      so_far = more_given _ (into_iter_items at.output-iterator) (into_iter_items c.next.new.self) c.in-Some.output (g.E.FrontEnd.talk c.args.end.now) (g.E.FrontEnd.talk at.end) (g.E.FrontEnd.talk c.give.new.self) at.invariant.so_far steps c.in-Done.ensures.gives;
       count =
           let was = at.invariant.count in
           let gone = c.in-Some.ensures.steps.1 in
@@ -33,7 +33,7 @@ returns-in-Failed g c =
       counts_on status.EndFault
           (end_is (g.E.FrontEnd.talk c.args.end.now) (g.E.FrontEnd.ends c.args.end.now) (g.E.FrontEnd.faults c.args.end.now))
           (end_is (g.E.FrontEnd.talk at.end) (g.E.FrontEnd.ends at.end) (g.E.FrontEnd.faults at.end))
-          (end_is (g.E.FrontEnd.talk c.give.new.end) (g.E.FrontEnd.ends c.give.new.end) (g.E.FrontEnd.faults c.give.new.end))
+          (end_is (g.E.FrontEnd.talk c.give.new.self) (g.E.FrontEnd.ends c.give.new.self) (g.E.FrontEnd.faults c.give.new.self))
           at.invariant.ends at.invariant.faults c.in-Failed.ensures.counts,
     )
 

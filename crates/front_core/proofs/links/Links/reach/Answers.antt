@@ -7,8 +7,5 @@ pub loop-self-preserved : goal.loop-self-preserved
 loop-self-preserved c =
     let before = c.loop-self.self-inside.slots.items in
     let i = c.loop-self.invariant in
-    let pushed = c.in_ok-push.ensures.items in (
-      ap links_of pushed ∙ (grown before ∙ i.0),
-      omega (arith, ap length pushed, length-append before (None ∷ [])),
-      λ inside. absurd (omega (arith, i.2 inside)),
-    )
+    let pushed = c.in_ok-push.ensures.items in
+    (ap links_of pushed ∙ (grown before ∙ i.0), omega (arith, ap length pushed, length-append before (None ∷ [])))
