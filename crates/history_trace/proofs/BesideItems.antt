@@ -1,5 +1,5 @@
 -- The files of an opening state that aren't present are beside those that are.
-use Rattle.std.proofs.Common.{◌≡◌, ◌×◌, ℕ, ◌==◌, List, [], ◌∷◌, ◌++◌, Bool, true, false, not, ◌&&◌, ◌||◌, cond, Option, Some, None, is_some, refl, sym, ap, subst, ◌∙◌}
+use Rattle.std.proofs.Common.{◌≡◌, ℕ, ◌==◌, List, [], ◌∷◌, ◌++◌, Bool, true, false, not, ◌&&◌, ◌||◌, cond, Option, Some, None, is_some, refl, ap, subst, ◌∙◌}
 use Rattle.std.specs.List.{AllByRecursion, IsDistinct}
 use Rattle.file_generations.specs.Generations.{name_of_file, same_file}
 use Rattle.host_tree.specs.Beside.{AreBeside, AreHeld, are_apart}
