@@ -1,6 +1,6 @@
 //! The sessions of links, each at its seat of a portal.
 
-ghost use Rattle.std.specs.Prelude.{◌≡◌, ◌≤◌, ◌∷◌, [], ◌++◌, true, false, IfErr, IfOk, OnErr, OnOk, Some};
+ghost use Rattle.std.specs.Prelude.{◌≡◌, ◌≤◌, true, false, IfOk, OnErr, Some};
 ghost use Rattle.portal_model.specs.History.{run};
 ghost use Rattle.portal_model.specs.Seated.{bound, is_open};
 ghost use Rattle.portal_base.specs.declared.who.Who.TheVariants.{Host};

@@ -11,8 +11,7 @@ ghost use Rattle.front_core.specs.Seats.{SettlesAs, binding_of};
 ghost use Rattle.portal_model.specs.History.{run};
 ghost use Rattle.portal_model.specs.Seated.{bound};
 ghost use Rattle.session.specs.Standings.{client};
-ghost use Rattle.std.specs.Prelude.{IfOk, ◌+◌, ◌++◌, [], length};
-ghost use Rattle.portal_model.specs.declared.request.Request.TheVariants.{Enter};
+ghost use Rattle.std.specs.Prelude.{IfOk, ◌+◌, ◌++◌, []};
 
 use crate::closing::closing;
 use crate::link::Link;

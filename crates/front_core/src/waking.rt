@@ -1,6 +1,6 @@
 //! What a wake does, and who waits for one.
 
-ghost use Rattle.std.specs.Prelude.{◌≡◌, ◌↔◌, ◌≤◌, ◌<◌, ◌^◌, IsTrue, true};
+ghost use Rattle.std.specs.Prelude.{◌≡◌, ◌↔◌, ◌<◌, IsTrue, true};
 ghost use Rattle.front_core.specs.Breaking.{Stops, WakeStops};
 ghost use Rattle.front_core.specs.Cores.{Agrees, Ends, IsSound, front_in, hall};
 ghost use Rattle.session.specs.Asked.{is_host};

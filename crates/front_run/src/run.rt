@@ -1,6 +1,6 @@
 //! Running a front.
 
-ghost use Rattle.std.specs.Prelude.{◌≡◌, ℕ, [], false, OnOk, OnErr, MatchResult};
+ghost use Rattle.std.specs.Prelude.{◌≡◌, ℕ, [], false, OnOk};
 ghost use Rattle.front_core.specs.Asking.{book};
 ghost use Rattle.front_core.specs.Cores.{hall};
 ghost use Rattle.front_core.specs.Fronts.{front, links_of};
@@ -16,7 +16,7 @@ use front_end::end::{FrontEnd, Given2, NextInput};
 use front_end::input::{FrontInput, FrontOutput, FrontStep};
 use portal_base::limits::Settings;
 use portal_base::list::List;
-use portal_base::memory::{Replica, WantOfMemory};
+use portal_base::memory::WantOfMemory;
 use served_world::laws::applications_are_isolated_over_any_tree;
 use std::alloc::Global;
 use std::sync::Wait;

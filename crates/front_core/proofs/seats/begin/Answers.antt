@@ -1,4 +1,4 @@
-use Rattle.std.proofs.Common.{◌≡◌, ◌∙◌, ℕ, arith}
+use Rattle.std.proofs.Common.{◌≡◌, ◌∙◌, arith}
 use Rattle.session.specs.Standings.{client}
 use Rattle.front_core.proofs.Calls.{begins, refused_begins, unasked}
 use Rattle.front_core.proofs.seats.begin.Goals as goal

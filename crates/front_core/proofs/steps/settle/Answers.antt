@@ -1,4 +1,4 @@
-use Rattle.std.proofs.Common.{◌≡◌, ◌∙◌, ◌+◌, ℕ, Option, Some, None, length, ap, sym, refl, arith}
+use Rattle.std.proofs.Common.{◌≡◌, ◌∙◌, ◌+◌, length, sym, refl, arith}
 use Rattle.front_core.specs.Asking.{book}
 use Rattle.front_core.specs.Cores.{hall}
 use Rattle.front_core.specs.Closing.{closing}

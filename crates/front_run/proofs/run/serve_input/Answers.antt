@@ -1,4 +1,4 @@
-use Rattle.std.proofs.Common.{◌≡◌, ◌∙◌, false, true, sym, refl}
+use Rattle.std.proofs.Common.{◌≡◌, false, true, refl}
 use Rattle.front_end.specs.Ends.{end_is}
 use Rattle.front_end.specs.declared.input.FrontInput.TheVariants.{Wake}
 use Rattle.front_core.specs.Cores.{hall}
