@@ -1,2 +1,4 @@
+pub mod BitLaws
+pub mod Bits
 pub mod Rights
 pub mod Unknown
