@@ -200,34 +200,11 @@ given-is app id set gs s h =
 
 -- ---- a new grant in its place
 
-not-back : (g h : Grant) → grant_less h g ≡ true → grant_less g h ≡ false
-not-back g h l = grind (arith, keys.through (key_of g) (key_of h) (key_of g), keys.irreflexive (key_of g))
-
 ahead : (g h : Grant) → is_of g.app g.id.number h ≡ false → grant_less h g ≡ false → grant_less g h ≡ true
 ahead g h k l = grind (arith, keys.total (key_of g) (key_of h), keys.itself (key_of h), same_way (key_of g) (key_of h))
   where
     same_way : (a b : Key) → a ≡ b → same_key b a ≡ true
     same_way a b e = subst (λ (x : Key). same_key b x ≡ true) (sym e) (keys.itself b)
-
-insert-more : (g h : Grant) (hs : List Grant) (k : ℕ) → insert (h ∷ hs) (1 + k) g ≡ h ∷ insert hs k g
-insert-more g h hs k = let e : 1 + k ≡ suc k = omega arith in ap (λ (n : ℕ). insert (h ∷ hs) n g) e
-
-abbrev pub place : Grant → List Grant → ℕ
-place g gs = prefix_len (is_before g.app g.id.number) gs
-
-pub insert-put : (g : Grant) (gs : List Grant) → list_any (is_of g.app g.id.number) gs ≡ false → insert gs (place g gs) g ≡ put grant_less g gs
-insert-put g [] e = refl
-insert-put g (h ∷ hs) e =
-    let k : is_of g.app g.id.number h ≡ false = grind arith in
-    let n : list_any (is_of g.app g.id.number) hs ≡ false = grind arith in
-    step (grant_less h g) refl k (insert-put g hs n)
-  where
-    step : (b : Bool) → grant_less h g ≡ b → is_of g.app g.id.number h ≡ false → insert hs (place g hs) g ≡ put grant_less g hs →
-        insert (h ∷ hs) (cond b (1 + place g hs) 0) g ≡ cond (grant_less g h) (g ∷ h ∷ hs) (cond b (h ∷ put grant_less g hs) (g ∷ hs))
-    step true l k more =
-        insert-more g h hs (place g hs) ∙ (ap (λ (xs : List Grant). h ∷ xs) more
-        ∙ sym (ap (λ (b : Bool). cond b (g ∷ h ∷ hs) (h ∷ put grant_less g hs)) (not-back g h l)))
-    step false l k more = sym (ap (λ (b : Bool). cond b (g ∷ h ∷ hs) (g ∷ hs)) (ahead g h k l))
 
 or-turn : (x y z : Bool) → (x || (y || z)) ≡ (y || (x || z))
 or-turn true true z = refl
@@ -255,9 +232,6 @@ any-put-grant p g (h ∷ hs) e =
 pub none-is : (p : Grant → Bool) (gs : List Grant) → find p gs ≡ None → list_any p gs ≡ false
 none-is p [] e = refl
 none-is p (g ∷ gs) e = grind (arith, none-is p gs)
-
-pub placed : (g : Grant) (gs : List Grant) → find (is_of g.app g.id.number) gs ≡ None → insert gs (place g gs) g ≡ put grant_less g gs
-placed g gs e = insert-put g gs (none-is (is_of g.app g.id.number) gs e)
 
 pub rising-new : (g : Grant) (gs : List Grant) → are_grants_in_order gs ≡ true → are_grants_in_order (put grant_less g gs) ≡ true
 rising-new g gs s = rising-put key_less same_key key_of keys g gs s
@@ -384,128 +358,18 @@ forgotten-is number (g ∷ gs) =
 
 -- ---- what a search in the code says
 
-pub copied-some : {X : Type 0} (r : Option (Bor X)) → is_some (option_copied r) ≡ is_some r
-copied-some None = refl
-copied-some (Some x) = refl
-
 pub not-some : {X : Type 0} (r : Option X) → is_some r ≡ false → r ≡ None
 not-some None e = refl
 not-some (Some x) e = cc
 
--- ---- where a grant stands
-
-ahead-too : (app : List ℕ) (number : ℕ) (g h : Grant) → grant_less g h ≡ true → is_before app number h ≡ true → is_before app number g ≡ true
-ahead-too app number g h l k = keys.through (key_of g) (key_of h) (record { number = number; app = app }) l k
-
-each-of : (p : Grant → Bool) (gs : List Grant) (i : ℕ) (d : Grant) → i < length gs → list_all p gs ≡ true → p (get_or gs i d) ≡ true
-each-of p [] i d h a = absurd (omega arith)
-each-of p (g ∷ gs) zero d h a = grind arith
-each-of p (g ∷ gs) (suc i) d h a = each-of p gs i d (omega arith) (grind arith)
-
--- those that stand ahead come first
-pub in-two-parts : (app : List ℕ) (number : ℕ) (gs : List Grant) → are_grants_in_order gs ≡ true → IsPartitionedBy (is_before app number) gs
-in-two-parts app number [] s i j d le lt k = absurd (omega arith)
-in-two-parts app number (g ∷ gs) s zero zero d le lt k = k
-in-two-parts app number (g ∷ gs) s zero (suc j) d le lt k =
-    let a : list_all (grant_less g) gs ≡ true = grind arith in
-    ahead-too app number g (get_or gs j d) (each-of (grant_less g) gs j d (omega arith) a) k
-in-two-parts app number (g ∷ gs) s (suc i) zero d le lt k = absurd (omega arith)
-in-two-parts app number (g ∷ gs) s (suc i) (suc j) d le lt k =
-    let b : are_grants_in_order gs ≡ true = grind arith in
-    in-two-parts app number gs b i j d (omega arith) (omega arith) k
-
-pub parts-end : (p : Grant → Bool) (gs : List Grant) (i : ℕ) → i ≤ length gs → IsPartitionPoint (λ y. p y ≡ true) (λ y. p y ≡ false) gs i → i ≡ prefix_len p gs
-parts-end p [] i b h = omega arith
-parts-end p (g ∷ gs) i b h = sym (prefix_len_is p (g ∷ gs) i g b (λ k l. h.0 k g (omega arith) l) (λ l. h.1 i g (omega arith) l))
-
-abbrev pub if_of : List ℕ → ℕ → Option Grant → Option Grant
-if_of app number None = None
-if_of app number (Some g) = cond (is_of app number g) (Some g) None
-
-not-behind : (app : List ℕ) (number : ℕ) (g h : Grant) → is_before app number g ≡ false → grant_less g h ≡ true → is_of app number h ≡ false
-not-behind app number g h k l = grind (arith, nat_tests, is_same-eq h.app app)
-
-none-at-or-behind : (app : List ℕ) (number : ℕ) (g : Grant) (hs : List Grant) → is_before app number g ≡ false → list_all (grant_less g) hs ≡ true → find (is_of app number) hs ≡ None
-none-at-or-behind app number g [] k l = refl
-none-at-or-behind app number g (h ∷ hs) k l = grind (arith, none-at-or-behind app number g hs, not-behind app number g h)
-
-not-both : (app : List ℕ) (number : ℕ) (g : Grant) → is_before app number g ≡ true → is_of app number g ≡ false
-not-both app number g k = grind (arith, nat_tests, is_same-eq g.app app, bytes-irreflexive app)
-
-next-item : (g : Grant) (gs : List Grant) (n : ℕ) → slice_get (g ∷ gs) (1 + n) ≡ slice_get gs n
-next-item g gs n = let e : 1 + n ≡ suc n = omega arith in ap (slice_get (g ∷ gs)) e
-
--- a grant that is there stands at its place
-pub found-in-place : (app : List ℕ) (number : ℕ) (gs : List Grant) → are_grants_in_order gs ≡ true →
-    find (is_of app number) gs ≡ if_of app number (slice_get gs (prefix_len (is_before app number) gs))
-found-in-place app number [] s = refl
-found-in-place app number (g ∷ gs) s =
-    let a : list_all (grant_less g) gs ≡ true = grind arith in
-    let b : are_grants_in_order gs ≡ true = grind arith in
-    step (is_before app number g) (is_of app number g) refl refl a (found-in-place app number gs b)
-  where
-    step : (b o : Bool) → is_before app number g ≡ b → is_of app number g ≡ o → list_all (grant_less g) gs ≡ true →
-        find (is_of app number) gs ≡ if_of app number (slice_get gs (prefix_len (is_before app number) gs)) →
-        cond o (Some g) (find (is_of app number) gs) ≡ if_of app number (slice_get (g ∷ gs) (cond b (1 + prefix_len (is_before app number) gs) 0))
-    step true true k l a more = let f : is_of app number g ≡ false = not-both app number g k in cc
-    step true false k l a more = more ∙ ap (if_of app number) (sym (next-item g gs (prefix_len (is_before app number) gs)))
-    step false true k l a more = sym (ap (λ (c : Bool). cond c (Some g) None) l)
-    step false false k l a more = none-at-or-behind app number g gs k a ∙ sym (ap (λ (c : Bool). cond c (Some g) None) l)
-
--- what `get` answers is the item of the list
-pub item-at : (xs : List Grant) (i : ℕ) (r : Option (Bor Grant)) → IsItemAt xs i r → option_copied r ≡ slice_get xs i
-item-at xs i None h = sym (slice_get_past xs i h.3)
-item-at xs i (Some x) h = ap (λ (y : Grant). Some y) h.1 ∙ sym (slice_get-get_or xs i x.now h.3.0)
-
--- ---- what is changed in one place
-
-pub item-lent : (xs : List Grant) (i : ℕ) (x : MutBor Grant) → IsItemAtMut xs i (Some x) → slice_get xs i ≡ Some x.now
-item-lent xs i x h = slice_get-get_or xs i x.now h.3.0 ∙ ap (λ (y : Grant). Some y) (sym h.1)
-
-pub nothing-lent : (xs : List Grant) (i : ℕ) (r : Option (MutBor Grant)) → IsItemAtMut xs i r → r ≡ None → slice_get xs i ≡ None
-nothing-lent xs i None h e = slice_get_past xs i h.3
-nothing-lent xs i (Some x) h e = cc
-
-set-next : (g x : Grant) (gs : List Grant) (n : ℕ) → set (g ∷ gs) (1 + n) x ≡ g ∷ set gs n x
-set-next g x gs n = let e : 1 + n ≡ suc n = omega arith in ap (λ (k : ℕ). set (g ∷ gs) k x) e
-
 module _ (app : List ℕ) (number : ℕ) (f : Grant → Grant) (stays : (g : Grant) → is_of app number g ≡ false → f g ≡ g) where
-  all-stay : (gs : List Grant) → find (is_of app number) gs ≡ None → map f gs ≡ gs
+  pub all-stay : (gs : List Grant) → find (is_of app number) gs ≡ None → map f gs ≡ gs
   all-stay [] e = refl
   all-stay (g ∷ gs) e = step (is_of app number g) refl (all-stay gs)
     where
       step : (b : Bool) → is_of app number g ≡ b → (find (is_of app number) gs ≡ None → map f gs ≡ gs) → f g ∷ map f gs ≡ g ∷ gs
       step true k more = let x : Some g ≡ None = looked app number Read g gs true None k e in cc
       step false k more = λ i. stays g k i ∷ more (looked app number Read g gs false None k e) i
-
-  -- nothing is there to change
-  pub changed-none : (gs : List Grant) → are_grants_in_order gs ≡ true → slice_get gs (prefix_len (is_before app number) gs) ≡ None → map f gs ≡ gs
-  changed-none gs s e = all-stay gs (found-in-place app number gs s ∙ ap (if_of app number) e)
-
-  -- only what stands in the place is changed
-  pub changed-one : (gs : List Grant) (g : Grant) → are_grants_in_order gs ≡ true → slice_get gs (prefix_len (is_before app number) gs) ≡ Some g →
-      map f gs ≡ set gs (prefix_len (is_before app number) gs) (f g)
-  changed-one [] g s e = cc
-  changed-one (h ∷ hs) g s e =
-      let a : list_all (grant_less h) hs ≡ true = grind arith in
-      let b : are_grants_in_order hs ≡ true = grind arith in
-      step (is_before app number h) refl a (changed-one hs g b)
-    where
-      step : (b : Bool) → is_before app number h ≡ b → list_all (grant_less h) hs ≡ true →
-          (slice_get hs (prefix_len (is_before app number) hs) ≡ Some g → map f hs ≡ set hs (prefix_len (is_before app number) hs) (f g)) →
-          f h ∷ map f hs ≡ set (h ∷ hs) (prefix_len (is_before app number) (h ∷ hs)) (f g)
-      step true k a more =
-          let n = prefix_len (is_before app number) hs in
-          let at : prefix_len (is_before app number) (h ∷ hs) ≡ 1 + n = ap (λ (c : Bool). cond c (1 + n) 0) k in
-          let there : slice_get hs n ≡ Some g = sym (next-item h hs n) ∙ (ap (slice_get (h ∷ hs)) (sym at) ∙ e) in
-          (λ i. stays h (not-both app number h k) i ∷ more there i)
-          ∙ (sym (set-next h (f g) hs n) ∙ ap (λ (m : ℕ). set (h ∷ hs) m (f g)) (sym at))
-      step false k a more =
-          let at : prefix_len (is_before app number) (h ∷ hs) ≡ 0 = ap (λ (c : Bool). cond c (1 + prefix_len (is_before app number) hs) 0) k in
-          let first : Some h ≡ Some g = ap (slice_get (h ∷ hs)) (sym at) ∙ e in
-          let same : h ≡ g = cc in
-          (λ i. f (same i) ∷ all-stay hs (none-at-or-behind app number h hs k a) i)
-          ∙ ap (λ (m : ℕ). set (h ∷ hs) m (f g)) (sym at)
 
 pub given-stays : (app : List ℕ) (number : ℕ) (set : RightSet) (g : Grant) → is_of app number g ≡ false → given app number set g ≡ g
 given-stays app number set g k = ap (λ (b : Bool). cond b (record g { rights = union g.rights set }) g) k
@@ -519,25 +383,3 @@ all-held (g ∷ gs) h =
     let a : has_a_right g ≡ true = grind arith in
     let b : list_all has_a_right gs ≡ true = grind arith in
     ap (λ (c : Bool). cond c (g ∷ filter has_a_right gs) (filter has_a_right gs)) a ∙ ap (λ (xs : List Grant). g ∷ xs) (all-held gs b)
-
-pub one-held : (gs : List Grant) (i : ℕ) (x : Grant) → list_all has_a_right gs ≡ true → has_a_right x ≡ true → filter has_a_right (set gs i x) ≡ set gs i x
-one-held [] i x h k = refl
-one-held (g ∷ gs) zero x h k =
-    let b : list_all has_a_right gs ≡ true = grind arith in
-    ap (λ (c : Bool). cond c (x ∷ filter has_a_right gs) (filter has_a_right gs)) k ∙ ap (λ (xs : List Grant). x ∷ xs) (all-held gs b)
-one-held (g ∷ gs) (suc i) x h k =
-    let a : has_a_right g ≡ true = grind arith in
-    let b : list_all has_a_right gs ≡ true = grind arith in
-    ap (λ (c : Bool). cond c (g ∷ filter has_a_right (set gs i x)) (filter has_a_right (set gs i x))) a ∙ ap (λ (xs : List Grant). g ∷ xs) (one-held gs i x b k)
-
--- the one that has no right left goes
-pub one-gone : (gs : List Grant) (i : ℕ) (x : Grant) → i < length gs → list_all has_a_right gs ≡ true → has_a_right x ≡ false → filter has_a_right (set gs i x) ≡ remove (set gs i x) i
-one-gone [] i x l h k = absurd (omega arith)
-one-gone (g ∷ gs) zero x l h k =
-    let b : list_all has_a_right gs ≡ true = grind arith in
-    ap (λ (c : Bool). cond c (x ∷ filter has_a_right gs) (filter has_a_right gs)) k ∙ all-held gs b
-one-gone (g ∷ gs) (suc i) x l h k =
-    let a : has_a_right g ≡ true = grind arith in
-    let b : list_all has_a_right gs ≡ true = grind arith in
-    ap (λ (c : Bool). cond c (g ∷ filter has_a_right (set gs i x)) (filter has_a_right (set gs i x))) a
-    ∙ ap (λ (xs : List Grant). g ∷ xs) (one-gone gs i x (omega arith) b k)

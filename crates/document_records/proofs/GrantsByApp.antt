@@ -1,6 +1,6 @@
 -- Applications are found with the documents in which they have rights, after each change of rights.
 use Rattle.std.proofs.Common.{◌≡◌, ℕ, ◌==◌, List, [], ◌∷◌, map, Bool, true, false, not, ◌||◌, ◌&&◌, cond, None, is_some, refl, sym, ap, ◌∙◌, arith}
-use Rattle.std.specs.BTreeMap.{BTreeMap, is_at}
+use Rattle.std.specs.BTreeMap.{BTreeMap, is_at, keys}
 use Rattle.std.specs.BTreeSet.{BTreeSet}
 use Rattle.std.specs.Global.{Vec}
 use Rattle.std.specs.List.{filter, find, list_all, list_any}
@@ -13,9 +13,11 @@ use Rattle.portal_model.specs.declared.state.Triple.{Triple}
 use Rattle.portal_model.specs.Rights.{add_rights, forget_document, take_rights}
 use Rattle.document_records.specs.declared.grants.Grant.{Grant}
 use Rattle.document_records.specs.GrantIndex.{AreByApp, IsSetTo, has_number, holds, is_found, is_held, is_this}
-use Rattle.document_records.specs.Grants.{has_a_right, is_in_document, is_of, taken, triples_of_grant, triples_of_grants}
+use Rattle.document_records.specs.Grants.{ByName, grant_in, grants_in, has_a_right, is_in_document, is_of, taken, triples_of_grant, triples_of_grants}
 use Rattle.document_records.proofs.DocumentsHeld.{any-set, holds-added, holds-forgotten, holds-left, holds-some, these}
 use Rattle.document_records.proofs.FoundByName.{by_text}
+use Rattle.document_records.proofs.FreshItems.{any-mapped}
+use Rattle.document_records.proofs.NumbersByApp.{is_among}
 use Rattle.document_records.proofs.GrantLemmas.{held-ones-are, none-is, some-is, taken-is}
 
 abbrev Numbers : Type 0
@@ -137,6 +139,15 @@ module _ (rights : List Triple) (app : List ℕ) (n : ℕ) (set : RightSet) (old
       ∙ sym (holds-left app n set rights false h other m))
 
 -- ---- a document forgotten
+
+-- the names of those who have a right in a document
+pub among-names : (number : ℕ) (names : ByName) (other : List ℕ) (n : ℕ) →
+    is_among number other n (keys names)
+    ≡ list_any (λ g. is_this g.app number other n) (grants_in number names)
+among-names number names other n =
+    any-mapped (λ (name : Vec ℕ). is_this name.items number other n) (λ (e : Vec ℕ × RightSet). e.0)
+    names.entries
+    ∙ sym (any-mapped (λ (g : Grant). is_this g.app number other n) (grant_in number) names.entries)
 
 -- those who have a grant in a document have a right in it
 removed-are : (number : ℕ) (gs : List Grant) (other : List ℕ) (n : ℕ) →

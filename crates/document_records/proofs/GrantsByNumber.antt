@@ -1,15 +1,14 @@
 -- Grants that stand under the numbers of their documents.
 use Rattle.std.proofs.Common.{◌≡◌, ℕ, ◌==◌, List, [], ◌∷◌, ◌++◌, map, Bool, true, false, not, ◌||◌, ◌&&◌, cond, Option, Some, None, length, Result, Ok, Err, OnOk, OnErr, MutBor, refl, sym, ap, subst, ◌∙◌, arith, nat_lt}
 use Rattle.std.specs.BTreeMap.{insert_entry, is_at}
+use Rattle.std.specs.Global.{Vec}
 use Rattle.std.specs.List.{AllByRecursion, filter, find, list_all, list_any}
 use Rattle.std.specs.Option.{option_copied_mut}
 use Rattle.std.specs.List.Sorted.{IsStrictlySortedBy}
 use Rattle.std.specs.Map.{keys_of, lookup, remove_entry, set_value}
 use Rattle.std.specs.Ordering.{is_eq, match_ordering, nat_cmp}
-use Rattle.std.specs.declared.alloc.Global.{Global}
 use Rattle.std.specs.declared.cmp.Ordering.{Ordering}
 use Rattle.std.specs.declared.cmp.Ordering.TheVariants.{Less, Equal, Greater}
-use Rattle.std.specs.declared.vec.Vec.{Vec}
 use Rattle.std.proofs.lemmas.Bool.Decides.{nat_tests}
 use Rattle.std.proofs.lemmas.Grind.{flat_map-append}
 use Rattle.std.proofs.lemmas.List.Elements.{filter-append}
@@ -17,17 +16,17 @@ use Rattle.std.proofs.lemmas.List.Folds.{list_any-append}
 use Rattle.portal_model.specs.declared.state.Triple.{Triple}
 use Rattle.portal_model.proofs.RisingLists.{rising-append}
 use Rattle.portal_model.proofs.TripleOrder.{Key, nat-itself, nat_is}
-use Rattle.portal_base.specs.Names.{is_same}
+use Rattle.portal_base.specs.Names.{is_app_name, is_same}
 use Rattle.rights_rule.specs.Rights.{RightSet}
 use Rattle.portal_model.specs.Ordered.{put}
 use Rattle.portal_model.specs.Rights.{forget_document}
 use Rattle.portal_model.specs.Valid.{is_none}
 use Rattle.document_records.specs.declared.grants.Grant.{Grant}
-use Rattle.document_records.specs.Grants.{all_grants, are_grants_in_order, given, grant_less, has_a_right, is_elsewhere, is_in_document, is_kept, is_of, taken, triples_of_all, triples_of_grant, triples_of_grants, AreKept}
+use Rattle.document_records.specs.Grants.{ByName, all_grants, are_grants_in_order, given, grant_in, grant_less, grants_in, grants_of, has_a_right, is_elsewhere, is_in_document, is_kept, is_named, is_of, taken, triples_of_all, triples_of_grant, triples_of_grants, AreKept}
 use Rattle.document_records.proofs.GrantLemmas.{all-put, all-some, forgotten-is, given-key, given-stays, kept-given, kept-new, kept-taken, key_of, passes, taken-key, taken-stays}
 
 abbrev pub Entry : Type 0
-Entry = ℕ × Vec Grant Global
+Entry = ℕ × ByName
 
 -- ---- which entry has a number
 
@@ -74,17 +73,24 @@ and-rest false b h = cc
 and-both : (a b : Bool) → a ≡ true → b ≡ true → (a && b) ≡ true
 and-both a b h k = λ i. h i && k i
 
-pub kept-order : (d : Entry) → is_kept d ≡ true → are_grants_in_order d.1.items ≡ true
-kept-order d k = and-first _ _ (and-first _ _ (and-first _ (not (is_none d.1.items)) k))
+pub kept-order : (d : Entry) → is_kept d ≡ true → are_grants_in_order (grants_of d) ≡ true
+kept-order d k = and-first _ _ (and-first _ _ (and-first _ (not (is_none (grants_of d))) k))
 
-pub kept-held : (d : Entry) → is_kept d ≡ true → list_all has_a_right d.1.items ≡ true
-kept-held d k = and-rest (are_grants_in_order d.1.items) _ (and-first _ _ (and-first _ (not (is_none d.1.items)) k))
+pub kept-held : (d : Entry) → is_kept d ≡ true → list_all has_a_right (grants_of d) ≡ true
+kept-held d k = and-rest (are_grants_in_order (grants_of d)) _ (and-first _ _ (and-first _ (not (is_none (grants_of d))) k))
 
-pub kept-inside : (d : Entry) → is_kept d ≡ true → list_all (is_in_document d.0) d.1.items ≡ true
-kept-inside d k = and-rest (are_grants_in_order d.1.items && list_all has_a_right d.1.items) _ (and-first _ (not (is_none d.1.items)) k)
+pub kept-named : (d : Entry) → is_kept d ≡ true → list_all is_named (grants_of d) ≡ true
+kept-named d k = and-rest (are_grants_in_order (grants_of d) && list_all has_a_right (grants_of d)) _ (and-first _ (not (is_none (grants_of d))) k)
 
-pub kept-entry : (d : Entry) → are_grants_in_order d.1.items ≡ true → list_all has_a_right d.1.items ≡ true → list_all (is_in_document d.0) d.1.items ≡ true → is_none d.1.items ≡ false → is_kept d ≡ true
+pub kept-entry : (d : Entry) → are_grants_in_order (grants_of d) ≡ true → list_all has_a_right (grants_of d) ≡ true → list_all is_named (grants_of d) ≡ true → is_none (grants_of d) ≡ false → is_kept d ≡ true
 kept-entry d o h i f = λ j. o j && h j && i j && not (f j)
+
+all-inside : (n : ℕ) (names : List (Vec ℕ × RightSet)) → list_all (is_in_document n) (map (grant_in n) names) ≡ true
+all-inside n [] = refl
+all-inside n (e ∷ names) = and-both _ _ (nat-itself n) (all-inside n names)
+
+pub kept-inside : (d : Entry) → list_all (is_in_document d.0) (grants_of d) ≡ true
+kept-inside d = all-inside d.0 d.1.entries
 
 away : (n k : ℕ) → (k == n) ≡ false → (gs : List Grant) → list_all (is_in_document k) gs ≡ true → list_all (is_elsewhere n) gs ≡ true
 away n k h [] l = refl
@@ -93,11 +99,11 @@ away n k h (g ∷ gs) l =
     let b : (g.id.number == n) ≡ false = grind (arith, nat_tests) in
     and-both _ _ (ap not b) (away n k h gs (and-rest (is_in_document k g) _ l))
 
-other-entry : (n : ℕ) (d : Entry) → is_kept d ≡ true → is_at (nat_cmp n) d.0 ≡ false → list_all (is_elsewhere n) d.1.items ≡ true
-other-entry n d k h = away n d.0 (at-other n d.0 h) d.1.items (kept-inside d k)
+other-entry : (n : ℕ) (d : Entry) → is_kept d ≡ true → is_at (nat_cmp n) d.0 ≡ false → list_all (is_elsewhere n) (grants_of d) ≡ true
+other-entry n d k h = away n d.0 (at-other n d.0 h) (grants_of d) (kept-inside d)
 
-own-entry : (n : ℕ) (d : Entry) → is_kept d ≡ true → is_at (nat_cmp n) d.0 ≡ true → list_all (is_in_document n) d.1.items ≡ true
-own-entry n d k h = subst (λ (m : ℕ). list_all (is_in_document m) d.1.items ≡ true) (at-here n d.0 h) (kept-inside d k)
+own-entry : (n : ℕ) (d : Entry) → is_kept d ≡ true → is_at (nat_cmp n) d.0 ≡ true → list_all (is_in_document n) (grants_of d) ≡ true
+own-entry n d k h = subst (λ (m : ℕ). list_all (is_in_document m) (grants_of d) ≡ true) (at-here n d.0 h) (kept-inside d)
 
 -- ---- the grants of one document
 
@@ -124,32 +130,32 @@ module _ (n : ℕ) where
   here-none [] k e = refl
   here-none (d ∷ es) k e = step (is_at (nat_cmp n) d.0) refl (here-none es (and-rest (is_kept d) _ k)) e
     where
-      step : (b : Bool) → is_at (nat_cmp n) d.0 ≡ b → (lookup (is_at (nat_cmp n)) es ≡ None → [] ≡ filter (is_in_document n) (all_grants es)) → cond b (Some d.1) (lookup (is_at (nat_cmp n)) es) ≡ None → [] ≡ filter (is_in_document n) (d.1.items ++ all_grants es)
+      step : (b : Bool) → is_at (nat_cmp n) d.0 ≡ b → (lookup (is_at (nat_cmp n)) es ≡ None → [] ≡ filter (is_in_document n) (all_grants es)) → cond b (Some d.1) (lookup (is_at (nat_cmp n)) es) ≡ None → [] ≡ filter (is_in_document n) ((grants_of d) ++ all_grants es)
       step true h more e = cc
       step false h more e =
           let rest = more e in
-          let first : filter (is_in_document n) d.1.items ≡ [] = none-pass (is_in_document n) d.1.items (other-entry n d (and-first _ _ k) h) in
-          sym (filter-append (is_in_document n) d.1.items (all_grants es) ∙ (λ i. first i ++ sym rest i))
+          let first : filter (is_in_document n) (grants_of d) ≡ [] = none-pass (is_in_document n) (grants_of d) (other-entry n d (and-first _ _ k) h) in
+          sym (filter-append (is_in_document n) (grants_of d) (all_grants es) ∙ (λ i. first i ++ sym rest i))
 
-  pub here-some : (es : List Entry) (v : Vec Grant Global) → IsStrictlySortedBy nat_cmp (keys_of es) → list_all is_kept es ≡ true → lookup (is_at (nat_cmp n)) es ≡ Some v → v.items ≡ filter (is_in_document n) (all_grants es)
+  pub here-some : (es : List Entry) (v : ByName) → IsStrictlySortedBy nat_cmp (keys_of es) → list_all is_kept es ≡ true → lookup (is_at (nat_cmp n)) es ≡ Some v → (grants_in n v) ≡ filter (is_in_document n) (all_grants es)
   unfolding IsStrictlySortedBy
   here-some [] v s k e = cc
   here-some (d ∷ es) v s k e = step (is_at (nat_cmp n) d.0) refl (here-some es v s.1 (and-rest (is_kept d) _ k)) s.0 e
     where
-      step : (b : Bool) → is_at (nat_cmp n) d.0 ≡ b → (lookup (is_at (nat_cmp n)) es ≡ Some v → v.items ≡ filter (is_in_document n) (all_grants es)) → AllByRecursion (λ y. nat_cmp d.0 y ≡ Less) (keys_of es) → cond b (Some d.1) (lookup (is_at (nat_cmp n)) es) ≡ Some v → v.items ≡ filter (is_in_document n) (d.1.items ++ all_grants es)
+      step : (b : Bool) → is_at (nat_cmp n) d.0 ≡ b → (lookup (is_at (nat_cmp n)) es ≡ Some v → (grants_in n v) ≡ filter (is_in_document n) (all_grants es)) → AllByRecursion (λ y. nat_cmp d.0 y ≡ Less) (keys_of es) → cond b (Some d.1) (lookup (is_at (nat_cmp n)) es) ≡ Some v → (grants_in n v) ≡ filter (is_in_document n) ((grants_of d) ++ all_grants es)
       step true h more ahead e =
           let same : d.1 ≡ v = cc in
           let rest = here-none es (and-rest (is_kept d) _ k) (none-again n d.0 es (at-here n d.0 h) ahead) in
-          sym (filter-append (is_in_document n) d.1.items (all_grants es)
-          ∙ ((λ i. all-pass (is_in_document n) d.1.items (own-entry n d (and-first _ _ k) h) i ++ sym rest i)
-          ∙ (right-nil d.1.items ∙ ap (λ (x : Vec Grant Global). x.items) same)))
+          sym (filter-append (is_in_document n) (grants_of d) (all_grants es)
+          ∙ ((λ i. all-pass (is_in_document n) (grants_of d) (own-entry n d (and-first _ _ k) h) i ++ sym rest i)
+          ∙ (right-nil (grants_of d) ∙ (λ i. grants_in (at-here n d.0 h i) (same i)))))
       step false h more ahead e =
           let rest = more e in
-          let first : filter (is_in_document n) d.1.items ≡ [] = none-pass (is_in_document n) d.1.items (other-entry n d (and-first _ _ k) h) in
-          sym (filter-append (is_in_document n) d.1.items (all_grants es) ∙ (λ i. first i ++ sym rest i))
+          let first : filter (is_in_document n) (grants_of d) ≡ [] = none-pass (is_in_document n) (grants_of d) (other-entry n d (and-first _ _ k) h) in
+          sym (filter-append (is_in_document n) (grants_of d) (all_grants es) ∙ (λ i. first i ++ sym rest i))
 
   -- the entry that is found is kept
-  pub found-kept : (es : List Entry) (v : Vec Grant Global) → list_all is_kept es ≡ true → lookup (is_at (nat_cmp n)) es ≡ Some v → is_kept (n, v) ≡ true
+  pub found-kept : (es : List Entry) (v : ByName) → list_all is_kept es ≡ true → lookup (is_at (nat_cmp n)) es ≡ Some v → is_kept (n, v) ≡ true
   found-kept [] v k e = cc
   found-kept (d ∷ es) v k e = step (is_at (nat_cmp n) d.0) refl (found-kept es v (and-rest (is_kept d) _ k)) e
     where
@@ -167,15 +173,15 @@ module _ (n : ℕ) where
     unchanged-all [] k e = none
     unchanged-all (d ∷ es) k e = step (is_at (nat_cmp n) d.0) refl (unchanged-all es (and-rest (is_kept d) _ k)) e
       where
-        step : (b : Bool) → is_at (nat_cmp n) d.0 ≡ b → (lookup (is_at (nat_cmp n)) es ≡ None → F (all_grants es) ≡ all_grants es) → cond b (Some d.1) (lookup (is_at (nat_cmp n)) es) ≡ None → F (d.1.items ++ all_grants es) ≡ d.1.items ++ all_grants es
+        step : (b : Bool) → is_at (nat_cmp n) d.0 ≡ b → (lookup (is_at (nat_cmp n)) es ≡ None → F (all_grants es) ≡ all_grants es) → cond b (Some d.1) (lookup (is_at (nat_cmp n)) es) ≡ None → F ((grants_of d) ++ all_grants es) ≡ (grants_of d) ++ all_grants es
         step true h more e = cc
         step false h more e =
             let kept = and-first (is_kept d) _ k in
-            let same : F d.1.items ≡ d.1.items = stays d.1.items (other-entry n d kept h) (kept-held d kept) in
+            let same : F (grants_of d) ≡ (grants_of d) = stays (grants_of d) (other-entry n d kept h) (kept-held d kept) in
             let rest = more e in
-            joins d.1.items (all_grants es) ∙ (λ i. same i ++ rest i)
+            joins (grants_of d) (all_grants es) ∙ (λ i. same i ++ rest i)
 
-    pub changed-all : (es : List Entry) (v w : Vec Grant Global) → IsStrictlySortedBy nat_cmp (keys_of es) → list_all is_kept es ≡ true → lookup (is_at (nat_cmp n)) es ≡ Some v → w.items ≡ F v.items →
+    pub changed-all : (es : List Entry) (v w : ByName) → IsStrictlySortedBy nat_cmp (keys_of es) → list_all is_kept es ≡ true → lookup (is_at (nat_cmp n)) es ≡ Some v → (grants_in n w) ≡ F (grants_in n v) →
         all_grants (set_value (is_at (nat_cmp n)) es w) ≡ F (all_grants es)
     unfolding IsStrictlySortedBy
     changed-all [] v w s k e c = cc
@@ -183,19 +189,20 @@ module _ (n : ℕ) where
       where
         step : (b : Bool) → is_at (nat_cmp n) d.0 ≡ b → (lookup (is_at (nat_cmp n)) es ≡ Some v → all_grants (set_value (is_at (nat_cmp n)) es w) ≡ F (all_grants es)) →
             AllByRecursion (λ y. nat_cmp d.0 y ≡ Less) (keys_of es) → cond b (Some d.1) (lookup (is_at (nat_cmp n)) es) ≡ Some v →
-            all_grants (cond b ((d.0, w) ∷ es) (d ∷ set_value (is_at (nat_cmp n)) es w)) ≡ F (d.1.items ++ all_grants es)
+            all_grants (cond b ((d.0, w) ∷ es) (d ∷ set_value (is_at (nat_cmp n)) es w)) ≡ F ((grants_of d) ++ all_grants es)
         step true h more ahead e =
             let same : d.1 ≡ v = cc in
             let rest = unchanged-all es (and-rest (is_kept d) _ k) (none-again n d.0 es (at-here n d.0 h) ahead) in
-            let own : w.items ≡ F d.1.items = c ∙ sym (ap (λ (x : Vec Grant Global). F x.items) same) in
-            (λ i. own i ++ sym rest i) ∙ sym (joins d.1.items (all_grants es))
+            let here = at-here n d.0 h in
+            let own : grants_in d.0 w ≡ F (grants_of d) = (λ i. grants_in (here i) w) ∙ (c ∙ sym (λ i. F (grants_in (here i) (same i)))) in
+            (λ i. own i ++ sym rest i) ∙ sym (joins (grants_of d) (all_grants es))
         step false h more ahead e =
             let kept = and-first (is_kept d) _ k in
-            let same : F d.1.items ≡ d.1.items = stays d.1.items (other-entry n d kept h) (kept-held d kept) in
+            let same : F (grants_of d) ≡ (grants_of d) = stays (grants_of d) (other-entry n d kept h) (kept-held d kept) in
             let rest = more e in
-            (λ i. sym same i ++ rest i) ∙ sym (joins d.1.items (all_grants es))
+            (λ i. sym same i ++ rest i) ∙ sym (joins (grants_of d) (all_grants es))
 
-    pub gone-all : (es : List Entry) (v : Vec Grant Global) → IsStrictlySortedBy nat_cmp (keys_of es) → list_all is_kept es ≡ true → lookup (is_at (nat_cmp n)) es ≡ Some v → F v.items ≡ [] →
+    pub gone-all : (es : List Entry) (v : ByName) → IsStrictlySortedBy nat_cmp (keys_of es) → list_all is_kept es ≡ true → lookup (is_at (nat_cmp n)) es ≡ Some v → F (grants_in n v) ≡ [] →
         all_grants (remove_entry (is_at (nat_cmp n)) es) ≡ F (all_grants es)
     unfolding IsStrictlySortedBy
     gone-all [] v s k e c = cc
@@ -203,21 +210,21 @@ module _ (n : ℕ) where
       where
         step : (b : Bool) → is_at (nat_cmp n) d.0 ≡ b → (lookup (is_at (nat_cmp n)) es ≡ Some v → all_grants (remove_entry (is_at (nat_cmp n)) es) ≡ F (all_grants es)) →
             AllByRecursion (λ y. nat_cmp d.0 y ≡ Less) (keys_of es) → cond b (Some d.1) (lookup (is_at (nat_cmp n)) es) ≡ Some v →
-            all_grants (cond b es (d ∷ remove_entry (is_at (nat_cmp n)) es)) ≡ F (d.1.items ++ all_grants es)
+            all_grants (cond b es (d ∷ remove_entry (is_at (nat_cmp n)) es)) ≡ F ((grants_of d) ++ all_grants es)
         step true h more ahead e =
             let same : d.1 ≡ v = cc in
             let rest = unchanged-all es (and-rest (is_kept d) _ k) (none-again n d.0 es (at-here n d.0 h) ahead) in
-            let own : F d.1.items ≡ [] = ap (λ (x : Vec Grant Global). F x.items) same ∙ c in
-            sym (joins d.1.items (all_grants es) ∙ (λ i. own i ++ rest i))
+            let own : F (grants_of d) ≡ [] = (λ i. F (grants_in (at-here n d.0 h i) (same i))) ∙ c in
+            sym (joins (grants_of d) (all_grants es) ∙ (λ i. own i ++ rest i))
         step false h more ahead e =
             let kept = and-first (is_kept d) _ k in
-            let same : F d.1.items ≡ d.1.items = stays d.1.items (other-entry n d kept h) (kept-held d kept) in
+            let same : F (grants_of d) ≡ (grants_of d) = stays (grants_of d) (other-entry n d kept h) (kept-held d kept) in
             let rest = more e in
-            (λ i. sym same i ++ rest i) ∙ sym (joins d.1.items (all_grants es))
+            (λ i. sym same i ++ rest i) ∙ sym (joins (grants_of d) (all_grants es))
 
   -- ---- the entries after a change
 
-  pub set-kept : (es : List Entry) (w : Vec Grant Global) → list_all is_kept es ≡ true → is_kept (n, w) ≡ true → list_all is_kept (set_value (is_at (nat_cmp n)) es w) ≡ true
+  pub set-kept : (es : List Entry) (w : ByName) → list_all is_kept es ≡ true → is_kept (n, w) ≡ true → list_all is_kept (set_value (is_at (nat_cmp n)) es w) ≡ true
   set-kept [] w k q = refl
   set-kept (d ∷ es) w k q = step (is_at (nat_cmp n) d.0) refl (set-kept es w (and-rest (is_kept d) _ k) q)
     where
@@ -233,7 +240,7 @@ module _ (n : ℕ) where
       step true more = and-rest (is_kept d) _ k
       step false more = and-both _ _ (and-first _ _ k) more
 
-  pub gone-after-set : (es : List Entry) (w : Vec Grant Global) → remove_entry (is_at (nat_cmp n)) (set_value (is_at (nat_cmp n)) es w) ≡ remove_entry (is_at (nat_cmp n)) es
+  pub gone-after-set : (es : List Entry) (w : ByName) → remove_entry (is_at (nat_cmp n)) (set_value (is_at (nat_cmp n)) es w) ≡ remove_entry (is_at (nat_cmp n)) es
   gone-after-set [] w = refl
   gone-after-set (d ∷ es) w = step (is_at (nat_cmp n) d.0) refl (gone-after-set es w)
     where
@@ -243,7 +250,7 @@ module _ (n : ℕ) where
           ap (λ (b : Bool). cond b (set_value (is_at (nat_cmp n)) es w) (d ∷ remove_entry (is_at (nat_cmp n)) (set_value (is_at (nat_cmp n)) es w))) h
           ∙ ap (λ (xs : List Entry). d ∷ xs) more
 
-  pub insert-kept : (es : List Entry) (w : Vec Grant Global) → list_all is_kept es ≡ true → is_kept (n, w) ≡ true → list_all is_kept (insert_entry nat_cmp es n w) ≡ true
+  pub insert-kept : (es : List Entry) (w : ByName) → list_all is_kept es ≡ true → is_kept (n, w) ≡ true → list_all is_kept (insert_entry nat_cmp es n w) ≡ true
   insert-kept [] w k q = and-both _ _ q refl
   insert-kept (d ∷ es) w k q = step (nat_cmp n d.0) refl (insert-kept es w (and-rest (is_kept d) _ k) q)
     where
@@ -266,41 +273,42 @@ module _ (n : ℕ) where
   or-turn true false z = refl
   or-turn false y z = refl
 
-  pub passes-set : (p : Triple → Bool) (more : Bool) (es : List Entry) (v w : Vec Grant Global) → lookup (is_at (nat_cmp n)) es ≡ Some v → passes p w.items ≡ (more || passes p v.items) →
+  pub passes-set : (p : Triple → Bool) (more : Bool) (es : List Entry) (v w : ByName) → lookup (is_at (nat_cmp n)) es ≡ Some v → passes p (grants_in n w) ≡ (more || passes p (grants_in n v)) →
       passes p (all_grants (set_value (is_at (nat_cmp n)) es w)) ≡ (more || passes p (all_grants es))
   passes-set p more [] v w e c = cc
-  passes-set p more (d ∷ es) v w e c = step (is_at (nat_cmp n) d.0) (λ f. passes-set p more es v w f c) e
+  passes-set p more (d ∷ es) v w e c = step (is_at (nat_cmp n) d.0) refl (λ f. passes-set p more es v w f c) e
     where
-      step : (b : Bool) → (lookup (is_at (nat_cmp n)) es ≡ Some v → passes p (all_grants (set_value (is_at (nat_cmp n)) es w)) ≡ (more || passes p (all_grants es))) → cond b (Some d.1) (lookup (is_at (nat_cmp n)) es) ≡ Some v →
-          passes p (all_grants (cond b ((d.0, w) ∷ es) (d ∷ set_value (is_at (nat_cmp n)) es w))) ≡ (more || passes p (d.1.items ++ all_grants es))
-      step true rest e =
+      step : (b : Bool) → is_at (nat_cmp n) d.0 ≡ b → (lookup (is_at (nat_cmp n)) es ≡ Some v → passes p (all_grants (set_value (is_at (nat_cmp n)) es w)) ≡ (more || passes p (all_grants es))) → cond b (Some d.1) (lookup (is_at (nat_cmp n)) es) ≡ Some v →
+          passes p (all_grants (cond b ((d.0, w) ∷ es) (d ∷ set_value (is_at (nat_cmp n)) es w))) ≡ (more || passes p ((grants_of d) ++ all_grants es))
+      step true h rest e =
           let same : d.1 ≡ v = cc in
-          passes-join p w.items (all_grants es)
-          ∙ (ap (λ (b : Bool). b || passes p (all_grants es)) (c ∙ ap (λ (x : Vec Grant Global). more || passes p x.items) (sym same))
-          ∙ (or-apart more (passes p d.1.items) (passes p (all_grants es))
-          ∙ ap (λ (b : Bool). more || b) (sym (passes-join p d.1.items (all_grants es)))))
-      step false rest e =
-          passes-join p d.1.items (all_grants (set_value (is_at (nat_cmp n)) es w))
-          ∙ (ap (λ (b : Bool). passes p d.1.items || b) (rest e)
-          ∙ (or-turn (passes p d.1.items) more (passes p (all_grants es))
-          ∙ ap (λ (b : Bool). more || b) (sym (passes-join p d.1.items (all_grants es)))))
+          let here = at-here n d.0 h in
+          passes-join p (grants_in d.0 w) (all_grants es)
+          ∙ (ap (λ (b : Bool). b || passes p (all_grants es)) ((λ i. passes p (grants_in (here i) w)) ∙ (c ∙ sym (λ i. more || passes p (grants_in (here i) (same i)))))
+          ∙ (or-apart more (passes p (grants_of d)) (passes p (all_grants es))
+          ∙ ap (λ (b : Bool). more || b) (sym (passes-join p (grants_of d) (all_grants es)))))
+      step false h rest e =
+          passes-join p (grants_of d) (all_grants (set_value (is_at (nat_cmp n)) es w))
+          ∙ (ap (λ (b : Bool). passes p (grants_of d) || b) (rest e)
+          ∙ (or-turn (passes p (grants_of d)) more (passes p (all_grants es))
+          ∙ ap (λ (b : Bool). more || b) (sym (passes-join p (grants_of d) (all_grants es)))))
 
-  pub passes-insert : (p : Triple → Bool) (es : List Entry) (w : Vec Grant Global) → lookup (is_at (nat_cmp n)) es ≡ None →
-      passes p (all_grants (insert_entry nat_cmp es n w)) ≡ (passes p w.items || passes p (all_grants es))
-  passes-insert p [] w e = passes-join p w.items []
+  pub passes-insert : (p : Triple → Bool) (es : List Entry) (w : ByName) → lookup (is_at (nat_cmp n)) es ≡ None →
+      passes p (all_grants (insert_entry nat_cmp es n w)) ≡ (passes p (grants_in n w) || passes p (all_grants es))
+  passes-insert p [] w e = passes-join p (grants_in n w) []
   passes-insert p (d ∷ es) w e = step (nat_cmp n d.0) refl (passes-insert p es w)
     where
       rest-none : (o : Ordering) → nat_cmp n d.0 ≡ o → is_eq o ≡ false → lookup (is_at (nat_cmp n)) es ≡ None
       rest-none o h f = sym (ap (λ (b : Bool). cond b (Some d.1) (lookup (is_at (nat_cmp n)) es)) (ap is_eq h ∙ f)) ∙ e
 
-      step : (o : Ordering) → nat_cmp n d.0 ≡ o → (lookup (is_at (nat_cmp n)) es ≡ None → passes p (all_grants (insert_entry nat_cmp es n w)) ≡ (passes p w.items || passes p (all_grants es))) → passes p (all_grants (match_ordering o ((n, w) ∷ d ∷ es) ((d.0, w) ∷ es) (d ∷ insert_entry nat_cmp es n w))) ≡ (passes p w.items || passes p (d.1.items ++ all_grants es))
-      step Less h rest = passes-join p w.items (d.1.items ++ all_grants es)
+      step : (o : Ordering) → nat_cmp n d.0 ≡ o → (lookup (is_at (nat_cmp n)) es ≡ None → passes p (all_grants (insert_entry nat_cmp es n w)) ≡ (passes p (grants_in n w) || passes p (all_grants es))) → passes p (all_grants (match_ordering o ((n, w) ∷ d ∷ es) ((d.0, w) ∷ es) (d ∷ insert_entry nat_cmp es n w))) ≡ (passes p (grants_in n w) || passes p ((grants_of d) ++ all_grants es))
+      step Less h rest = passes-join p (grants_in n w) ((grants_of d) ++ all_grants es)
       step Equal h rest = let f : Some d.1 ≡ None = sym (ap (λ (b : Bool). cond b (Some d.1) (lookup (is_at (nat_cmp n)) es)) (ap is_eq h)) ∙ e in cc
       step Greater h rest =
-          passes-join p d.1.items (all_grants (insert_entry nat_cmp es n w))
-          ∙ (ap (λ (b : Bool). passes p d.1.items || b) (rest (rest-none Greater h refl))
-          ∙ (or-turn (passes p d.1.items) (passes p w.items) (passes p (all_grants es))
-          ∙ ap (λ (b : Bool). passes p w.items || b) (sym (passes-join p d.1.items (all_grants es)))))
+          passes-join p (grants_of d) (all_grants (insert_entry nat_cmp es n w))
+          ∙ (ap (λ (b : Bool). passes p (grants_of d) || b) (rest (rest-none Greater h refl))
+          ∙ (or-turn (passes p (grants_of d)) (passes p (grants_in n w)) (passes p (all_grants es))
+          ∙ ap (λ (b : Bool). passes p (grants_in n w) || b) (sym (passes-join p (grants_of d) (all_grants es)))))
 
 -- ---- the grants of all documents are in order, and each has a right
 
@@ -321,7 +329,7 @@ past-in k m (g ∷ gs) l h =
 past-all : (k : ℕ) (es : List Entry) → AllByRecursion (λ y. nat_cmp k y ≡ Less) (keys_of es) → list_all is_kept es ≡ true → list_all (is_past k) (all_grants es) ≡ true
 past-all k [] a h = refl
 past-all k (d ∷ es) a h =
-    joined (is_past k) d.1.items (all_grants es) (past-in k d.0 d.1.items (less-is k d.0 a.0) (kept-inside d (and-first _ _ h))) (past-all k es a.1 (and-rest (is_kept d) _ h))
+    joined (is_past k) (grants_of d) (all_grants es) (past-in k d.0 (grants_of d) (less-is k d.0 a.0) (kept-inside d)) (past-all k es a.1 (and-rest (is_kept d) _ h))
 
 less-past : (k : ℕ) (g : Grant) (hs : List Grant) → is_in_document k g ≡ true → list_all (is_past k) hs ≡ true → list_all (grant_less g) hs ≡ true
 less-past k g [] e l = refl
@@ -340,12 +348,12 @@ all-in-order [] s k = refl
 all-in-order (d ∷ es) s k =
     let kept = and-first (is_kept d) _ k in
     let rest = and-rest (is_kept d) _ k in
-    rising-append grant_less d.1.items (all_grants es) (kept-order d kept) (all-in-order es s.1 rest)
-    (each-less d.0 d.1.items (all_grants es) (kept-inside d kept) (past-all d.0 es s.0 rest))
+    rising-append grant_less (grants_of d) (all_grants es) (kept-order d kept) (all-in-order es s.1 rest)
+    (each-less d.0 (grants_of d) (all_grants es) (kept-inside d) (past-all d.0 es s.0 rest))
 
 pub all-have : (es : List Entry) → list_all is_kept es ≡ true → list_all has_a_right (all_grants es) ≡ true
 all-have [] k = refl
-all-have (d ∷ es) k = joined has_a_right d.1.items (all_grants es) (kept-held d (and-first _ _ k)) (all-have es (and-rest (is_kept d) _ k))
+all-have (d ∷ es) k = joined has_a_right (grants_of d) (all_grants es) (kept-held d (and-first _ _ k)) (all-have es (and-rest (is_kept d) _ k))
 
 pub kept-all : (es : List Entry) → IsStrictlySortedBy nat_cmp (keys_of es) → list_all is_kept es ≡ true → AreKept (all_grants es)
 kept-all es s k = record { order = all-in-order es s k; held = all-have es k }
@@ -373,7 +381,7 @@ module _ (app : List ℕ) (n : ℕ) (set : RightSet) (es : List Entry) (s : IsSt
   pub given-none : lookup (is_at (nat_cmp n)) es ≡ None → all_grants es ≡ map (given app n set) (all_grants es)
   given-none e = sym (unchanged-all n given-in refl (map-joins (given app n set)) given-stay es k e)
 
-  pub given-all : (v w : Vec Grant Global) → lookup (is_at (nat_cmp n)) es ≡ Some v → w.items ≡ map (given app n set) v.items →
+  pub given-all : (v w : ByName) → lookup (is_at (nat_cmp n)) es ≡ Some v → (grants_in n w) ≡ map (given app n set) (grants_in n v) →
       all_grants (set_value (is_at (nat_cmp n)) es w) ≡ map (given app n set) (all_grants es)
   given-all v w e c = changed-all n given-in refl (map-joins (given app n set)) given-stay es v w s k e c
 
@@ -389,15 +397,15 @@ module _ (app : List ℕ) (n : ℕ) (set : RightSet) (es : List Entry) (s : IsSt
   pub left-none : lookup (is_at (nat_cmp n)) es ≡ None → all_grants es ≡ filter has_a_right (map (taken app n set) (all_grants es))
   left-none e = sym (unchanged-all n left-in refl left-joins left-stay es k e)
 
-  pub left-all : (v w : Vec Grant Global) → lookup (is_at (nat_cmp n)) es ≡ Some v → w.items ≡ filter has_a_right (map (taken app n set) v.items) →
+  pub left-all : (v w : ByName) → lookup (is_at (nat_cmp n)) es ≡ Some v → (grants_in n w) ≡ filter has_a_right (map (taken app n set) (grants_in n v)) →
       all_grants (set_value (is_at (nat_cmp n)) es w) ≡ filter has_a_right (map (taken app n set) (all_grants es))
   left-all v w e c = changed-all n left-in refl left-joins left-stay es v w s k e c
 
-  pub left-gone : (v : Vec Grant Global) → lookup (is_at (nat_cmp n)) es ≡ Some v → filter has_a_right (map (taken app n set) v.items) ≡ [] →
+  pub left-gone : (v : ByName) → lookup (is_at (nat_cmp n)) es ≡ Some v → filter has_a_right (map (taken app n set) (grants_in n v)) ≡ [] →
       all_grants (remove_entry (is_at (nat_cmp n)) es) ≡ filter has_a_right (map (taken app n set) (all_grants es))
   left-gone v e c = gone-all n left-in refl left-joins left-stay es v s k e c
 
-pub same-all : (n : ℕ) (es : List Entry) (v w : Vec Grant Global) → IsStrictlySortedBy nat_cmp (keys_of es) → list_all is_kept es ≡ true → lookup (is_at (nat_cmp n)) es ≡ Some v → w.items ≡ v.items →
+pub same-all : (n : ℕ) (es : List Entry) (v w : ByName) → IsStrictlySortedBy nat_cmp (keys_of es) → list_all is_kept es ≡ true → lookup (is_at (nat_cmp n)) es ≡ Some v → (grants_in n w) ≡ (grants_in n v) →
     all_grants (set_value (is_at (nat_cmp n)) es w) ≡ all_grants es
 same-all n es v w s k e c = changed-all n (λ (xs : List Grant). xs) refl (λ xs ys. refl) (λ xs h l. refl) es v w s k e c
 
@@ -421,11 +429,11 @@ forgotten-all n es s k = step (lookup (is_at (nat_cmp n)) es) refl
     others : (xs : List Grant) → list_all (is_elsewhere n) xs ≡ true → list_all has_a_right xs ≡ true → filter (is_elsewhere n) xs ≡ xs
     others xs h l = all-pass (is_elsewhere n) xs h
 
-    step : (o : Option (Vec Grant Global)) → lookup (is_at (nat_cmp n)) es ≡ o → all_grants (remove_entry (is_at (nat_cmp n)) es) ≡ filter (is_elsewhere n) (all_grants es)
+    step : (o : Option (ByName)) → lookup (is_at (nat_cmp n)) es ≡ o → all_grants (remove_entry (is_at (nat_cmp n)) es) ≡ filter (is_elsewhere n) (all_grants es)
     step None e =
         ap all_grants (gone-none n es e) ∙ sym (unchanged-all n (filter (is_elsewhere n)) refl (filter-append (is_elsewhere n)) others es k e)
     step (Some v) e =
-        gone-all n (filter (is_elsewhere n)) refl (filter-append (is_elsewhere n)) others es v s k e (not-here n v.items (kept-inside (n, v) (found-kept n es v k e)))
+        gone-all n (filter (is_elsewhere n)) refl (filter-append (is_elsewhere n)) others es v s k e (not-here n (grants_in n v) (kept-inside (n, v)))
 
 pub all-without : (n : ℕ) (es : List Entry) → IsStrictlySortedBy nat_cmp (keys_of es) →
     list_all is_kept es ≡ true →
@@ -435,38 +443,38 @@ all-without n es s k = ap triples_of_grants (forgotten-all n es s k)
 
 -- ---- an entry after a change
 
-inside-map : (n : ℕ) (f : Grant → Grant) → ((g : Grant) → key_of (f g) ≡ key_of g) → (gs : List Grant) → list_all (is_in_document n) gs ≡ true → list_all (is_in_document n) (map f gs) ≡ true
-inside-map n f key [] h = refl
-inside-map n f key (g ∷ gs) h = and-both _ _ (ap (λ (k : Key). k.number == n) (key g) ∙ and-first _ _ h) (inside-map n f key gs (and-rest (is_in_document n g) _ h))
+named-map : (f : Grant → Grant) → ((g : Grant) → key_of (f g) ≡ key_of g) → (gs : List Grant) → list_all is_named gs ≡ true → list_all is_named (map f gs) ≡ true
+named-map f key [] h = refl
+named-map f key (g ∷ gs) h = and-both _ _ (ap (λ (k : Key). is_app_name k.app) (key g) ∙ and-first _ _ h) (named-map f key gs (and-rest (is_named g) _ h))
 
 none-map : (f : Grant → Grant) (gs : List Grant) → is_none (map f gs) ≡ is_none gs
 none-map f [] = refl
 none-map f (g ∷ gs) = refl
 
-kept-filled : (d : Entry) → is_kept d ≡ true → is_none d.1.items ≡ false
-kept-filled d k = flip (is_none d.1.items) (and-rest (are_grants_in_order d.1.items && list_all has_a_right d.1.items && list_all (is_in_document d.0) d.1.items) _ k)
+kept-filled : (d : Entry) → is_kept d ≡ true → is_none (grants_of d) ≡ false
+kept-filled d k = flip (is_none (grants_of d)) (and-rest (are_grants_in_order (grants_of d) && list_all has_a_right (grants_of d) && list_all is_named (grants_of d)) _ k)
   where
     flip : (b : Bool) → not b ≡ true → b ≡ false
     flip true h = cc
     flip false h = refl
 
-pub kept-of : (d : Entry) → is_kept d ≡ true → AreKept d.1.items
+pub kept-of : (d : Entry) → is_kept d ≡ true → AreKept (grants_of d)
 kept-of d k = record { order = kept-order d k; held = kept-held d k }
 
 -- an entry of these grants
-with-items : (n : ℕ) (w : Vec Grant Global) (gs : List Grant) → w.items ≡ gs → AreKept gs → list_all (is_in_document n) gs ≡ true → is_none gs ≡ false → is_kept (n, w) ≡ true
+with-items : (n : ℕ) (w : ByName) (gs : List Grant) → grants_in n w ≡ gs → AreKept gs → list_all is_named gs ≡ true → is_none gs ≡ false → is_kept (n, w) ≡ true
 with-items n w gs e k i f =
-    kept-entry (n, w) (ap are_grants_in_order e ∙ k.order) (ap (list_all has_a_right) e ∙ k.held) (ap (list_all (is_in_document n)) e ∙ i) (ap is_none e ∙ f)
+    kept-entry (n, w) (ap are_grants_in_order e ∙ k.order) (ap (list_all has_a_right) e ∙ k.held) (ap (list_all is_named) e ∙ i) (ap is_none e ∙ f)
 
-pub entry-given : (n : ℕ) (app : List ℕ) (set : RightSet) (v w : Vec Grant Global) → is_kept (n, v) ≡ true → w.items ≡ map (given app n set) v.items → is_kept (n, w) ≡ true
+pub entry-given : (n : ℕ) (app : List ℕ) (set : RightSet) (v w : ByName) → is_kept (n, v) ≡ true → (grants_in n w) ≡ map (given app n set) (grants_in n v) → is_kept (n, w) ≡ true
 entry-given n app set v w k e =
-    with-items n w (map (given app n set) v.items) e (kept-given app n set v.items (kept-of (n, v) k)) (inside-map n (given app n set) (given-key app n set) v.items (kept-inside (n, v) k))
-    (none-map (given app n set) v.items ∙ kept-filled (n, v) k)
+    with-items n w (map (given app n set) (grants_in n v)) e (kept-given app n set (grants_in n v) (kept-of (n, v) k)) (named-map (given app n set) (given-key app n set) (grants_in n v) (kept-named (n, v) k))
+    (none-map (given app n set) (grants_in n v) ∙ kept-filled (n, v) k)
 
-pub entry-left : (n : ℕ) (app : List ℕ) (set : RightSet) (v w : Vec Grant Global) → is_kept (n, v) ≡ true → w.items ≡ filter has_a_right (map (taken app n set) v.items) → is_none w.items ≡ false → is_kept (n, w) ≡ true
+pub entry-left : (n : ℕ) (app : List ℕ) (set : RightSet) (v w : ByName) → is_kept (n, v) ≡ true → (grants_in n w) ≡ filter has_a_right (map (taken app n set) (grants_in n v)) → is_none (grants_in n w) ≡ false → is_kept (n, w) ≡ true
 entry-left n app set v w k e f =
-    with-items n w (filter has_a_right (map (taken app n set) v.items)) e (kept-taken app n set v.items (kept-of (n, v) k))
-    (all-some (is_in_document n) has_a_right (map (taken app n set) v.items) (inside-map n (taken app n set) (taken-key app n set) v.items (kept-inside (n, v) k)))
+    with-items n w (filter has_a_right (map (taken app n set) (grants_in n v))) e (kept-taken app n set (grants_in n v) (kept-of (n, v) k))
+    (all-some is_named has_a_right (map (taken app n set) (grants_in n v)) (named-map (taken app n set) (taken-key app n set) (grants_in n v) (kept-named (n, v) k)))
     (sym (ap is_none e) ∙ f)
 
 put-filled : (g : Grant) (gs : List Grant) → is_none (put grant_less g gs) ≡ false
@@ -478,19 +486,16 @@ put-filled g (h ∷ hs) = step (grant_less g h) (grant_less h g)
     step false true = refl
     step false false = refl
 
-own-number : (g : Grant) → is_in_document g.id.number g ≡ true
-own-number g = nat-itself g.id.number
+pub entry-put : {X Y : Type 0} (r : Result X Y) (n : ℕ) (g : Grant) (v w : ByName) → has_a_right g ≡ true → is_named g ≡ true → is_kept (n, v) ≡ true → OnOk r (grants_in n w ≡ put grant_less g (grants_in n v)) → OnErr r (grants_in n w ≡ grants_in n v) →
+    is_kept (n, w) ≡ true
+entry-put (Ok x) n g v w h l k e f =
+    with-items n w (put grant_less g (grants_in n v)) e (kept-new g (grants_in n v) h (kept-of (n, v) k)) (all-put is_named g (grants_in n v) l (kept-named (n, v) k)) (put-filled g (grants_in n v))
+entry-put (Err y) n g v w h l k e f =
+    with-items n w (grants_in n v) f (kept-of (n, v) k) (kept-named (n, v) k) (kept-filled (n, v) k)
 
-pub entry-put : {X Y : Type 0} (r : Result X Y) (g : Grant) (v w : Vec Grant Global) → has_a_right g ≡ true → is_kept (g.id.number, v) ≡ true → OnOk r (w.items ≡ put grant_less g v.items) → OnErr r (w.items ≡ v.items) →
-    is_kept (g.id.number, w) ≡ true
-entry-put (Ok x) g v w h k e f =
-    with-items g.id.number w (put grant_less g v.items) e (kept-new g v.items h (kept-of (g.id.number, v) k)) (all-put (is_in_document g.id.number) g v.items (own-number g) (kept-inside (g.id.number, v) k)) (put-filled g v.items)
-entry-put (Err y) g v w h k e f =
-    with-items g.id.number w v.items f (kept-of (g.id.number, v) k) (kept-inside (g.id.number, v) k) (kept-filled (g.id.number, v) k)
-
-pub entry-single : (g : Grant) (w : Vec Grant Global) → has_a_right g ≡ true → w.items ≡ g ∷ [] → is_kept (g.id.number, w) ≡ true
-entry-single g w h e =
-    with-items g.id.number w (g ∷ []) e (record { order = refl; held = and-both _ _ h refl }) (and-both _ _ (own-number g) refl) refl
+pub entry-single : (n : ℕ) (g : Grant) (w : ByName) → has_a_right g ≡ true → is_named g ≡ true → grants_in n w ≡ g ∷ [] → is_kept (n, w) ≡ true
+entry-single n g w h l e =
+    with-items n w (g ∷ []) e (record { order = refl; held = and-both _ _ h refl }) (and-both _ _ l refl) refl
 
 -- ---- a grant in one document
 

@@ -1,12 +1,13 @@
 -- What grants tell of one document is what the triples tell that they stand for.
 use Rattle.std.proofs.Common.{◌≡◌, ℕ, ◌+◌, ◌<◌, ◌==◌, length, take, get_or, List, [], ◌∷◌, ◌++◌, map, Bool, true, false, not, ◌||◌, ◌&&◌, cond, Some, Result, Ok, Err, IfOk, refl, sym, ap, ◌∙◌, arith}
+use Rattle.std.specs.Global.{Vec}
 use Rattle.std.specs.List.{filter, find, flat_map, list_all}
 use Rattle.std.proofs.lemmas.Bool.Decides.{nat_tests}
 use Rattle.std.proofs.lemmas.Grind.{flat_map-append}
 use Rattle.std.proofs.lemmas.List.{take_more}
 use Rattle.portal_base.specs.Names.{is_same}
 use Rattle.portal_base.specs.declared.names.doc_id.DocId.{DocId}
-use Rattle.rights_rule.specs.Rights.{RightSet, names_of, no_rights}
+use Rattle.rights_rule.specs.Rights.{RightSet, minus, names_of, no_rights}
 use Rattle.portal_model.specs.declared.records.GrantRecord.{GrantRecord}
 use Rattle.portal_model.specs.declared.records.Row.{Row}
 use Rattle.portal_model.specs.declared.rights.Right.{Right}
@@ -19,10 +20,10 @@ use Rattle.portal_model.specs.Rights.{is_in, is_listed, take_rights, triples_of}
 use Rattle.portal_model.specs.State.{app_has, held_of}
 use Rattle.portal_model.specs.Valid.{is_none}
 use Rattle.portal_model.proofs.FourTriples.{all-of}
-use Rattle.portal_model.proofs.TripleOrder.{Key, bytes-irreflexive, is_same-eq, is_same-refl}
+use Rattle.portal_model.proofs.TripleOrder.{Key, bytes-irreflexive, is_same-eq, is_same-refl, nat-itself}
 use Rattle.document_records.specs.declared.grants.Grant.{Grant}
-use Rattle.document_records.specs.Grants.{AreKept, are_grants_in_order, grant_less, has_a_right, is_in_document, is_of, taken, triples_of_grant, triples_of_grants}
-use Rattle.document_records.specs.Holdings.{record_held, record_left, record_of_grant, row_held, row_of_grant}
+use Rattle.document_records.specs.Grants.{AreKept, are_grants_in_order, grant_in, grant_less, has_a_right, is_in_document, is_named, is_of, taken, triples_of_grant, triples_of_grants}
+use Rattle.document_records.specs.Holdings.{is_of_name, record_held, record_left, record_left_of, record_of_grant, record_of_name, row_held, row_of_entry, row_of_grant}
 use Rattle.document_records.proofs.GrantLemmas.{has-more, held-ones-are, held-some, kept-taken, taken-is, taken-key}
 
 -- ---- a list made of the items so far
@@ -269,6 +270,45 @@ rows-within number gs = told-within number (row_held number) (λ g k. ap (λ (b 
 
 pub left-within : (app : List ℕ) (number : ℕ) (set : RightSet) (gs : List Grant) → flat_map (record_left app number set) (filter (is_in_document number) gs) ≡ flat_map (record_left app number set) gs
 left-within app number set gs = told-within number (record_left app number set) (λ g k. ap (λ (b : Bool). cond b (record_held (taken app number set g)) []) k) gs
+
+-- ---- of the names in a document
+
+module _ {X : Type 0} (p : X → Bool) (x : X) (xs : List X) where
+  pub first-so : list_all p (x ∷ xs) ≡ true → p x ≡ true
+  first-so h = grind arith
+
+  pub others-so : list_all p (x ∷ xs) ≡ true → list_all p xs ≡ true
+  others-so h = grind arith
+
+pub all-of-names : (number : ℕ) (es : List (Vec ℕ × RightSet)) →
+    list_all is_named (map (grant_in number) es) ≡ true → list_all is_of_name es ≡ true
+all-of-names number [] h = refl
+all-of-names number (e ∷ es) h = grind (arith, all-of-names number es)
+
+pub rows-by-name : (number : ℕ) (es : List (Vec ℕ × RightSet)) →
+    map row_of_entry es ≡ flat_map (row_held number) (map (grant_in number) es)
+rows-by-name number [] = refl
+rows-by-name number (e ∷ es) =
+    ap (λ (rows : List Row). row_of_entry e ∷ rows) (rows-by-name number es)
+    ∙ ap (λ (b : Bool). cond b (row_of_entry e ∷ []) []
+    ++ flat_map (row_held number) (map (grant_in number) es)) (sym (nat-itself number))
+
+left-of-entry : (number : ℕ) (app : List ℕ) (set : RightSet) (e : Vec ℕ × RightSet) (b same : Bool) →
+    b ≡ true →
+    record_of_name e.0.items (cond same (minus e.1 set) e.1)
+    ≡ cond b (record_held (cond (b && same) (grant_in number (e.0, minus e.1 set))
+    (grant_in number e))) []
+left-of-entry number app set e true true h = refl
+left-of-entry number app set e true false h = refl
+left-of-entry number app set e false same h = cc
+
+pub records-by-name : (number : ℕ) (app : List ℕ) (set : RightSet) (es : List (Vec ℕ × RightSet)) →
+    flat_map (record_left_of app set) es
+    ≡ flat_map (record_left app number set) (map (grant_in number) es)
+records-by-name number app set [] = refl
+records-by-name number app set (e ∷ es) = λ i.
+    left-of-entry number app set e (number == number) (is_same e.0.items app) (nat-itself number) i
+    ++ records-by-name number app set es i
 
 -- ---- of what a call answers
 

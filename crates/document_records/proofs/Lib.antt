@@ -5,6 +5,7 @@ mod FoundByName
 mod GrantLemmas
 mod GrantsByApp
 mod GrantsByNumber
+mod HeldByName
 mod NumbersByApp
 mod UnusedNumbers
 pub mod GrantsTogether

@@ -6,12 +6,9 @@ use Rattle.std.specs.Global.{Vec}
 use Rattle.std.specs.List.{list_any}
 use Rattle.std.specs.Ordering.{nat_cmp}
 use Rattle.std.proofs.lemmas.Bool.Decides.{nat_tests}
-use Rattle.std.proofs.lemmas.List.Folds.{list_any-append}
 use Rattle.portal_base.specs.Names.{is_same}
-use Rattle.document_records.specs.declared.grants.Grant.{Grant}
 use Rattle.document_records.specs.GrantIndex.{FindsSame, IsSetTo, has_number, is_found, is_this, numbers_found}
 use Rattle.document_records.proofs.FoundByName.{by_items, by_text, found-after}
-use Rattle.document_records.proofs.Loops.{one_more}
 use Rattle.portal_model.proofs.TripleOrder.{is_same-eq}
 
 pub is_at-this : (a b : ℕ) → is_at (nat_cmp a) b ≡ (a == b)
@@ -123,29 +120,22 @@ begun app number key old looked new none w same is absent empty h u =
     true number (λ n. h n ∙ ap (λ (ks : List ℕ). cond (number == n) true
     (list_any (is_at (nat_cmp n)) ks)) empty)
 
--- ---- a number is taken from all who have grants
+-- ---- a number is taken from all of some names
 
-abbrev pub AreTaken : ℕ → List Grant → Numbers → Numbers → Type 0
-AreTaken number gs old new = (other : List ℕ) (n : ℕ) → is_found new other n
-    ≡ cond (list_any (λ g. is_this g.app number other n) gs) false (is_found old other n)
+abbrev pub is_among : ℕ → List ℕ → ℕ → List (Vec ℕ) → Bool
+is_among number other n names = list_any (λ name. is_this name.items number other n) names
 
-pub taken-more : (number : ℕ) (gs : List Grant) (i : ℕ) (g : Grant) (old mid new : Numbers) →
-    i < length gs → g ≡ get_or gs i g → AreTaken number (take i gs) old mid →
-    IsSetTo false g.app number mid new → AreTaken number (take (i + 1) gs) old new
-taken-more number gs i g old mid new l e was u other n =
-    u other n ∙ ((λ j. cond (is_this g.app number other n) false (was other n j))
-    ∙ (either (is_this g.app number other n)
-    (list_any (λ h. is_this h.app number other n) (take i gs)) (is_found old other n)
-    ∙ ap (λ (b : Bool). cond b false (is_found old other n)) (sym more)))
+-- it was taken from those of the names that aren't left
+pub taken-next : (number : ℕ) (name : Vec ℕ) (left : List (Vec ℕ)) (mid new : Numbers) →
+    IsSetTo false name.items number mid new → (other : List ℕ) (n : ℕ) →
+    cond (is_among number other n left) false (is_found new other n)
+    ≡ cond (is_among number other n (name ∷ left)) false (is_found mid other n)
+taken-next number name left mid new u other n =
+    ap (λ (b : Bool). cond (is_among number other n left) false b) (u other n)
+    ∙ either (is_this name.items number other n) (is_among number other n left) (is_found mid other n)
   where
-    either : (a b x : Bool) → cond a false (cond b false x) ≡ cond (b || (a || false)) false x
+    either : (a b x : Bool) → cond b false (cond a false x) ≡ cond (a || b) false x
     either true true x = refl
     either true false x = refl
     either false true x = refl
     either false false x = refl
-
-    more : list_any (λ h. is_this h.app number other n) (take (i + 1) gs)
-        ≡ (list_any (λ h. is_this h.app number other n) (take i gs)
-        || (is_this g.app number other n || false))
-    more = ap (list_any (λ h. is_this h.app number other n)) (one_more gs i g l e)
-        ∙ list_any-append (λ h. is_this h.app number other n) (take i gs) (g ∷ [])

@@ -10,8 +10,7 @@ use Rattle.portal_base.specs.Names.{is_same}
 use Rattle.portal_base.specs.declared.names.doc_id.DocId.{DocId}
 use Rattle.portal_model.specs.Ordered.{put_all}
 use Rattle.portal_model.specs.declared.state.Triple.{Triple}
-use Rattle.document_records.specs.Grants.{AreKeptByNumber, triples_of_all}
-use Rattle.document_records.specs.declared.grants.Grant.{Grant}
+use Rattle.document_records.specs.Grants.{AreKeptByNumber, ByName, triples_of_all}
 
 -- the order of identifiers
 abbrev pub id_less : DocId → DocId → Bool
@@ -50,8 +49,8 @@ AreByApp rights by_app = (app : List ℕ) (number : ℕ) →
     is_found by_app app number ≡ holds rights app number
 
 -- rights are kept by document, and documents are found by application
-pub record AreIndexed (documents : BTreeMap ℕ (Vec Grant))
-    (by_app : BTreeMap (Vec ℕ) (BTreeSet ℕ)) : Type 0 where
+pub record AreIndexed (documents : BTreeMap ℕ ByName) (by_app : BTreeMap (Vec ℕ) (BTreeSet ℕ))
+    : Type 0 where
   pub kept : AreKeptByNumber documents
   pub found : AreByApp (triples_of_all documents.entries) by_app
 
@@ -68,3 +67,10 @@ IsSetTo there app number old new = (other : List ℕ) (n : ℕ) →
 -- each application is found with the same numbers
 abbrev pub FindsSame : BTreeMap (Vec ℕ) (BTreeSet ℕ) → BTreeMap (Vec ℕ) (BTreeSet ℕ) → Type 0
 FindsSame old new = (other : List ℕ) (n : ℕ) → is_found new other n ≡ is_found old other n
+
+-- no application of these names is found with the number any longer; all else stays
+abbrev pub AreTaken : ℕ → List (Vec ℕ) → BTreeMap (Vec ℕ) (BTreeSet ℕ) →
+    BTreeMap (Vec ℕ) (BTreeSet ℕ) → Type 0
+AreTaken number names old new = (other : List ℕ) (n : ℕ) → is_found new other n
+    ≡ cond (list_any (λ name. is_this name.items number other n) names) false
+    (is_found old other n)

@@ -1,16 +1,17 @@
 -- Rights kept together: one item for each application and document.
-use Rattle.std.specs.Prelude.{◌≡◌, ℕ, ◌==◌, nat_lt, List, Bool, true, not, ◌&&◌, cond, if◌then◌else◌}
+use Rattle.std.specs.Prelude.{◌≡◌, ℕ, ◌==◌, nat_lt, List, map, Bool, true, not, ◌&&◌, cond, if◌then◌else◌, Option}
 use Rattle.std.specs.Cmp.Lexicographic.{slice_cmp}
 use Rattle.std.specs.List.{flat_map, list_all}
-use Rattle.std.specs.BTreeMap.{BTreeMap, IsOrdered}
+use Rattle.std.specs.BTreeMap.{BTreeMap, IsOrdered, get_by}
 use Rattle.std.specs.Ordering.{nat_cmp}
 use Rattle.std.specs.declared.alloc.Global.{Global}
 use Rattle.std.specs.declared.vec.Vec.{Vec}
 use Rattle.std.specs.declared.cmp.Ordering.{Ordering}
-use Rattle.portal_base.specs.Names.{is_same}
+use Rattle.portal_base.specs.Names.{is_app_name, is_same}
 use Rattle.rights_rule.specs.Rights.{RightSet, union, minus, is_no_right}
 use Rattle.portal_model.specs.declared.state.Triple.{Triple}
 use Rattle.document_records.specs.declared.grants.Grant.{Grant}
+use Rattle.portal_model.specs.Opening.{id_of}
 use Rattle.portal_model.specs.Ordered.{bytes_less, is_rising}
 use Rattle.portal_model.specs.Rights.{triples_of, add_rights}
 use Rattle.portal_model.specs.Valid.{is_none}
@@ -64,18 +65,39 @@ is_in_document number g = g.id.number == number
 abbrev pub is_elsewhere : ℕ → Grant → Bool
 is_elsewhere number g = not (is_in_document number g)
 
--- the grants of all documents, each under its number
-abbrev pub all_grants : List (ℕ × Vec Grant Global) → List Grant
-all_grants documents = flat_map (λ d. d.1.items) documents
+-- the rights of applications in one document, by the bytes of their names
+abbrev pub ByName : Type 0
+ByName = BTreeMap (Vec ℕ Global) RightSet
 
-abbrev pub triples_of_all : List (ℕ × Vec Grant Global) → List Triple
+-- the rights that a name is found with
+abbrev pub held_by : ByName → List ℕ → Option RightSet
+held_by names app = get_by (λ k. slice_cmp nat_cmp app k.items) names
+
+-- what such an entry gives in the document of a number
+abbrev pub grant_in : ℕ → Vec ℕ Global × RightSet → Grant
+grant_in number e = record { id = id_of number; app = e.0.items; rights = e.1 }
+
+abbrev pub grants_in : ℕ → ByName → List Grant
+grants_in number names = map (grant_in number) names.entries
+
+abbrev pub grants_of : ℕ × ByName → List Grant
+grants_of d = grants_in d.0 d.1
+
+-- the grants of all documents, each under its number
+abbrev pub all_grants : List (ℕ × ByName) → List Grant
+all_grants documents = flat_map grants_of documents
+
+abbrev pub triples_of_all : List (ℕ × ByName) → List Triple
 triples_of_all documents = triples_of_grants (all_grants documents)
 
--- those of a document are in it, in order, and each has a right; there are some
-abbrev pub is_kept : ℕ × Vec Grant Global → Bool
-is_kept d = are_grants_in_order d.1.items && list_all has_a_right d.1.items
-    && list_all (is_in_document d.0) d.1.items && not (is_none d.1.items)
+abbrev pub is_named : Grant → Bool
+is_named g = is_app_name g.app
 
-pub record AreKeptByNumber (documents : BTreeMap ℕ (Vec Grant Global)) : Type 0 where
+-- those of a document are in order, and each has a right and is of a name; there are some
+abbrev pub is_kept : ℕ × ByName → Bool
+is_kept d = are_grants_in_order (grants_of d) && list_all has_a_right (grants_of d)
+    && list_all is_named (grants_of d) && not (is_none (grants_of d))
+
+pub record AreKeptByNumber (documents : BTreeMap ℕ ByName) : Type 0 where
   pub order : IsOrdered nat_cmp documents
   pub each : list_all is_kept documents.entries ≡ true

@@ -1,14 +1,14 @@
 //! The numbers of the documents in which each application has a right.
 
 ghost use Rattle.std.specs.Prelude.{◌≡◌, ℕ, ◌==◌, List, map, cond, true, false, IfOk, OnOk, OnErr, IsTrue};
+ghost use Rattle.std.specs.BTreeMap.{keys};
 ghost use Rattle.std.specs.BTreeSet.{contains, IsOrdered};
-ghost use Rattle.std.specs.List.{list_any};
 ghost use Rattle.std.specs.Ordering.{nat_cmp};
 ghost use Rattle.portal_model.specs.Opening.{id_of};
 ghost use Rattle.portal_model.specs.declared.state.Triple.{Triple};
-ghost use Rattle.document_records.specs.GrantIndex.{AreByApp, FindsSame, IsSetTo, documents_of, is_found, is_this};
+ghost use Rattle.document_records.specs.GrantIndex.{AreByApp, AreTaken, FindsSame, IsSetTo, documents_of, is_found};
 
-use crate::grants::Grant;
+use crate::held::RightsByName;
 use portal_base::list::List;
 use portal_base::memory::WantOfMemory;
 use portal_base::names::{AppId, DocId};
@@ -77,22 +77,22 @@ fn put(numbers: &mut BTreeSet<u32>, number: u32) -> Result<(), WantOfMemory>
     Ok(())
 }
 
-/// Takes the number of a document out of those of an application.
-pub(crate) fn remove_number(by_app: &mut NumbersByApp, app: &AppId, id: DocId)
-    ensures { IsSetTo false app.now id.number by_app.old by_app.new }
+/// Takes the number of a document out of those of the application of a name.
+pub(crate) fn remove_number(by_app: &mut NumbersByApp, name: &[u8], id: DocId)
+    ensures { IsSetTo false name.now id.number by_app.old by_app.new }
 {
-    if leaves_none(by_app, app, id) {
-        by_app.remove(app.as_bytes());
+    if leaves_none(by_app, name, id) {
+        by_app.remove(name);
     }
 }
 
-/// Takes the number of a document out of those of an application, and says
-/// whether none is left.
-fn leaves_none(by_app: &mut NumbersByApp, app: &AppId, id: DocId) -> bool
-    ensures set { IsSetTo false app.now id.number by_app.old by_app.new }
-    ensures none { IsTrue result → (n : ℕ) → is_found by_app.new app.now n ≡ false }
+/// Takes the number of a document out of those of the application of a name,
+/// and says whether none is left.
+fn leaves_none(by_app: &mut NumbersByApp, name: &[u8], id: DocId) -> bool
+    ensures set { IsSetTo false name.now id.number by_app.old by_app.new }
+    ensures none { IsTrue result → (n : ℕ) → is_found by_app.new name.now n ≡ false }
 {
-    match by_app.get_mut(app.as_bytes()) {
+    match by_app.get_mut(name) {
         Some(numbers) => {
             numbers.remove(&id.number);
             numbers.is_empty()
@@ -102,13 +102,11 @@ fn leaves_none(by_app: &mut NumbersByApp, app: &AppId, id: DocId) -> bool
 }
 
 /// Takes the number of a document out of those of each application that has a
-/// grant.
-pub(crate) fn remove_numbers(by_app: &mut NumbersByApp, grants: &[Grant], id: DocId)
-    ensures { (other : List ℕ) (n : ℕ) → is_found by_app.new other n
-        ≡ cond (list_any (λ g. is_this g.app id.number other n) grants.now) false
-        (is_found by_app.old other n) }
+/// right in it.
+pub(crate) fn remove_numbers(by_app: &mut NumbersByApp, names: &RightsByName, id: DocId)
+    ensures { AreTaken id.number (keys names.now) by_app.old by_app.new }
 {
-    for grant in grants {
-        remove_number(by_app, &grant.app, id);
+    for name in names.keys() {
+        remove_number(by_app, name, id);
     }
 }

@@ -1,22 +1,23 @@
 //! Which application has which right in which document.
 
-ghost use Rattle.std.specs.Prelude.{◌≡◌, [], OnOk, OnErr, IfOk, map, fold, None, true, false, option_copied};
+ghost use Rattle.std.specs.Prelude.{◌≡◌, [], OnOk, OnErr, IfOk, map, fold, None, true, false, option_map};
 ghost use Rattle.std.specs.BTreeMap.{get};
-ghost use Rattle.std.specs.List.{prefix_len, find, filter};
+ghost use Rattle.std.specs.List.{find, filter, flat_map};
 ghost use Rattle.std.specs.Ordering.{nat_cmp};
+ghost use Rattle.portal_base.specs.Names.{is_app_name};
 ghost use Rattle.portal_model.specs.State.{held_of};
-ghost use Rattle.portal_model.specs.Ordered.{put};
 ghost use Rattle.rights_rule.specs.Rights.{is_no_right};
 ghost use Rattle.portal_model.specs.Info.{holders, row_of};
 ghost use Rattle.portal_model.specs.Kept.{grant_record};
 ghost use Rattle.portal_model.specs.Rights.{add_rights, take_rights, forget_document, are_in_order};
 ghost use Rattle.document_records.specs.GrantIndex.{documents_of};
 
-use crate::by_app;
 use crate::by_app::NumbersByApp;
+use crate::held::RightsByName;
 use crate::holdings::{records_left, rows};
+use crate::{by_app, held};
 use portal_base::list::List;
-use portal_base::memory::{Replica, WantOfMemory};
+use portal_base::memory::WantOfMemory;
 use portal_base::names::{AppId, DocId};
 use portal_model::records::{GrantRecord, Row};
 use rights_rule::Rights;
@@ -24,6 +25,10 @@ use std::alloc::Global;
 use std::cmp::Ordering;
 use std::collections::BTreeMap;
 use std::marker::Model;
+
+/// The rights in each document, by its number. A document in which nothing is
+/// held takes no memory.
+type RightsByDocument = BTreeMap<u32, RightsByName>;
 
 /// The rights of one application in one document.
 #[derive(Drop)]
@@ -42,9 +47,9 @@ pub struct Grant {
 #[derive(Drop)]
 pub struct Grants {
     alloc: Global,
-    // Those of a document stand together, in order of the name, whatever way they came: so they are
-    // found by halving, and no call goes over those of other documents.
-    documents: BTreeMap<u32, Vec<Grant>>,
+    // Those of a document stand together, in order of the name, whatever way they came: so no call
+    // goes over those of other documents, and none on one application over those of others.
+    documents: RightsByDocument,
     // So no call on one application goes over documents in which it has no right.
     by_app: NumbersByApp,
 }
@@ -93,8 +98,8 @@ impl Grants {
         ensures held { result ≡ held_of self.now app.now id.number }
         ensures order { are_in_order self.now ≡ true }
     {
-        match find(in_document(&self.documents, id), app, id) {
-            Some(grant) => grant.rights,
+        match held_in(&self.documents, app, id) {
+            Some(rights) => rights,
             None => Rights::NONE,
         }
     }
@@ -106,21 +111,16 @@ impl Grants {
         ensures some { OnErr result (is_no_right rights ≡ false) }
         ensures err { OnErr result (self.new ≡ self.old) }
     {
-        if find(in_document(&self.documents, id), app, id).is_some() {
+        if held_in(&self.documents, app, id).is_some() {
             give_in(&mut self.documents, app, id, rights);
             return Ok(());
         }
         if rights.is_empty() {
             return Ok(());
         }
-        let grant = Grant {
-            id,
-            app: app.replica(self.alloc)?,
-            rights,
-        };
         by_app::add_number(self.alloc, &mut self.by_app, app, id)?;
-        if insert_in(self.alloc, &mut self.documents, grant).is_err() {
-            by_app::remove_number(&mut self.by_app, app, id);
+        if insert_in(self.alloc, &mut self.documents, app, id, rights).is_err() {
+            by_app::remove_number(&mut self.by_app, app.as_bytes(), id);
             return Err(WantOfMemory);
         }
         Ok(())
@@ -131,8 +131,8 @@ impl Grants {
         ensures { self.new ≡ take_rights app.now id.number rights self.old }
     {
         take_in(&mut self.documents, app, id, rights);
-        if find(in_document(&self.documents, id), app, id).is_none() {
-            by_app::remove_number(&mut self.by_app, app, id);
+        if held_in(&self.documents, app, id).is_none() {
+            by_app::remove_number(&mut self.by_app, app.as_bytes(), id);
         }
     }
 
@@ -150,7 +150,7 @@ impl Grants {
         ensures { IfOk result (λ rows. rows
             ≡ map (row_of self.now id.number) (holders self.now id.number)) }
     {
-        rows(self.alloc, in_document(&self.documents, id), id)
+        rows_in(self.alloc, &self.documents, id)
     }
 
     /// The rights in a document as they are kept, in byte order of the
@@ -159,13 +159,7 @@ impl Grants {
         ensures { IfOk result (λ records. records
             ≡ map (grant_record self.now id.number) (holders self.now id.number)) }
     {
-        records_left(
-            self.alloc,
-            in_document(&self.documents, id),
-            id,
-            &[],
-            Rights::NONE,
-        )
+        records_in(self.alloc, &self.documents, id, &[], Rights::NONE)
     }
 
     /// The same, as they will be kept once these rights of an application are
@@ -179,26 +173,21 @@ impl Grants {
         ensures { IfOk result (λ records. let left = take_rights app.now id.number rights self.now
             in records ≡ map (grant_record left id.number) (holders left id.number)) }
     {
-        records_left(
-            self.alloc,
-            in_document(&self.documents, id),
-            id,
-            app.as_bytes(),
-            rights,
-        )
+        records_in(self.alloc, &self.documents, id, app.as_bytes(), rights)
     }
 
     /// Takes all rights in a document away.
     pub fn forget(&mut self, id: DocId)
         ensures { self.new ≡ forget_document id.number self.old }
     {
-        if let Some(grants) = self.documents.remove(&id.number) {
-            by_app::remove_numbers(&mut self.by_app, grants.as_slice(), id);
+        if let Some(names) = self.documents.remove(&id.number) {
+            by_app::remove_numbers(&mut self.by_app, &names, id);
         }
     }
 }
 
-ghost use Rattle.document_records.specs.Grants.{AreKept, is_of, is_before, given, taken, has_a_right, grant_less, grant_order, are_grants_in_order, with_given, all_grants, triples_of_all, is_in_document, AreKeptByNumber};
+ghost use Rattle.document_records.specs.Grants.{AreKeptByNumber, all_grants, given, grant_order, has_a_right, is_in_document, is_of, taken, triples_of_all, with_given};
+ghost use Rattle.document_records.specs.Holdings.{record_left, row_held};
 
 /// Which of two grants has its place first.
 fn place_order(first: &Grant, second: &Grant) -> Ordering
@@ -221,186 +210,123 @@ fn gathered(alloc: Global, grants: &[Grant]) -> Result<Grants, WantOfMemory>
     Ok(rights)
 }
 
-/// Says whether a grant is of an application in a document.
-fn is_of(grant: &Grant, app: &AppId, id: DocId) -> bool
-    ensures { result ≡ is_of app.now id.number grant.now }
-{
-    grant.id.number == id.number && grant.app == *app
-}
-
-/// Says whether a grant stands ahead of those of an application in a document.
-fn is_before(grant: &Grant, app: &AppId, id: DocId) -> bool
-    ensures { result ≡ is_before app.now id.number grant.now }
-{
-    if grant.id.number == id.number {
-        grant.app.as_bytes() < app.as_bytes()
-    } else {
-        grant.id.number < id.number
-    }
-}
-
-/// The grant of an application in a document.
-fn find<'a>(grants: &'a [Grant], app: &AppId, id: DocId) -> Option<&'a Grant>
-    requires { are_grants_in_order grants.now ≡ true }
-    ensures { option_copied result ≡ find (is_of app.now id.number) grants.now }
-{
-    let grant = grants.get(place_of(grants, app, id))?;
-    if is_of(grant, app, id) {
-        Some(grant)
-    } else {
-        None
-    }
-}
-
-/// Puts a grant in its place, where there is none of its application and
-/// document.
-fn insert(grants: &mut Vec<Grant>, grant: Grant) -> Result<(), WantOfMemory>
-    requires order { are_grants_in_order grants.old.items ≡ true }
-    requires new { find (is_of grant.app grant.id.number) grants.old.items ≡ None }
-    ensures ok { OnOk result (grants.new.items ≡ put grant_less grant grants.old.items) }
-    ensures err { OnErr result (grants.new.items ≡ grants.old.items) }
-{
-    let at = place_of(grants, &grant.app, grant.id);
-    grants.insert(at, grant)?;
-    Ok(())
-}
-
-/// The place where a grant of an application in a document stands, or would.
-fn place_of(grants: &[Grant], app: &AppId, id: DocId) -> usize
-    requires { are_grants_in_order grants.now ≡ true }
-    ensures { result ≡ prefix_len (is_before app.now id.number) grants.now }
-{
-    grants.partition_point(|grant| is_before(grant, app, id))
-}
-
-/// Adds rights to the grant of an application in a document.
-fn give(grants: &mut Vec<Grant>, app: &AppId, id: DocId, rights: Rights)
-    requires { are_grants_in_order grants.old.items ≡ true }
-    ensures { grants.new.items ≡ map (given app.now id.number rights) grants.old.items }
-{
-    let at = place_of(grants, app, id);
-    if let Some(grant) = grants.get_mut(at) {
-        give_if(grant, app, id, rights);
-    }
-}
-
-/// Adds rights to a grant, where it is of an application in a document.
-fn give_if(grant: &mut Grant, app: &AppId, id: DocId, rights: Rights)
-    ensures { grant.new ≡ given app.now id.number rights grant.old }
-{
-    if is_of(grant, app, id) {
-        grant.rights = grant.rights.union(rights);
-    }
-}
-
-/// Takes rights away from the grant of an application in a document, and the
-/// grant where nothing is left of it.
-fn take(grants: &mut Vec<Grant>, app: &AppId, id: DocId, rights: Rights)
-    requires { AreKept grants.old.items }
-    ensures { grants.new.items
-        ≡ filter has_a_right (map (taken app.now id.number rights) grants.old.items) }
-{
-    let at = place_of(grants, app, id);
-    let Some(grant) = grants.get_mut(at) else {
-        return;
-    };
-    take_if(grant, app, id, rights);
-    if grant.rights.is_empty() {
-        grants.remove(at);
-    }
-}
-
-/// Takes rights away from a grant, where it is of an application in a
-/// document.
-fn take_if(grant: &mut Grant, app: &AppId, id: DocId, rights: Rights)
-    ensures { grant.new ≡ taken app.now id.number rights grant.old }
-{
-    if is_of(grant, app, id) {
-        grant.rights = grant.rights.minus(rights);
-    }
-}
-
-/// The grants in a document.
-fn in_document(documents: &BTreeMap<u32, Vec<Grant>>, id: DocId) -> &[Grant]
+/// The rights of an application in a document, where it has some.
+fn held_in(documents: &RightsByDocument, app: &AppId, id: DocId) -> Option<Rights>
     requires { AreKeptByNumber documents.now }
-    ensures { result.now ≡ filter (is_in_document id.number) (all_grants documents.now.entries) }
+    ensures { result ≡ option_map (λ g. g.rights)
+        (find (is_of app.now id.number) (all_grants documents.now.entries)) }
+{
+    held::held(documents.get(&id.number)?, app)
+}
+
+/// The rows of a document.
+fn rows_in(
+    alloc: Global,
+    documents: &RightsByDocument,
+    id: DocId,
+) -> Result<List<Row>, WantOfMemory>
+    requires { AreKeptByNumber documents.now }
+    ensures { IfOk result (λ rows. rows ≡ flat_map (row_held id.number)
+        (filter (is_in_document id.number) (all_grants documents.now.entries))) }
 {
     match documents.get(&id.number) {
-        Some(grants) => grants.as_slice(),
-        None => &[],
+        Some(names) => rows(alloc, names),
+        None => Ok(List::new(alloc)),
     }
 }
 
-/// Adds rights to the grant of an application in a document, among those of all.
-fn give_in(documents: &mut BTreeMap<u32, Vec<Grant>>, app: &AppId, id: DocId, rights: Rights)
+/// The records of a document, once these rights of an application are taken
+/// away.
+fn records_in(
+    alloc: Global,
+    documents: &RightsByDocument,
+    id: DocId,
+    app: &[u8],
+    rights: Rights,
+) -> Result<List<GrantRecord>, WantOfMemory>
+    requires { AreKeptByNumber documents.now }
+    ensures { IfOk result (λ records. records ≡ flat_map (record_left app.now id.number rights)
+        (filter (is_in_document id.number) (all_grants documents.now.entries))) }
+{
+    match documents.get(&id.number) {
+        Some(names) => records_left(alloc, names, app, rights),
+        None => Ok(List::new(alloc)),
+    }
+}
+
+/// Adds rights to those of an application in a document, among those of all.
+fn give_in(documents: &mut RightsByDocument, app: &AppId, id: DocId, rights: Rights)
     requires { AreKeptByNumber documents.old }
     ensures kept { AreKeptByNumber documents.new }
     ensures given { all_grants documents.new.entries
         ≡ map (given app.now id.number rights) (all_grants documents.old.entries) }
 {
-    if let Some(grants) = documents.get_mut(&id.number) {
-        give(grants, app, id, rights);
+    if let Some(names) = documents.get_mut(&id.number) {
+        held::give(names, app, rights);
     }
 }
 
-/// Takes rights away from the grant of an application in a document, among
-/// those of all. A document in which nothing is held any more goes.
-fn take_in(documents: &mut BTreeMap<u32, Vec<Grant>>, app: &AppId, id: DocId, rights: Rights)
+/// Takes rights of an application in a document away, among those of all. A
+/// document in which nothing is held any more goes.
+fn take_in(documents: &mut RightsByDocument, app: &AppId, id: DocId, rights: Rights)
     requires { AreKeptByNumber documents.old }
     ensures kept { AreKeptByNumber documents.new }
     ensures left { all_grants documents.new.entries ≡ filter has_a_right
         (map (taken app.now id.number rights) (all_grants documents.old.entries)) }
 {
-    let Some(grants) = documents.get_mut(&id.number) else {
+    let Some(names) = documents.get_mut(&id.number) else {
         return;
     };
-    take(grants, app, id, rights);
-    if grants.as_slice().is_empty() {
+    held::take(names, app, rights);
+    if names.is_empty() {
         documents.remove(&id.number);
     }
 }
 
-/// Puts a grant in its place among those of its document.
+/// Adds the rights of an application that has none in a document.
 fn insert_in(
     alloc: Global,
-    documents: &mut BTreeMap<u32, Vec<Grant>>,
-    grant: Grant,
+    documents: &mut RightsByDocument,
+    app: &AppId,
+    id: DocId,
+    rights: Rights,
 ) -> Result<(), WantOfMemory>
     requires kept { AreKeptByNumber documents.old }
-    requires held { has_a_right grant ≡ true }
-    requires new { find (is_of grant.app grant.id.number) (all_grants documents.old.entries)
-        ≡ None }
+    requires held { is_no_right rights ≡ false }
+    requires new { find (is_of app.now id.number) (all_grants documents.old.entries) ≡ None }
     ensures kept { AreKeptByNumber documents.new }
     ensures ok { OnOk result (triples_of_all documents.new.entries
-        ≡ add_rights grant.app grant.id grant.rights (triples_of_all documents.old.entries)) }
+        ≡ add_rights app.now id rights (triples_of_all documents.old.entries)) }
     ensures err { OnErr result (triples_of_all documents.new.entries
         ≡ triples_of_all documents.old.entries) }
 {
-    let number = grant.id.number;
-    match documents.get_mut(&number) {
-        Some(grants) => insert(grants, grant),
-        None => insert_first(alloc, documents, grant),
+    let name = Vec::from_slice(alloc, app.as_bytes())?;
+    match documents.get_mut(&id.number) {
+        Some(names) => held::add(names, name, rights),
+        None => insert_first(alloc, documents, id, name, rights),
     }
 }
 
-/// Adds the first grant of a document.
+/// Adds the first rights in a document.
 fn insert_first(
     alloc: Global,
-    documents: &mut BTreeMap<u32, Vec<Grant>>,
-    grant: Grant,
+    documents: &mut RightsByDocument,
+    id: DocId,
+    name: Vec<u8>,
+    rights: Rights,
 ) -> Result<(), WantOfMemory>
     requires kept { AreKeptByNumber documents.old }
-    requires held { has_a_right grant ≡ true }
-    requires none { get nat_cmp documents.old grant.id.number ≡ None }
+    requires held { is_no_right rights ≡ false }
+    requires named { is_app_name name.items ≡ true }
+    requires none { get nat_cmp documents.old id.number ≡ None }
     ensures kept { AreKeptByNumber documents.new }
     ensures ok { OnOk result (triples_of_all documents.new.entries
-        ≡ add_rights grant.app grant.id grant.rights (triples_of_all documents.old.entries)) }
+        ≡ add_rights name.items id rights (triples_of_all documents.old.entries)) }
     ensures err { OnErr result (triples_of_all documents.new.entries
         ≡ triples_of_all documents.old.entries) }
 {
-    let number = grant.id.number;
-    let mut grants = Vec::new(alloc);
-    grants.push(grant)?;
-    documents.insert(number, grants)?;
+    let mut names = BTreeMap::new(alloc);
+    held::add(&mut names, name, rights)?;
+    documents.insert(id.number, names)?;
     Ok(())
 }

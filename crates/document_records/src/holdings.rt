@@ -1,47 +1,44 @@
 //! The rights in one document, as they are told and as they are kept.
 
-ghost use Rattle.std.specs.Prelude.{◌≡◌, ◌++◌, IfOk, OnOk, cond};
-ghost use Rattle.std.specs.List.{flat_map};
-ghost use Rattle.rights_rule.specs.Rights.{minus};
-ghost use Rattle.portal_base.specs.Names.{is_same};
+ghost use Rattle.std.specs.Prelude.{◌≡◌, ◌++◌, ◌∷◌, [], IfOk, OnOk, cond, map, true};
+ghost use Rattle.std.specs.List.{flat_map, list_all};
+ghost use Rattle.portal_base.specs.Names.{is_app_name};
 ghost use Rattle.portal_model.specs.Kept.{bits_of};
-ghost use Rattle.document_records.specs.Holdings.{record_left, rights_left, row_held};
+ghost use Rattle.document_records.specs.Holdings.{is_of_name, left_of, record_left_of, record_of_name, row_of_entry, row_of_name};
 
-use crate::grants::Grant;
+use crate::held::RightsByName;
 use crate::texts::name_text;
 use portal_base::list::List;
 use portal_base::memory::WantOfMemory;
-use portal_base::names::DocId;
 use portal_model::records::{GrantRecord, Row};
 use rights_rule::Rights;
 use std::alloc::Global;
 
 /// The rows of a document: each application with the names of its rights.
-pub(crate) fn rows(alloc: Global, grants: &[Grant], id: DocId) -> Result<List<Row>, WantOfMemory>
-    ensures { IfOk result (λ rows. rows ≡ flat_map (row_held id.number) grants.now) }
+pub(crate) fn rows(alloc: Global, names: &RightsByName) -> Result<List<Row>, WantOfMemory>
+    requires { list_all is_of_name names.now.entries ≡ true }
+    ensures { IfOk result (λ rows. rows ≡ map row_of_entry names.now.entries) }
 {
     let mut rows = List::new(alloc);
-    for grant in grants {
-        push_row(alloc, &mut rows, grant, id)?;
+    for (name, rights) in names {
+        push_row(alloc, &mut rows, name, *rights)?;
     }
     Ok(rows)
 }
 
-/// Adds the row of a grant, where it is in a document.
+/// Adds the row of an application.
 fn push_row(
     alloc: Global,
     rows: &mut List<Row>,
-    grant: &Grant,
-    id: DocId,
+    name: &[u8],
+    rights: Rights,
 ) -> Result<(), WantOfMemory>
-    ensures { OnOk result (rows.new ≡ rows.old ++ row_held id.number grant.now) }
+    requires { is_app_name name.now ≡ true }
+    ensures { OnOk result (rows.new ≡ rows.old ++ row_of_name name.now rights ∷ []) }
 {
-    if grant.id.number != id.number {
-        return Ok(());
-    }
     let row = Row {
-        app: name_text(alloc, &grant.app)?,
-        names: grant.rights.names(alloc)?,
+        app: name_text(alloc, name)?,
+        names: rights.names(alloc)?,
     };
     rows.push(row)
 }
@@ -50,53 +47,48 @@ fn push_row(
 /// away.
 pub(crate) fn records_left(
     alloc: Global,
-    grants: &[Grant],
-    id: DocId,
+    names: &RightsByName,
     app: &[u8],
     rights: Rights,
 ) -> Result<List<GrantRecord>, WantOfMemory>
     ensures { IfOk result (λ records. records
-        ≡ flat_map (record_left app.now id.number rights) grants.now) }
+        ≡ flat_map (record_left_of app.now rights) names.now.entries) }
 {
     let mut records = List::new(alloc);
-    for grant in grants {
-        push_record(alloc, &mut records, grant, id, app, rights)?;
+    for (name, held) in names {
+        push_record(alloc, &mut records, name, left_of(name, *held, app, rights))?;
     }
     Ok(records)
 }
 
-/// Adds the record of a grant, where it is in a document and something is left
-/// of it.
+/// What is left of the rights of a name once these of an application are taken
+/// away.
+fn left_of(name: &[u8], held: Rights, app: &[u8], rights: Rights) -> Rights
+    ensures { result ≡ left_of name.now held app.now rights }
+{
+    if name == app {
+        held.minus(rights)
+    } else {
+        held
+    }
+}
+
+/// Adds the record of an application, where it has a right.
 fn push_record(
     alloc: Global,
     records: &mut List<GrantRecord>,
-    grant: &Grant,
-    id: DocId,
-    app: &[u8],
+    name: &[u8],
     rights: Rights,
 ) -> Result<(), WantOfMemory>
-    ensures { OnOk result (records.new
-        ≡ records.old ++ record_left app.now id.number rights grant.now) }
+    ensures { OnOk result (records.new ≡ records.old ++ record_of_name name.now rights) }
 {
-    let left = left_of(grant, id, app, rights);
-    if grant.id.number != id.number || left.is_empty() {
+    if rights.is_empty() {
         return Ok(());
     }
     records.push(GrantRecord {
-        app: List::copied(alloc, grant.app.as_bytes())?,
-        rights: bits(left),
+        app: List::copied(alloc, name)?,
+        rights: bits(rights),
     })
-}
-
-/// What is left to a grant once these rights of an application are taken away.
-fn left_of(grant: &Grant, id: DocId, app: &[u8], rights: Rights) -> Rights
-    ensures { result ≡ rights_left app.now id.number rights grant.now }
-{
-    if grant.id.number == id.number && grant.app.as_bytes() == app {
-        grant.rights.minus(rights)
-    } else {
-        grant.rights
-    }
 }
 
 /// The number that a record gives a set of rights.

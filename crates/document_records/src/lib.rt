@@ -13,6 +13,7 @@
 //! | `placed` | the live ones by number alone |
 //! | `by_path` | the numbers of those of each path |
 //! | `grants` | [`Grants`]: who holds which rights in which document, and [`Grant`], the rights of one in one |
+//! | `held` | the rights of applications in one document, by their names |
 //! | `by_app` | the numbers of the documents in which each application has a right |
 //! | `holdings` | the rights in a document, as they are told and as they are kept |
 //! | `texts` | identifiers and names as texts |
@@ -40,6 +41,7 @@ mod by_path;
 pub mod documents;
 mod granted;
 pub mod grants;
+mod held;
 mod holdings;
 mod known;
 mod live;

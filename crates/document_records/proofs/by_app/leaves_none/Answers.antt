@@ -12,12 +12,12 @@ returns-in-Some-clause-set c =
     let old = c.args.by_app.now in
     let w = c.remove.new.self in
     let number = c.args.id.number in
-    let found : numbers_found old c.args.app.now ≡ Some c.in-Some.numbers.now =
-    ap (numbers_found old) (sym c.as_bytes.ensures.bytes) ∙ sym c.in-Some.ensures.value in
-    let written : UpdatesBy by_items (by_text c.as_bytes.result.now) old
+    let found : numbers_found old c.args.name.now ≡ Some c.in-Some.numbers.now =
+    sym c.in-Some.ensures.value in
+    let written : UpdatesBy by_items (by_text c.args.name.now) old
     (c.get_mut.follows.lender w) (Some w) = (c.get_mut.follows.holds w).3 (search rules) in
-    set-to c.args.app.now old (c.get_mut.follows.lender w) (Some c.in-Some.numbers.now) w
-    found (rw c.as_bytes.ensures.bytes at written) false number
+    set-to c.args.name.now old (c.get_mut.follows.lender w) (Some c.in-Some.numbers.now) w
+    found written false number
     (λ n. c.remove.ensures.updates.0 n
     ∙ ap (λ (b : Bool). cond b false (contains nat_cmp c.in-Some.numbers.now n))
     (is_at-this number n))

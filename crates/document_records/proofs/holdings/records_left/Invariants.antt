@@ -1,8 +1,9 @@
-use Rattle.std.proofs.Common.{◌≡◌, take}
+use Rattle.std.proofs.Common.{◌≡◌, ◌++◌}
 use Rattle.std.specs.List.{flat_map}
-use Rattle.document_records.specs.Holdings.{record_left}
+use Rattle.document_records.specs.Holdings.{record_left_of}
 use Rattle.document_records.proofs.holdings.records_left.Given as goal
 
--- the records of the grants so far
-abbrev pub invariant-loop-grant : goal.invariant-loop-grant
-invariant-loop-grant l = l.records ≡ flat_map (record_left l.app l.id.number l.rights) (take l.grant-index l.grants)
+-- the records so far, and those of the names that are left
+abbrev pub invariant-loop-name : goal.invariant-loop-name
+invariant-loop-name l = l.records ++ flat_map (record_left_of l.app l.rights) l.name-iterator
+    ≡ flat_map (record_left_of l.app l.rights) l.names.entries

@@ -1,8 +1,10 @@
-use Rattle.std.proofs.Common.{◌≡◌, take}
-use Rattle.std.specs.List.{flat_map}
-use Rattle.document_records.specs.Holdings.{row_held}
+use Rattle.std.proofs.Common.{◌≡◌, ◌++◌, map, true}
+use Rattle.std.specs.List.{list_all}
+use Rattle.document_records.specs.Holdings.{is_of_name, row_of_entry}
 use Rattle.document_records.proofs.holdings.rows.Given as goal
 
--- the rows of the grants so far
-abbrev pub invariant-loop-grant : goal.invariant-loop-grant
-invariant-loop-grant l = l.rows ≡ flat_map (row_held l.id.number) (take l.grant-index l.grants)
+-- the rows so far, and those of the names that are left
+abbrev pub invariant-loop-name : goal.invariant-loop-name
+invariant-loop-name l =
+    (l.rows ++ map row_of_entry l.name-iterator ≡ map row_of_entry l.names.entries)
+    × (list_all is_of_name l.name-iterator ≡ true)

@@ -1,22 +1,21 @@
-use Rattle.std.proofs.Common.{◌≡◌, ◌∙◌, [], List, ap, sym, subst, refl}
-use Rattle.std.specs.List.{filter, list_all}
+use Rattle.std.proofs.Common.{◌≡◌, ◌∙◌, [], ℕ, List, Bool, false, cond, ap, sym, subst, refl}
+use Rattle.std.specs.List.{filter, list_all, list_any}
 use Rattle.portal_model.specs.declared.state.Triple.{Triple}
 use Rattle.portal_model.specs.Rights.{forget_document}
 use Rattle.document_records.specs.declared.grants.Grant.{Grant}
-use Rattle.document_records.specs.GrantIndex.{AreByApp}
-use Rattle.document_records.specs.Grants.{all_grants, is_in_document, is_kept, triples_of_all}
-use Rattle.document_records.proofs.GrantsByApp.{forgotten-by-app}
+use Rattle.document_records.specs.GrantIndex.{AreByApp, is_found, is_this}
+use Rattle.document_records.specs.Grants.{all_grants, grants_in, is_in_document, is_kept, triples_of_all}
+use Rattle.document_records.proofs.GrantsByApp.{among-names, forgotten-by-app}
 use Rattle.document_records.proofs.GrantsByNumber.{all-have, all-without, gone-kept, here-none, here-some}
-use Rattle.document_records.proofs.NumbersByApp.{AreTaken}
 use Rattle.document_records.proofs.grants.Grants.forget.Goals as goal
 
 pub invariant_of-self : goal.invariant_of-self
 invariant_of-self c =
     let n = c.args.id.number in
     let es = c.self.inside.documents.entries in
-    let here : c.as_slice.result.now ≡ filter (is_in_document n) (all_grants es) =
-    c.as_slice.ensures.value
-    ∙ here-some n es c.in-Some.grants c.self.invariant.kept.order c.self.invariant.kept.each
+    let names = c.in-Some.names in
+    let here : grants_in n names ≡ filter (is_in_document n) (all_grants es) =
+    here-some n es names c.self.invariant.kept.order c.self.invariant.kept.each
     (sym c.in-Some.ensures.value) in
     record {
       kept = record {
@@ -29,8 +28,10 @@ invariant_of-self c =
           ∙ all-without n es c.self.invariant.kept.order c.self.invariant.kept.each))
           (forgotten-by-app n (all_grants es) c.self.inside.by_app c.remove_numbers.new.by_app
           (all-have es c.self.invariant.kept.each) c.self.invariant.found
-          (subst (λ (gs : List Grant). AreTaken n gs c.self.inside.by_app
-          c.remove_numbers.new.by_app) here c.remove_numbers.ensures));
+          (λ other m. c.remove_numbers.ensures other m
+          ∙ ap (λ (b : Bool). cond b false (is_found c.self.inside.by_app other m))
+          (among-names n names other m
+          ∙ ap (λ (gs : List Grant). list_any (λ g. is_this g.app n other m) gs) here)));
     }
 
 pub invariant_of-self-in_default : goal.invariant_of-self-in_default
@@ -50,8 +51,8 @@ invariant_of-self-in_default c =
           ∙ all-without n es c.self.invariant.kept.order c.self.invariant.kept.each))
           (forgotten-by-app n (all_grants es) c.self.inside.by_app c.self.inside.by_app
           (all-have es c.self.invariant.kept.each) c.self.invariant.found
-          (subst (λ (gs : List Grant). AreTaken n gs c.self.inside.by_app
-          c.self.inside.by_app) here (λ other m. refl)));
+          (λ other m. ap (λ (gs : List Grant). cond (list_any (λ g. is_this g.app n other m) gs)
+          false (is_found c.self.inside.by_app other m)) here));
     }
 
 pub returns-in-Some : goal.returns-in-Some

@@ -11,9 +11,8 @@ use Rattle.document_records.proofs.grants.Grants.records.Goals as goal
 pub returns : goal.returns
 returns c =
     let number = c.args.id.number in
-    then-ok c.records_left.result _ _
-    (λ records e. e ∙ (ap (flat_map (record_left [] number no_rights)) c.in_document.ensures
-    ∙ (left-within [] number no_rights (all_grants c.self.inside.documents.entries)
+    then-ok c.records_in.result _ _
+    (λ records e. e ∙ (left-within [] number no_rights (all_grants c.self.inside.documents.entries)
     ∙ (records-are [] number (all_grants c.self.inside.documents.entries) (kept-all c.self.inside.documents.entries c.self.invariant.kept.order c.self.invariant.kept.each)
-    ∙ ap (λ (ts : List Triple). records_in ts number) c.self.view_is))))
-    c.records_left.ensures
+    ∙ ap (λ (ts : List Triple). records_in ts number) c.self.view_is)))
+    c.records_in.ensures

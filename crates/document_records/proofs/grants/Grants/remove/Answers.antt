@@ -1,21 +1,14 @@
-use Rattle.std.proofs.Common.{◌≡◌, ◌∙◌, ap, sym, subst, true, None, List, is_some}
+use Rattle.std.proofs.Common.{◌≡◌, ◌∙◌, ap, sym, subst, true, false, ℕ, None, List, is_some}
 use Rattle.std.specs.List.{find}
 use Rattle.portal_model.specs.declared.state.Triple.{Triple}
 use Rattle.portal_model.specs.Rights.{take_rights}
 use Rattle.document_records.specs.declared.grants.Grant.{Grant}
-use Rattle.document_records.specs.GrantIndex.{AreByApp, holds}
+use Rattle.document_records.specs.GrantIndex.{AreByApp, IsSetTo, holds}
 use Rattle.document_records.specs.Grants.{all_grants, are_grants_in_order, is_in_document, is_of, triples_of_all}
-use Rattle.document_records.proofs.GrantLemmas.{copied-some, not-some, rising-some}
 use Rattle.document_records.proofs.GrantsByApp.{gone-by-app, granted-none, granted-some, left-by-app, taken-all}
-use Rattle.document_records.proofs.GrantsByNumber.{all-have, all-in-order, find-within}
+use Rattle.document_records.proofs.GrantsByNumber.{all-have}
+use Rattle.document_records.proofs.HeldByName.{none-of-them, some-of-them}
 use Rattle.document_records.proofs.grants.Grants.remove.Goals as goal
-
-pub find-requires : goal.find-requires
-find-requires c =
-    let es = c.take_in.new.documents.entries in
-    ap are_grants_in_order c.in_document.ensures
-    ∙ rising-some (is_in_document c.args.id.number) (all_grants es)
-    (all-in-order es c.take_in.ensures.kept.order c.take_in.ensures.kept.each)
 
 pub invariant_of-self : goal.invariant_of-self
 invariant_of-self c =
@@ -26,10 +19,7 @@ invariant_of-self c =
     let left : triples_of_all new ≡ take_rights app n c.args.rights (triples_of_all old) =
     taken-all app n c.args.rights (all_grants old) (all_grants new) c.take_in.ensures.left in
     let none : find (is_of app n) (all_grants new) ≡ None =
-    sym (find-within app n (all_grants new))
-    ∙ (ap (find (is_of app n)) (sym c.in_document.ensures)
-    ∙ not-some _ (ap is_some (sym c.find.ensures)
-    ∙ (copied-some c.find.result ∙ c.if-is_none.ensures))) in
+    none-of-them _ c.held_in.result c.held_in.ensures c.if-is_none.ensures in
     record {
       kept = c.take_in.ensures.kept;
       found = subst (λ (ts : List Triple). AreByApp ts c.remove_number.new.by_app) (sym left)
@@ -37,7 +27,8 @@ invariant_of-self c =
           c.self.invariant.found c.remove_number.new.by_app
           (ap (λ (ts : List Triple). holds ts app n) (sym left)
           ∙ granted-none app n (all_grants new) (all-have new c.take_in.ensures.kept.each) none)
-          c.remove_number.ensures);
+          (subst (λ (name : List ℕ). IsSetTo false name n c.self.inside.by_app
+          c.remove_number.new.by_app) c.as_bytes.ensures.bytes c.remove_number.ensures));
     }
 
 pub invariant_of-self-else-is_none : goal.invariant_of-self-else-is_none
@@ -49,9 +40,7 @@ invariant_of-self-else-is_none c =
     let left : triples_of_all new ≡ take_rights app n c.args.rights (triples_of_all old) =
     taken-all app n c.args.rights (all_grants old) (all_grants new) c.take_in.ensures.left in
     let there : is_some (find (is_of app n) (all_grants new)) ≡ true =
-    ap is_some (sym (find-within app n (all_grants new)))
-    ∙ (ap (λ (gs : List Grant). is_some (find (is_of app n) gs)) (sym c.in_document.ensures)
-    ∙ (ap is_some (sym c.find.ensures) ∙ (copied-some c.find.result ∙ c.if-is_none.ensures))) in
+    some-of-them _ c.held_in.result c.held_in.ensures c.if-is_none.ensures in
     record {
       kept = c.take_in.ensures.kept;
       found = subst (λ (ts : List Triple). AreByApp ts c.self.inside.by_app) (sym left)

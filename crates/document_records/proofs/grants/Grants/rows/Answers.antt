@@ -11,9 +11,8 @@ use Rattle.document_records.proofs.grants.Grants.rows.Goals as goal
 pub returns : goal.returns
 returns c =
     let number = c.args.id.number in
-    then-ok c.rows.result _ _
-    (λ rows e. e ∙ (ap (flat_map (row_held number)) c.in_document.ensures
-    ∙ (rows-within number (all_grants c.self.inside.documents.entries)
+    then-ok c.rows_in.result _ _
+    (λ rows e. e ∙ (rows-within number (all_grants c.self.inside.documents.entries)
     ∙ (rows-are number (all_grants c.self.inside.documents.entries) (kept-all c.self.inside.documents.entries c.self.invariant.kept.order c.self.invariant.kept.each)
-    ∙ ap (λ (ts : List Triple). map (row_of ts number) (holders ts number)) c.self.view_is))))
-    c.rows.ensures
+    ∙ ap (λ (ts : List Triple). map (row_of ts number) (holders ts number)) c.self.view_is)))
+    c.rows_in.ensures
