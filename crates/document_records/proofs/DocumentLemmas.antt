@@ -35,15 +35,15 @@ made-more ids id n = list_any-append (λ (x : DocId). x.number == n) ids (id ∷
 made-at : (ids : List DocId) (a b : ℕ) → (a == b) ≡ true → is_made ids a ≡ is_made ids b
 made-at ids a b e = ap (λ (n : ℕ). is_made ids n) (nat_is a b e)
 
-not-live : (n : ℕ) (ids : List DocId) (ds : List Document) → list_all (λ d. is_made ids d.id.number) ds ≡ true → is_made ids n ≡ false → list_any (nat_eq n) (live_numbers ds) ≡ false
+pub not-live : (n : ℕ) (ids : List DocId) (ds : List Document) → list_all (λ d. is_made ids d.id.number) ds ≡ true → is_made ids n ≡ false → list_any (nat_eq n) (live_numbers ds) ≡ false
 not-live n ids [] h e = refl
 not-live n ids (d ∷ ds) h e = grind (arith, nat_tests, not-live n ids ds, made-at ids n d.id.number)
 
-all-made-more : (ids : List DocId) (id : DocId) (ds : List Document) → list_all (λ d. is_made ids d.id.number) ds ≡ true → list_all (λ d. is_made (ids ++ id ∷ []) d.id.number) ds ≡ true
+pub all-made-more : (ids : List DocId) (id : DocId) (ds : List Document) → list_all (λ d. is_made ids d.id.number) ds ≡ true → list_all (λ d. is_made (ids ++ id ∷ []) d.id.number) ds ≡ true
 all-made-more ids id [] h = refl
 all-made-more ids id (d ∷ ds) h = grind (arith, all-made-more ids id ds, made-more ids id d.id.number)
 
-numbers-more : (ds : List Document) (d : Document) → live_numbers (ds ++ d ∷ []) ≡ live_numbers ds ++ d.id.number ∷ []
+pub numbers-more : (ds : List Document) (d : Document) → live_numbers (ds ++ d ∷ []) ≡ live_numbers ds ++ d.id.number ∷ []
 numbers-more [] d = refl
 numbers-more (x ∷ xs) d = ap (λ (ns : List ℕ). x.id.number ∷ ns) (numbers-more xs d)
 
@@ -287,11 +287,11 @@ removed-is n (d ∷ ds) h = step (has_number n d) refl (removed-is n ds h.1)
     step true e more = sym (none-same n ds (subst (λ (m : ℕ). AllByRecursion (λ k. nat_eq m k ≡ false) (live_numbers ds)) (nat_is d.id.number n e) h.0))
     step false e more = remove-more d ds (prefix_len (λ d. not (has_number n d)) ds) ∙ ap (λ (xs : List Document). d ∷ xs) more
 
-all-filter : (q p : Document → Bool) (ds : List Document) → list_all q ds ≡ true → list_all q (filter p ds) ≡ true
+pub all-filter : (q p : Document → Bool) (ds : List Document) → list_all q ds ≡ true → list_all q (filter p ds) ≡ true
 all-filter q p [] h = refl
 all-filter q p (d ∷ ds) h = grind (arith, all-filter q p ds)
 
-filter-shorter : (p : Document → Bool) (ds : List Document) → length (filter p ds) ≤ length ds
+pub filter-shorter : (p : Document → Bool) (ds : List Document) → length (filter p ds) ≤ length ds
 filter-shorter p [] = omega arith
 filter-shorter p (d ∷ ds) = grind (arith, filter-shorter p ds)
 

@@ -1,7 +1,9 @@
 mod ApplicationLemmas
+mod CommandRuns
 mod DocumentLemmas
 mod DocumentsByPath
 mod FoundByName
+mod FreshCommands
 mod GrantLemmas
 mod GrantsByApp
 mod GrantsByNumber
@@ -18,4 +20,5 @@ pub mod Loops
 pub mod OpeningRights
 pub mod ValidNames
 pub mod FreshItems
+mod KeptLists
 mod KeptNumbers

@@ -101,3 +101,16 @@ has_flags persistent strict folder (Some d) =
 abbrev pub number_serves : List Document → Bool → Bool → Bool → ℕ → Bool
 number_serves live persistent strict folder number =
     has_flags persistent strict folder (document_of live number)
+
+-- ---- documents as plain lists
+
+pub record AreListed (most_live most_made : ℕ) (live : List Document) (made : List DocId) : Type 0
+  where
+    pub kept : AreKept (record {
+      most_live = most_live;
+      most_made = most_made;
+      live = live;
+      made = made;
+    })
+    -- not every number of 32 bits can be made
+    pub limit : most_made < 2 ^ 32

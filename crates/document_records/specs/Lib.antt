@@ -1,4 +1,5 @@
 pub mod Applications
+pub mod DocumentCommands
 pub mod DocumentErrors
 pub mod DocumentIndex
 pub mod Documents

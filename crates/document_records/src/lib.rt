@@ -11,6 +11,8 @@
 //! |---|---|
 //! | `documents` | [`Documents`]: the live ones by number and by path, and the made numbers |
 //! | `placed` | the live ones by number alone |
+//! | `commands` | [`DocumentForm`], which both forms of the documents meet, and commands over either |
+//! | `laws` | the documents as the plain lists of the definitions |
 //! | `by_path` | the numbers of those of each path |
 //! | `grants` | [`Grants`]: who holds which rights in which document, and [`Grant`], the rights of one in one |
 //! | `held` | the rights of applications in one document, by their names |
@@ -38,12 +40,14 @@
 pub mod applications;
 mod by_app;
 mod by_path;
+pub mod commands;
 pub mod documents;
 mod granted;
 pub mod grants;
 mod held;
 mod holdings;
 mod known;
+pub mod laws;
 mod live;
 mod numbered;
 pub mod opening;
@@ -51,6 +55,7 @@ mod placed;
 mod texts;
 
 pub use applications::Applications;
+pub use commands::{DocumentAnswer, DocumentCommand, DocumentForm, add_apart, run_commands};
 pub use documents::{DocError, Documents};
 pub use grants::{Grant, Grants};
 pub use portal_model::state::Document;

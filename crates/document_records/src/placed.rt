@@ -293,7 +293,7 @@ fn place_live(
 }
 
 /// How many more documents two limits leave room for.
-fn room(most_live: u64, most_made: u64, live: &List<Document>, made: &List<DocId>) -> u64
+pub(crate) fn room(most_live: u64, most_made: u64, live: &List<Document>, made: &List<DocId>) -> u64
     ensures { result ≡ min (most_live - length live.now) (most_made - length made.now) }
 {
     let live = most_live.saturating_sub(live.len() as u64);
