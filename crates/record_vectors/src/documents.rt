@@ -25,8 +25,9 @@ pub fn documents(alloc: Global, out: &mut String, rest: &str) -> Result<(), Vect
 }
 
 /// Limits of which those of documents count here.
-fn limits(live: u32, made: u32) -> Limits
-    ensures { result.made ≡ made }
+pub(crate) fn limits(live: u32, made: u32) -> Limits
+    ensures live { result.documents ≡ live }
+    ensures made { result.made ≡ made }
 {
     Limits {
         documents: u64::from(live),
@@ -101,7 +102,8 @@ fn put_step(
     }
 }
 
-fn path_of(alloc: Global, path: &str) -> Result<HostPath, VectorError> {
+/// A path on the host.
+pub(crate) fn path_of(alloc: Global, path: &str) -> Result<HostPath, VectorError> {
     given(alloc, HostPath::read(alloc, path.as_bytes()))
 }
 
@@ -128,7 +130,8 @@ fn add(
     put_found(alloc, out, Some(id))
 }
 
-fn document_of(alloc: Global, id: DocId, rest: &str) -> Result<Document, VectorError>
+/// A document with flags and a path.
+pub(crate) fn document_of(alloc: Global, id: DocId, rest: &str) -> Result<Document, VectorError>
     ensures { IfOk result (λ document. document.id ≡ id) }
 {
     let (flags, path) = cut(rest);

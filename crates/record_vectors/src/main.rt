@@ -8,6 +8,7 @@
 #![tactic(auto)]
 
 mod applications;
+mod commands;
 mod copies;
 mod documents;
 mod grants;
@@ -48,6 +49,7 @@ fn put_answer(alloc: Global, out: &mut String, line: &str) -> Result<(), VectorE
         "copy" => copies::copy(alloc, out, rest),
         "rights" | "all" | "none" => rights::rights_named(alloc, out, kind, rest),
         "documents" => documents::documents(alloc, out, rest),
+        "commands" => commands::commands(alloc, out, rest),
         "grants" => grants::grants(alloc, out, rest),
         "applications" => applications::applications(alloc, out, rest),
         "below" => namings::below(alloc, out, rest),
