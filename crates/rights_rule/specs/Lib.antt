@@ -1,4 +1,2 @@
-pub mod BitLaws
-pub mod Bits
 pub mod Rights
 pub mod Unknown

@@ -8,49 +8,76 @@ use std::alloc::Global;
 use std::marker::Model;
 
 /// A set of the four rights `read`, `write`, `grant-permissions` and `delete`.
-#[derive(Clone, Copy, Debug)]
+#[derive(Clone, Copy, Debug, PartialEq, Eq)]
 pub struct Rights {
-    /// A bit for each right, from the lowest on; the other four are 0.
-    bits: u8,
+    read: bool,
+    write: bool,
+    grant_permissions: bool,
+    delete: bool,
 }
 
 // Contracts see four truth values, whatever the code keeps.
 impl Model for Rights {
-    ghost use Rattle.std.specs.Prelude.{◌<◌};
     ghost use Rattle.rights_rule.specs.Rights.{RightSet};
-    ghost use Rattle.rights_rule.specs.Bits.{set_of, bits_of};
-    ghost use Rattle.rights_rule.specs.BitLaws.{bits-again};
 
     ghost Value = { RightSet };
 
-    ghost view = { λ a. set_of a.bits };
+    ghost view = { λ a. record {
+      read = a.read;
+      write = a.write;
+      grant_permissions = a.grant_permissions;
+      delete = a.delete;
+    } };
 
-    ghost invariant = { λ a. a.bits < 16 };
-
-    ghost inverse = { λ a. record { bits = bits_of a } };
-
-    ghost inverse_ok = { λ a h i. record { bits = bits-again a.bits h i } };
+    ghost inverse = { λ a. record {
+      read = a.read;
+      write = a.write;
+      grant_permissions = a.grant_permissions;
+      delete = a.delete;
+    } };
 }
 
 impl Rights {
     /// No right.
-    pub const NONE: Rights = Rights { bits: 0 };
+    pub const NONE: Rights = Rights {
+        read: false,
+        write: false,
+        grant_permissions: false,
+        delete: false,
+    };
 
     /// Every right.
-    pub const ALL: Rights = Rights { bits: 15 };
+    pub const ALL: Rights = Rights {
+        read: true,
+        write: true,
+        grant_permissions: true,
+        delete: true,
+    };
 
     // A single right is a set of one, so that a set is asked for it as for any other.
     /// To see the document and read its file.
-    pub const READ: Rights = Rights { bits: 1 };
+    pub const READ: Rights = Rights {
+        read: true,
+        ..Rights::NONE
+    };
 
     /// To write its file.
-    pub const WRITE: Rights = Rights { bits: 2 };
+    pub const WRITE: Rights = Rights {
+        write: true,
+        ..Rights::NONE
+    };
 
     /// To give rights that one has to others, and to take them.
-    pub const GRANT_PERMISSIONS: Rights = Rights { bits: 4 };
+    pub const GRANT_PERMISSIONS: Rights = Rights {
+        grant_permissions: true,
+        ..Rights::NONE
+    };
 
     /// To remove the document.
-    pub const DELETE: Rights = Rights { bits: 8 };
+    pub const DELETE: Rights = Rights {
+        delete: true,
+        ..Rights::NONE
+    };
 
     /// The set of no right.
     pub fn empty() -> Rights
@@ -78,7 +105,10 @@ impl Rights {
         ensures { result ≡ union self other }
     {
         Rights {
-            bits: self.bits | other.bits,
+            read: self.read || other.read,
+            write: self.write || other.write,
+            grant_permissions: self.grant_permissions || other.grant_permissions,
+            delete: self.delete || other.delete,
         }
     }
 
@@ -87,7 +117,10 @@ impl Rights {
         ensures { result ≡ minus self other }
     {
         Rights {
-            bits: self.bits & !other.bits,
+            read: self.read && !other.read,
+            write: self.write && !other.write,
+            grant_permissions: self.grant_permissions && !other.grant_permissions,
+            delete: self.delete && !other.delete,
         }
     }
 
@@ -95,27 +128,8 @@ impl Rights {
     pub fn is_empty(self) -> bool
         ensures { result ≡ is_no_right self }
     {
-        self.bits == 0
+        !(self.read || self.write || self.grant_permissions || self.delete)
     }
-}
-
-impl PartialEq for Rights {
-    ghost use Rattle.rights_rule.specs.Bits.{is_same_set};
-    ghost use Rattle.rights_rule.specs.BitLaws.{same_set_per};
-
-    ghost eq = { is_same_set };
-
-    ghost laws = { same_set_per };
-
-    fn eq(&self, other: &Rights) -> bool {
-        self.bits == other.bits
-    }
-}
-
-impl Eq for Rights {
-    ghost use Rattle.rights_rule.specs.BitLaws.{same_set_equiv};
-
-    ghost laws = { same_set_equiv };
 }
 
 impl Replica for Rights {
