@@ -1,1 +1,3 @@
 mod CountLemmas
+mod ListedCounts
+mod Runs

@@ -3,6 +3,7 @@
 ghost use Rattle.std.specs.Prelude.{◌≡◌, ℕ, ◌+◌, ◌-◌, ◌<◌, ◌≤◌, ◌^◌, [], IsOk, OnOk, OnErr, length, min};
 ghost use Rattle.inode_table.specs.Counts.{count_of, IsCountedAs, IsEmptied, most, AreCounts};
 
+use crate::forms::InodeForm;
 use indexmap::IndexMap;
 use portal_base::memory::WantOfMemory;
 use std::alloc::Global;
@@ -119,6 +120,26 @@ impl InodeTable {
         ensures room { self.old.room ≤ self.new.room }
     {
         leave_others(&mut self.counts, seat);
+    }
+}
+
+impl InodeForm for InodeTable {
+    ghost known = { λ a. count_of a.counts };
+
+    fn get(&self, seat: u32, node: u64) -> u64 {
+        InodeTable::get(self, seat, node)
+    }
+
+    fn remember(&mut self, seat: u32, node: u64) -> Result<(), WantOfMemory> {
+        InodeTable::remember(self, seat, node)
+    }
+
+    fn forget(&mut self, seat: u32, node: u64, count: u64) {
+        InodeTable::forget(self, seat, node, count);
+    }
+
+    fn leave(&mut self, seat: u32) {
+        InodeTable::leave(self, seat);
     }
 }
 

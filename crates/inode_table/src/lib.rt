@@ -9,6 +9,8 @@
 //! | Room | Holds |
 //! |---|---|
 //! | `inodes` | [`InodeTable`]: the counts by seat and node |
+//! | `forms` | [`InodeForm`] and its commands, which every form of the counts answers alike |
+//! | `laws` | the counts as a plain list |
 //!
 //! ```text
 //! inodes.reserve(1)?;
@@ -20,6 +22,9 @@
 //! of a node back.
 #![tactic(auto)]
 
+pub mod forms;
 pub mod inodes;
+pub mod laws;
 
+pub use forms::{InodeAnswer, InodeCommand, InodeForm, run_commands};
 pub use inodes::InodeTable;
