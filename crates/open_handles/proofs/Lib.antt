@@ -1,2 +1,7 @@
 mod OpenedLemmas
 mod WithinLimit
+mod RisingNumbers
+mod KeyedLemmas
+mod Shown
+mod Runs
+mod ListedLemmas

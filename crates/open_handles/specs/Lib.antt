@@ -1,2 +1,5 @@
 pub mod Opened
 pub mod HandleErrors
+pub mod Keyed
+pub mod Commands
+pub mod Listed

@@ -2,8 +2,10 @@
 
 ghost use Rattle.std.specs.Prelude.{◌≡◌, ℕ, [], IsOk, IfOk, OnOk, OnErr, IfErr, IfSome, option_copied, None, is_some, IsSome, IsSomeAnd};
 ghost use Rattle.open_handles.specs.Opened.{opened_on, handle_of, AtSeat, IsKept, Both, Enters, Leaves, Adds, Releases, Keeps, CanAdd};
+ghost use Rattle.open_handles.specs.Commands.{shown};
 ghost use Rattle.open_handles.specs.HandleErrors.{Refuses};
 
+use crate::forms::HandleForm;
 use crate::opened::{HandleError, SeatHandles};
 use indexmap::IndexMap;
 use portal_base::limits::Limits;
@@ -17,9 +19,9 @@ use std::marker::Model;
 pub struct Handles {
     alloc: Global,
     most: u64,
-    // A map by hashing finds an entry at once and can take room ahead, which std's ordered map
-    // can't; a slab would give the number of a closed handle again. Seats and handles are the
-    // portal's own numbers, so no caller picks them, and the hasher's seed may be fixed.
+    // A map by hashing finds a connection at once. Seats are the portal's own numbers, so no caller
+    // picks them, and the hasher's seed may be fixed. Each connection has its handles for itself,
+    // so that room taken on one is never used up by another, and all go with it at once.
     seats: IndexMap<u32, SeatHandles>,
 }
 
@@ -124,6 +126,26 @@ impl Handles {
         ensures rest { AtSeat Leaves self.old.seats self.new.seats seat }
     {
         self.seats.swap_remove(&seat);
+    }
+}
+
+impl HandleForm for Handles {
+    ghost connections = { λ a. shown a };
+
+    fn enter(&mut self, seat: u32) -> Result<(), WantOfMemory> {
+        Handles::enter(self, seat)
+    }
+
+    fn add(&mut self, seat: u32, handle: Handle) -> Result<u64, HandleError> {
+        Handles::add(self, seat, handle)
+    }
+
+    fn release(&mut self, seat: u32, fh: u64) -> Option<Handle> {
+        Handles::release(self, seat, fh)
+    }
+
+    fn leave(&mut self, seat: u32) {
+        Handles::leave(self, seat);
     }
 }
 

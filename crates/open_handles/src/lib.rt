@@ -11,6 +11,9 @@
 //! |---|---|
 //! | `handles` | [`Handles`]: the connections by seat |
 //! | `opened` | what one connection has open |
+//! | `keyed` | handles by their numbers, which are searched by halves |
+//! | `forms` | [`HandleForm`] and its commands, which every form of the handles answers alike |
+//! | `laws` | the handles as plain lists |
 //! | `open_flags` | the flags that a file is opened with, and whether who asks may |
 //!
 //! ```text
@@ -23,10 +26,14 @@
 //! FUSE_OPENDIR answer a number `fh`, by which later requests name the handle.
 #![tactic(auto)]
 
+pub mod forms;
 pub mod handles;
+mod keyed;
+pub mod laws;
 pub mod open_flags;
 mod opened;
 
+pub use forms::{HandleAnswer, HandleCommand, HandleForm, run_commands};
 pub use handles::Handles;
 pub use opened::HandleError;
 pub use portal_model::handle::Handle;

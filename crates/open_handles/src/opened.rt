@@ -4,7 +4,7 @@ ghost use Rattle.std.specs.Prelude.{◌≡◌, ℕ, ◌+◌, ◌-◌, ◌<◌, �
 ghost use Rattle.open_handles.specs.Opened.{AreNumbered, IsFresh, Adds, Releases, Keeps, CanAdd, handle_of};
 ghost use Rattle.open_handles.specs.HandleErrors.{Refuses};
 
-use indexmap::IndexMap;
+use crate::keyed::KeyedHandles;
 use portal_model::handle::Handle;
 use std::alloc::Global;
 use std::marker::Model;
@@ -26,22 +26,21 @@ pub enum HandleError {
 #[derive(Drop)]
 pub(crate) struct SeatHandles {
     last: u64,
-    handles: IndexMap<u64, Handle>,
+    handles: KeyedHandles,
 }
 
 impl Model for SeatHandles {
-    ghost use Rattle.indexmap.specs.IndexMap.{spare};
     ghost use Rattle.open_handles.specs.Opened.{Opened, AreNumbered};
 
     ghost Value = { Opened };
 
     ghost view = { λ a. record {
       last = a.last;
-      handles = a.handles.entries;
-      room = spare a.handles;
+      handles = a.handles.handles;
+      room = a.handles.room;
     } };
 
-    ghost invariant = { λ a. AreNumbered a.last a.handles.entries };
+    ghost invariant = { λ a. AreNumbered a.last a.handles.handles };
 }
 
 impl SeatHandles {
@@ -51,7 +50,7 @@ impl SeatHandles {
     {
         SeatHandles {
             last: 0,
-            handles: IndexMap::new(alloc),
+            handles: KeyedHandles::new(alloc),
         }
     }
 
@@ -60,7 +59,7 @@ impl SeatHandles {
         ensures handle { option_copied result ≡ handle_of (Some self.now) fh }
         ensures known { AreNumbered self.now.last self.now.handles }
     {
-        self.handles.get(&fh)
+        self.handles.get(fh)
     }
 
     /// The number of the next handle, under a limit of open ones.
@@ -86,7 +85,7 @@ impl SeatHandles {
         ensures kept { Keeps self.old self.new }
     {
         self.next(most)?;
-        if self.handles.reserve(1).is_err() {
+        if self.handles.reserve().is_err() {
             return Err(HandleError::Memory);
         }
         Ok(())
@@ -100,8 +99,8 @@ impl SeatHandles {
         ensures reserved { CanAdd most self.old → IsOk result }
     {
         let fh = self.next(most)?;
-        match self.handles.insert(fh, handle) {
-            Ok(_) => {
+        match self.handles.push(fh, handle) {
+            Ok(()) => {
                 self.last = fh;
                 Ok(fh)
             }
@@ -114,8 +113,6 @@ impl SeatHandles {
         ensures handle { result ≡ handle_of (Some self.old) fh }
         ensures rest { Releases fh self.old self.new }
     {
-        // The order of opening stays: those behind it move up, at most as many as a connection may
-        // have open.
-        self.handles.shift_remove(&fh)
+        self.handles.remove(fh)
     }
 }
