@@ -1,13 +1,13 @@
 -- Where an item is put into a list in rising order of keys.
-use Rattle.std.proofs.Common.{◌≡◌, ℕ, zero, suc, ◌+◌, ◌<◌, ◌≤◌, List, [], ◌∷◌, length, get_or, set, Bool, true, false, cond, refl, sym, ap, ◌∙◌, arith}
-use Rattle.std.specs.List.{insert, prefix_len, slice_get, list_all}
+use Rattle.std.proofs.Common.{◌≡◌, ℕ, zero, suc, ◌+◌, ◌<◌, ◌≤◌, List, [], ◌∷◌, length, get_or, set, Bool, true, false, cond, Some, None, refl, sym, ap, ◌∙◌, arith}
+use Rattle.std.specs.List.{find, insert, prefix_len, slice_get, list_all}
 use Rattle.std.specs.List.Sorted.{IsPartitionedBy, IsPartitionPoint}
 use Rattle.std.proofs.lemmas.List.Sums.{prefix_len_is}
 use Rattle.portal_base.specs.Names.{is_same}
 use Rattle.portal_model.specs.Ordered.{bytes_less, put, is_rising}
 use Rattle.portal_model.proofs.RisingLists.{Order}
 use Rattle.portal_model.proofs.TripleOrder.{is_same-eq, is_same-refl, bytes-irreflexive, bytes-total, bytes-through}
-use Rattle.permission_table.specs.Keys.{is_at_place}
+use Rattle.permission_table.specs.Keys.{is_at_place, item_if}
 
 pub bytes : Order bytes_less is_same
 bytes = record { eq = is_same-eq; itself = is_same-refl; irreflexive = bytes-irreflexive; total = bytes-total; through = bytes-through }
@@ -69,6 +69,40 @@ module _ {X : Type 0} (key : X → List ℕ) where
           set-more x y ys (place (key x) ys) ∙ (ap (λ (zs : List X). y ∷ zs) (more there)
           ∙ sym (ap (λ (b : Bool). cond b (x ∷ y ∷ ys) (y ∷ put less x ys)) (not-back (key y) (key x) l)))
       step false l h more = sym (ap (λ (b : Bool). cond b (x ∷ y ∷ ys) (x ∷ ys)) (not-ahead (key x) (key y) h))
+
+  apart-ahead : (a k : List ℕ) → bytes_less a k ≡ true → is_same a k ≡ false
+  apart-ahead a k l = step (is_same a k) refl
+    where
+      step : (b : Bool) → is_same a k ≡ b → b ≡ false
+      step false e = refl
+      step true e = let never : bytes_less a k ≡ false = ap (bytes_less a) (sym (is_same-eq a k e)) ∙ bytes-irreflexive a in cc
+
+  apart-after : (a b k : List ℕ) → bytes_less a k ≡ false → bytes_less a b ≡ true → is_same b k ≡ false
+  apart-after a b k n l = step (is_same b k) refl
+    where
+      step : (c : Bool) → is_same b k ≡ c → c ≡ false
+      step false e = refl
+      step true e = let never : bytes_less a k ≡ true = ap (bytes_less a) (sym (is_same-eq b k e)) ∙ l in cc
+
+  none-after : (k : List ℕ) (y : X) (ys : List X) → bytes_less (key y) k ≡ false → list_all (less y) ys ≡ true → find (λ x. is_same (key x) k) ys ≡ None
+  none-after k y [] n a = refl
+  none-after k y (z ∷ zs) n a =
+      let first : bytes_less (key y) (key z) ≡ true = grind arith in
+      ap (λ (b : Bool). cond b (Some z) (find (λ x. is_same (key x) k) zs)) (apart-after (key y) (key z) k n first) ∙ none-after k y zs n (grind arith)
+
+  -- the item of a key is the one at its place
+  pub found-in-order : (k : List ℕ) (xs : List X) → is_rising less xs ≡ true → item_if (λ x. is_same (key x) k) (slice_get xs (place k xs)) ≡ find (λ x. is_same (key x) k) xs
+  found-in-order k [] r = refl
+  found-in-order k (y ∷ ys) r = step (bytes_less (key y) k) refl (found-in-order k ys (grind arith))
+    where
+      step : (b : Bool) → bytes_less (key y) k ≡ b → item_if (λ x. is_same (key x) k) (slice_get ys (place k ys)) ≡ find (λ x. is_same (key x) k) ys
+          → item_if (λ x. is_same (key x) k) (slice_get (y ∷ ys) (cond b (1 + place k ys) 0)) ≡ cond (is_same (key y) k) (Some y) (find (λ x. is_same (key x) k) ys)
+      step true h more =
+          ap (item_if (λ x. is_same (key x) k)) (next-item y ys (place k ys))
+          ∙ (more ∙ ap (λ (b : Bool). cond b (Some y) (find (λ x. is_same (key x) k) ys)) (sym (apart-ahead (key y) k h)))
+      step false h more =
+          let rest : find (λ x. is_same (key x) k) ys ≡ None = none-after k y ys h (grind arith) in
+          λ i. cond (is_same (key y) k) (Some y) (sym rest i)
 
   each-of : (p : X → Bool) (xs : List X) (i : ℕ) (d : X) → i < length xs → list_all p xs ≡ true → p (get_or xs i d) ≡ true
   each-of p [] i d h a = absurd (omega arith)

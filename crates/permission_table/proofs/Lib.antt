@@ -11,3 +11,7 @@ pub mod HeldRecords
 pub mod IndexPlaces
 pub mod PlacesRise
 pub mod IndexedLists
+pub mod IndexedIds
+pub mod Runs
+pub mod CallArguments
+pub mod Told

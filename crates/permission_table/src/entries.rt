@@ -149,6 +149,7 @@ pub(crate) fn with_permissions(
 
 /// Says whether an application has a row in an entry.
 pub(crate) fn has_row(entry: &StoredEntry, app: &Text) -> bool
+    requires { is_rising row_less entry.now.rows ≡ true }
     ensures { result ≡ has_row app.now entry.now }
 {
     row_of(entry.rows.as_slice(), app).is_some()

@@ -1,10 +1,14 @@
 //! The places of entries, by table and identifier.
 
-ghost use Rattle.std.specs.Prelude.{◌≡◌, ℕ, List, cond, Some, None, OnOk, OnErr};
-ghost use Rattle.std.specs.BTreeMap.{get_by_text};
+ghost use Rattle.std.specs.Prelude.{◌≡◌, ℕ, List, map, true, cond, Some, None, is_some, string_bytes, IfOk, OnOk, OnErr};
+ghost use Rattle.std.specs.BTreeMap.{IsOrdered, get_by_text, keys};
+ghost use Rattle.std.specs.List.{list_any};
+ghost use Rattle.std.specs.String.{string_cmp};
 ghost use Rattle.portal_base.specs.Names.{is_same};
+ghost use Rattle.portal_model.specs.Ordered.{bytes_less, is_rising};
 ghost use Rattle.permission_table.specs.EntryIndex.{KeepPlaces, Places, place_in};
 
+use portal_base::list::List;
 use portal_base::memory::WantOfMemory;
 use portal_base::text::Text;
 use std::alloc::Global;
@@ -37,6 +41,18 @@ impl EntryIndex {
     {
         let ids = self.tables.get(table.as_str())?;
         ids.get(id.as_str()).copied()
+    }
+
+    /// The identifiers of a table, in byte order: as many steps as there are.
+    pub(crate) fn ids(&self, alloc: Global, table: &Text) -> Result<List<Text>, WantOfMemory>
+        ensures rises { IfOk result (λ ids. is_rising bytes_less ids ≡ true) }
+        ensures same { IfOk result (λ ids. (id : List ℕ) → list_any (λ text. is_same text id) ids
+            ≡ is_some (place_in self.now.tables table.now id)) }
+    {
+        match self.tables.get(table.as_str()) {
+            Some(ids) => texts_of(alloc, ids),
+            None => Ok(List::new(alloc)),
+        }
     }
 
     /// Gives a table and an identifier a place.
@@ -84,4 +100,17 @@ fn insert_id(ids: &mut IdPlaces, id: Text, place: usize) -> Result<(), WantOfMem
 {
     ids.insert(id.into_string(), place)?;
     Ok(())
+}
+
+/// The identifiers of a table that have a place.
+fn texts_of(alloc: Global, ids: &IdPlaces) -> Result<List<Text>, WantOfMemory>
+    ensures texts { IfOk result (λ texts. texts ≡ map string_bytes (keys ids.now)) }
+    ensures ordered { OnOk result (IsOrdered string_cmp ids.now) }
+{
+    let mut texts = List::new(alloc);
+    for id in ids.keys() {
+        let text = Text::copied(alloc, id.as_str())?;
+        texts.push(text)?;
+    }
+    Ok(texts)
 }

@@ -3,7 +3,7 @@
 ghost use Rattle.std.specs.Prelude.{◌≡◌, [], ◌∷◌, ◌++◌, false, true, nat_lt, IfOk, OnOk, OnErr, option_copied, slice_get};
 ghost use Rattle.std.specs.List.{IsDistinct, list_all, list_any, position, prefix_len};
 ghost use Rattle.portal_model.specs.Ordered.{is_rising};
-ghost use Rattle.portal_model.specs.Store.{entry_of, is_entry_of, put_entry, without_entry};
+ghost use Rattle.portal_model.specs.Store.{entry_of, ids_of, is_entry_of, put_entry, without_entry};
 ghost use Rattle.portal_model.specs.Valid.{same_entry};
 ghost use Rattle.permission_table.specs.Tables.{restored};
 
@@ -85,6 +85,13 @@ impl IndexedEntries {
     {
         let at = self.position(table, id)?;
         entry_at(&self.entries, at)
+    }
+
+    /// The identifiers of a table, in byte order: as many steps as there are.
+    pub(crate) fn ids(&self, table: &Text) -> Result<List<Text>, WantOfMemory>
+        ensures { IfOk result (λ ids. ids ≡ ids_of table.now self.now) }
+    {
+        self.index.ids(self.alloc, table)
     }
 
     /// Puts an entry in place of that of its table and identifier, or else behind

@@ -1,4 +1,5 @@
-//! Laws of the tables, for the crates above.
+//! Laws of the tables, for the crates above, and the tables as a plain list, which
+//! answers calls as [`Tables`](crate::Tables) do.
 //!
 //! Each function does nothing; its contract is the law.
 
@@ -11,6 +12,11 @@ ghost use Rattle.portal_model.specs.Rows.{are_rows, is_row_of, permissions_of, s
 ghost use Rattle.portal_model.specs.Store.{Entries, can_be_told, put_entry, record_of, without_entry, without_permissions};
 ghost use Rattle.portal_model.specs.Valid.{is_valid_entry, same_entry};
 ghost use Rattle.permission_table.specs.Tables.{AreEntries, former_of, put_back};
+
+mod entries;
+mod listed;
+
+pub use listed::ListedTables;
 
 /// An entry that was put is taken back by what it had before.
 pub fn what_was_put_is_taken_back()

@@ -15,7 +15,8 @@
 //! | `entries` | what becomes of one entry, and which identifiers a table has |
 //! | `rows` | the rows of one entry |
 //! | `ordered` | lists in byte order of their keys |
-//! | `laws` | what is true of rows, of what can be told, of records, and of calls that are taken back |
+//! | `forms` | [`TableForm`] and its commands, which every form of the tables answers alike |
+//! | `laws` | the tables as a plain list; what is true of rows, of what can be told, of records, and of calls that are taken back |
 //!
 //! ```text
 //! let mut tables = Tables::new(alloc);
@@ -29,6 +30,7 @@
 #![tactic(auto)]
 
 mod entries;
+pub mod forms;
 mod index;
 mod indexed;
 pub mod laws;
@@ -36,6 +38,7 @@ mod ordered;
 mod rows;
 mod tables;
 
+pub use forms::{TableAnswer, TableCommand, TableForm, run_commands};
 pub use portal_model::reply::Change;
 pub use portal_model::store::{StoreAnswer, StoreError, StoredEntry, TableEntry};
 pub use tables::Tables;

@@ -86,8 +86,8 @@ pub(crate) fn put_in_order<T: Keyed + Drop>(items: &mut Vec<T>, item: T) -> Resu
     Ok(())
 }
 
-/// The place where an item of a key stands, or would.
-fn place_of<T: Keyed>(items: &[T], key: &[u8]) -> usize
+/// The place where an item of a key stands, or would, in about log n steps among n.
+pub(crate) fn place_of<T: Keyed>(items: &[T], key: &[u8]) -> usize
     requires { is_rising (λ a b. bytes_less (T.key_of a) (T.key_of b)) items.now ≡ true }
     ensures { result ≡ prefix_len (λ x. bytes_less (T.key_of x) key.now) items.now }
 {

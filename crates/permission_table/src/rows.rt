@@ -1,11 +1,12 @@
 //! The rows of an entry.
 
-ghost use Rattle.std.specs.Prelude.{◌≡◌, true, not, IfOk, option_copied, is_some};
+ghost use Rattle.std.specs.Prelude.{◌≡◌, true, not, IfOk, option_copied, slice_get};
 ghost use Rattle.std.specs.List.{filter};
 ghost use Rattle.portal_model.specs.Ordered.{is_rising};
 ghost use Rattle.portal_model.specs.Rows.{is_row_of, row_less, row_of, has_names, stored_rows, with_row, without_row, permissions_of};
+ghost use Rattle.permission_table.specs.Keys.{item_if};
 
-use crate::ordered::{put_in_order, sort_stably};
+use crate::ordered::{place_of, put_in_order, sort_stably};
 use portal_base::list::List;
 use portal_base::memory::{Replica, WantOfMemory};
 use portal_base::text::Text;
@@ -62,11 +63,22 @@ pub(crate) fn without_row(rows: List<Row>, app: &Text) -> List<Row>
     List::from_vec(rows)
 }
 
-/// The row of an application.
+/// The row of an application, in about log n steps among n.
 pub(crate) fn row_of<'a>(rows: &'a [Row], app: &Text) -> Option<&'a Row>
+    requires { is_rising row_less rows.now ≡ true }
     ensures { option_copied result ≡ row_of rows.now app.now }
 {
-    rows.iter().find(|row| is_row_of(row, app))
+    row_at(rows, place_of(rows, app.as_bytes()), app)
+}
+
+/// The row at a place, where it is of an application.
+fn row_at<'a>(rows: &'a [Row], at: usize, app: &Text) -> Option<&'a Row>
+    ensures { option_copied result ≡ item_if (is_row_of app.now) (slice_get rows.now at) }
+{
+    match rows.get(at) {
+        Some(row) => { if is_row_of(row, app) { Some(row) } else { None } }
+        None => None,
+    }
 }
 
 /// The permissions of an application.
@@ -75,6 +87,7 @@ pub(crate) fn permissions_of(
     rows: &[Row],
     app: &Text,
 ) -> Result<List<Text>, WantOfMemory>
+    requires { is_rising row_less rows.now ≡ true }
     ensures { IfOk result (λ names. names ≡ permissions_of rows.now app.now) }
 {
     match row_of(rows, app) {

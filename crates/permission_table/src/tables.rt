@@ -8,9 +8,10 @@ ghost use Rattle.portal_model.specs.Valid.{is_text};
 ghost use Rattle.permission_table.specs.Tables.{AreEntries, Gives, IsFormer, IsHeld, IsSound, IsSoundDatum, former_of, have_texts, put_back};
 
 use crate::entries::{
-    answer_of, change_of, content_of, entry_to_set, has_row, ids_of, with_content, with_datum,
+    answer_of, change_of, content_of, entry_to_set, has_row, with_content, with_datum,
     with_permissions, without_permissions,
 };
+use crate::forms::TableForm;
 use crate::indexed::IndexedEntries;
 use crate::rows::{permissions_of, stored_rows};
 use portal_base::list::List;
@@ -229,8 +230,7 @@ impl Tables {
     pub fn list(&self, table: &Text) -> Result<StoreAnswer, StoreError>
         ensures { Gives (list self.now table.now) self.now self.now result }
     {
-        let ids = ids_of(self.alloc, self.entries.as_slice(), table)?;
-        Ok(StoreAnswer::Names(ids))
+        Ok(StoreAnswer::Names(self.entries.ids(table)?))
     }
 
     /// What an entry has, to be put back once a call has changed it: nothing where
@@ -283,5 +283,71 @@ impl Tables {
         let change = change_of(false, entry.replica(self.alloc)?);
         self.entries.put(entry)?;
         Ok(StoreAnswer::Done(change))
+    }
+}
+
+impl TableForm for Tables {
+    ghost entries = { λ a. a };
+
+    fn lookup(&self, table: &Text, id: &Text) -> Result<StoreAnswer, StoreError> {
+        Tables::lookup(self, table, id)
+    }
+
+    fn set(
+        &mut self,
+        table: &Text,
+        create: bool,
+        id: &Text,
+        rows: &List<Row>,
+        datum: &Datum,
+    ) -> Result<StoreAnswer, StoreError> {
+        Tables::set(self, table, create, id, rows, datum)
+    }
+
+    fn delete(&mut self, table: &Text, id: &Text) -> Result<StoreAnswer, StoreError> {
+        Tables::delete(self, table, id)
+    }
+
+    fn set_value(
+        &mut self,
+        table: &Text,
+        create: bool,
+        id: &Text,
+        datum: &Datum,
+    ) -> Result<StoreAnswer, StoreError> {
+        Tables::set_value(self, table, create, id, datum)
+    }
+
+    fn set_permission(
+        &mut self,
+        table: &Text,
+        create: bool,
+        id: &Text,
+        app: &Text,
+        names: &List<Text>,
+    ) -> Result<StoreAnswer, StoreError> {
+        Tables::set_permission(self, table, create, id, app, names)
+    }
+
+    fn delete_permission(
+        &mut self,
+        table: &Text,
+        id: &Text,
+        app: &Text,
+    ) -> Result<StoreAnswer, StoreError> {
+        Tables::delete_permission(self, table, id, app)
+    }
+
+    fn get_permission(
+        &self,
+        table: &Text,
+        id: &Text,
+        app: &Text,
+    ) -> Result<StoreAnswer, StoreError> {
+        Tables::get_permission(self, table, id, app)
+    }
+
+    fn list(&self, table: &Text) -> Result<StoreAnswer, StoreError> {
+        Tables::list(self, table)
     }
 }
