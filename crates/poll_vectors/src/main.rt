@@ -7,11 +7,16 @@
 #![tactic(auto)]
 
 mod alike;
+mod beside;
 mod client;
 mod cuts;
+mod dice;
+mod log;
 mod outside;
+mod poll;
 mod polled;
 mod served;
+mod steps;
 
 use futures::test::MockTask;
 use std::alloc::Global;
@@ -32,7 +37,8 @@ fn main(rt: HostRuntime) -> io::Result<()> {
 fn answer(task: &MockTask, alloc: Global, line: &str) -> Result<String, VectorError> {
     let (kind, rest) = cut(line);
     match kind {
-        "poll" => polled::poll(task, alloc, rest),
+        "poll" => poll::poll(task, alloc, rest),
+        "beside" => beside::beside(task, alloc, rest),
         "cuts" => cuts::cuts(task, alloc, rest),
         "alike" => alike::alike(task, alloc, rest),
         _ => bad(),

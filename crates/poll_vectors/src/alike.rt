@@ -1,0 +1,139 @@
+//! Random streams, each of which is served and polled.
+
+use crate::client::{Manner, Sender, sender, words};
+use crate::cuts::is_same;
+use crate::dice::Dice;
+use crate::served::served;
+use crate::steps::Steps;
+use futures::test::MockTask;
+use portal_base::list::{ByteList, List};
+use session::act::Client;
+use std::alloc::Global;
+use vector_lines::error::VectorError;
+use vector_lines::notation::{bytes, cut, number};
+
+/// `alike SEED COUNT WHO KIND OPTIONS BYTES | ITEM | ITEM ..`: how many of so many random
+/// streams come to the same, each served by `serve_connection` and polled in a random
+/// manner. A stream is the bytes and up to seven of the items behind them; now and then its
+/// end is missing, or one of its bytes is another. The option is `limit`, as `client` says.
+pub fn alike(task: &MockTask, alloc: Global, rest: &str) -> Result<String, VectorError> {
+    let (seed, rest) = cut(rest);
+    let (count, rest) = cut(rest);
+    let mut dice = Dice::new(number(seed)?);
+    let count = number(count)?;
+    let (line, items) = rest.split_once('|').unwrap_or((rest, ""));
+    let sender = sender(alloc, &words(line))?;
+    let alike = alike_by(task, alloc, &sender, items, &mut dice, count)?;
+    Ok(format!(in alloc; "{alike} of {count} alike")?)
+}
+
+/// How many of so many streams of a client come to the same.
+fn alike_by(
+    task: &MockTask,
+    alloc: Global,
+    sender: &Sender,
+    items: &str,
+    dice: &mut Dice,
+    count: u64,
+) -> Result<u64, VectorError> {
+    let items = items_of(alloc, items)?;
+    let mut alike = 0u64;
+    for _ in 0..count {
+        if is_next_alike(task, alloc, sender, items.as_slice(), dice)? {
+            alike = alike.saturating_add(1);
+        }
+    }
+    Ok(alike)
+}
+
+/// The items of a line.
+fn items_of(alloc: Global, words: &str) -> Result<List<ByteList>, VectorError> {
+    let mut items = List::new(alloc);
+    for item in words.split('|') {
+        items.push(bytes(alloc, item)?)?;
+    }
+    Ok(items)
+}
+
+/// Whether the next stream comes to the same.
+fn is_next_alike(
+    task: &MockTask,
+    alloc: Global,
+    sender: &Sender,
+    items: &[ByteList],
+    dice: &mut Dice,
+) -> Result<bool, VectorError> {
+    let stream = stream(alloc, dice, sender.bytes.as_slice(), items)?;
+    let manner = any_manner(dice);
+    is_alike(task, alloc, &sender.client, stream.as_slice(), &manner)
+}
+
+/// Whether a connection comes to the same, served and polled.
+fn is_alike(
+    task: &MockTask,
+    alloc: Global,
+    client: &Client,
+    bytes: &[u8],
+    manner: &Manner<'_>,
+) -> Result<bool, VectorError> {
+    let waited = served(alloc, client, bytes)?;
+    is_same(task, alloc, client, bytes, manner, &waited)
+}
+
+/// A random stream.
+fn stream(
+    alloc: Global,
+    dice: &mut Dice,
+    front: &[u8],
+    items: &[ByteList],
+) -> Result<ByteList, VectorError> {
+    let mut bytes = List::copied(alloc, front)?;
+    for _ in 0..dice.below(8) {
+        if let Some(item) = items.get(dice.below(items.len() as u64) as usize) {
+            bytes.extend_from_slice(item.as_slice())?;
+        }
+    }
+    broken(alloc, dice, bytes)
+}
+
+/// The bytes as they are, or without their end, or with another byte among them.
+fn broken(alloc: Global, dice: &mut Dice, bytes: ByteList) -> Result<ByteList, VectorError> {
+    let all = bytes.as_slice();
+    let at = dice.below(all.len() as u64) as usize;
+    let (front, back) = all.split_at(at.min(all.len()));
+    match dice.below(4) {
+        0 => Ok(List::copied(alloc, front)?),
+        1 => spoiled(alloc, front, dice.below(256) as u8, back),
+        _ => Ok(bytes),
+    }
+}
+
+/// The bytes in front, a byte, and those at the back but for the first.
+fn spoiled(alloc: Global, front: &[u8], byte: u8, back: &[u8]) -> Result<ByteList, VectorError> {
+    let mut bytes = List::copied(alloc, front)?;
+    bytes.push(byte)?;
+    if let [_, rest @ ..] = back {
+        bytes.extend_from_slice(rest)?;
+    }
+    Ok(bytes)
+}
+
+/// A random manner. No call fails, and the desk isn't busy at each try, since it would
+/// never answer.
+fn any_manner<'a>(dice: &mut Dice) -> Manner<'a> {
+    let busy = match dice.below(4) {
+        0 => 0,
+        every => every + 1,
+    };
+    Manner {
+        reads: any_steps(dice, 200),
+        writes: any_steps(dice, 50),
+        busy,
+    }
+}
+
+/// Random steps.
+fn any_steps<'a>(dice: &mut Dice, most: u64) -> Steps<'a> {
+    let seed = dice.below(u64::MAX);
+    Steps::Drawn(Dice::new(seed), 1 + dice.below(most))
+}

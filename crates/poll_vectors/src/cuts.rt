@@ -1,0 +1,107 @@
+//! A stream that comes in two pieces, cut anywhere.
+
+use crate::client::{Manner, Sender, manner, sender, words};
+use crate::log::{Log, put_written};
+use crate::polled::polled;
+use crate::served::{Came, same, served};
+use crate::steps::Steps;
+use futures::test::MockTask;
+use session::act::Client;
+use std::alloc::Global;
+use std::cell::Cell;
+use vector_lines::error::VectorError;
+
+/// `cuts WHO KIND OPTIONS BYTES`: how a connection ends that gets the bytes, how many
+/// entries the history has then, and the bytes that were written, where there are any; it
+/// is served by `serve_connection`, and polled once for each cut of the bytes in two,
+/// between which there is nothing yet, and what it comes to is the same. The options are
+/// those of `client`, but for `read`.
+pub fn cuts(task: &MockTask, alloc: Global, rest: &str) -> Result<String, VectorError> {
+    let words = words(rest);
+    let sender = sender(alloc, &words)?;
+    cuts_by(task, alloc, &sender, words.options)
+}
+
+/// The same of a client that sends bytes.
+fn cuts_by(
+    task: &MockTask,
+    alloc: Global,
+    sender: &Sender,
+    options: &str,
+) -> Result<String, VectorError> {
+    let manner = manner(options)?;
+    let bytes = sender.bytes.as_slice();
+    let waited = served(alloc, &sender.client, bytes)?;
+    match odd_cut(task, alloc, &sender.client, bytes, &manner, &waited)? {
+        Some(at) => Ok(format!(in alloc; "not the same, cut at {at}")?),
+        None => told(alloc, &waited, bytes.len()),
+    }
+}
+
+/// What a connection came to, wherever its bytes were cut.
+fn told(alloc: Global, came: &Came, len: usize) -> Result<String, VectorError> {
+    let ending = came.served;
+    let entries = came.entries;
+    let mut told = format!(in alloc; "{ending:?}, {entries} entries, cut anywhere in {len} bytes")?;
+    put_written(alloc, &mut told, came.written.as_slice())?;
+    Ok(told)
+}
+
+/// The first cut at which a connection comes to something else.
+fn odd_cut(
+    task: &MockTask,
+    alloc: Global,
+    client: &Client,
+    bytes: &[u8],
+    manner: &Manner<'_>,
+    waited: &Came,
+) -> Result<Option<usize>, VectorError> {
+    for at in 0..=bytes.len() {
+        if !is_same_cut(task, alloc, client, bytes, manner, at, waited)? {
+            return Ok(Some(at));
+        }
+    }
+    Ok(None)
+}
+
+/// Whether a connection comes to the same whose bytes are cut here.
+fn is_same_cut(
+    task: &MockTask,
+    alloc: Global,
+    client: &Client,
+    bytes: &[u8],
+    manner: &Manner<'_>,
+    at: usize,
+    waited: &Came,
+) -> Result<bool, VectorError> {
+    let text = cut_at(alloc, at)?;
+    let manner = Manner {
+        reads: Steps::Told(text.as_str()),
+        writes: manner.writes,
+        busy: manner.busy,
+    };
+    is_same(task, alloc, client, bytes, &manner, waited)
+}
+
+/// The steps of a cut.
+fn cut_at(alloc: Global, at: usize) -> Result<String, VectorError> {
+    if at == 0 {
+        return Ok(format!(in alloc; "!")?);
+    }
+    Ok(format!(in alloc; "{at}.!")?)
+}
+
+/// Whether a connection that is polled so comes to the same.
+pub fn is_same(
+    task: &MockTask,
+    alloc: Global,
+    client: &Client,
+    bytes: &[u8],
+    manner: &Manner<'_>,
+    waited: &Came,
+) -> Result<bool, VectorError> {
+    let written = Cell::new(0);
+    let mut log = Log::new(alloc, &written);
+    let other = polled(task, alloc, client, bytes, manner, &mut log)?;
+    Ok(same(waited, &other))
+}
