@@ -3,6 +3,7 @@
 ghost use Rattle.std.specs.Prelude.{◌≡◌, [], false, IfOk};
 ghost use Rattle.poll_vectors.specs.Seats.{IsFree};
 ghost use Rattle.portal_model.specs.Seated.{is_open, state_seen};
+ghost use Rattle.turn_desk.specs.Deals.{IsDealt};
 
 use crate::client::{Manner, SCRIPT, Sender, Words, copy_of, limits_for, manner, sender, words};
 use crate::log::Log;
@@ -131,6 +132,7 @@ fn copies(alloc: Global, senders: &Senders) -> Result<Clients, VectorError> {
 }
 
 /// Polls both over a portal that has no connection yet.
+#[tactic(auto, using(crate::proofs::Closed::free_dealt))]
 fn both_over<S: Storied + Drop>(
     task: &MockTask,
     alloc: Global,
@@ -142,6 +144,7 @@ fn both_over<S: Storied + Drop>(
 ) -> Result<(), VectorError>
     requires { S.entries portal ≡ [] }
 {
+    portal.known();
     match seats(alloc, portal) {
         Ok(seats) => both_at(task, alloc, seats, clients, senders, manners, log),
         Err(portal) => {
@@ -152,14 +155,15 @@ fn both_over<S: Storied + Drop>(
     }
 }
 
-/// The seats of a portal that has no connection yet, or the portal where there is no memory.
+/// The seats of a portal, or the portal where there is no memory.
 fn seats<S: Storied>(alloc: Global, portal: S) -> Result<Seats<S>, S>
-    requires { S.entries portal ≡ [] }
-    ensures first { IfOk result (λ s. IsFree s.turn.table s.first) }
-    ensures second { IfOk result (λ s. IsFree s.turn.table s.second) }
-    ensures looker { IfOk result (λ s. IsFree s.turn.table s.looker) }
+    ensures first { IfOk result (λ s. IsDealt s.turn.table (S.opening portal) (S.entries portal)
+        3 1 s.first) }
+    ensures second { IfOk result (λ s. IsDealt s.turn.table (S.opening portal) (S.entries portal)
+        0 2 s.second) }
+    ensures looker { IfOk result (λ s. IsDealt s.turn.table (S.opening portal) (S.entries portal)
+        0 3 s.looker) }
 {
-    portal.known();
     match Turn::start(alloc, portal, 3) {
         Ok(started) => {
             let Started { turn, mut passes } = started;

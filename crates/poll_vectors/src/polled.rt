@@ -52,6 +52,7 @@ pub fn polled(
 }
 
 /// The same over a portal that has no connection yet.
+#[tactic(auto, using(crate::proofs::Closed::none_open))]
 fn polled_over<S: Storied + Drop>(
     task: &MockTask,
     alloc: Global,

@@ -67,6 +67,7 @@ pub fn served(alloc: Global, client: &Client, bytes: &[u8]) -> Result<Came, Vect
 }
 
 /// The same over a portal that has no connection yet.
+#[tactic(auto, using(crate::proofs::Closed::none_open))]
 fn served_over<S: Storied + Drop>(
     alloc: Global,
     portal: S,
