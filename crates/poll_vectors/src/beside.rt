@@ -42,13 +42,12 @@ struct Manners<'a> {
     second: Manner<'a>,
 }
 
-/// A turn of three seats: one for each of two connections, and one that looks on.
+/// A turn, and the passes of its two seats.
 #[derive(Drop)]
 struct Seats<S: Storied> {
     turn: Turn<S>,
     first: Pass<S>,
     second: Pass<S>,
-    looker: Pass<S>,
 }
 
 /// What two connections came to.
@@ -60,10 +59,9 @@ struct Halves {
 
 /// `beside WHO KIND OPTIONS BYTES | WHO KIND OPTIONS BYTES`: what each poll of two
 /// connections of one portal answers, each of which gets its bytes, until both are over,
-/// and behind it how many bytes both wrote; how each ended; how many entries the history
-/// has then; and the bytes that were written on each, where there are any. In each poll the
-/// first goes as far as it can without waiting, and then the second. The options are those
-/// of `client`; the first one's limit is that of the portal.
+/// and behind it how many bytes both wrote; and the bytes that were written on each, where
+/// there are any. In each poll the first goes as far as it can without waiting, and then the
+/// second. The options are those of `client`; the first one's limit is that of the portal.
 pub fn beside(task: &MockTask, alloc: Global, rest: &str) -> Result<String, VectorError> {
     let (one, other) = rest.split_once(" | ").unwrap_or((rest, ""));
     let (one, other) = (words(one), words(other));
@@ -158,23 +156,19 @@ fn both_over<S: Storied + Drop>(
 /// The seats of a portal, or the portal where there is no memory.
 fn seats<S: Storied>(alloc: Global, portal: S) -> Result<Seats<S>, S>
     ensures first { IfOk result (λ s. IsDealt s.turn.table (S.opening portal) (S.entries portal)
-        3 1 s.first) }
+        2 1 s.first) }
     ensures second { IfOk result (λ s. IsDealt s.turn.table (S.opening portal) (S.entries portal)
         0 2 s.second) }
-    ensures looker { IfOk result (λ s. IsDealt s.turn.table (S.opening portal) (S.entries portal)
-        0 3 s.looker) }
 {
-    match Turn::start(alloc, portal, 3) {
+    match Turn::start(alloc, portal, 2) {
         Ok(started) => {
             let Started { turn, mut passes } = started;
-            let looker = passes.pop().unwrap();
             let second = passes.pop().unwrap();
             let first = passes.pop().unwrap();
             Ok(Seats {
                 turn,
                 first,
                 second,
-                looker,
             })
         }
         Err(TurnError::Memory { portal }) => Err(portal),
@@ -193,22 +187,17 @@ fn both_at<S: Storied + Drop>(
 ) -> Result<(), VectorError>
     requires first { IsFree seats.turn.table seats.first }
     requires second { IsFree seats.turn.table seats.second }
-    requires looker { IsFree seats.turn.table seats.looker }
 {
     let Seats {
         turn,
         first,
         second,
-        looker,
     } = seats;
     let (one, other) = (first.sit(&turn), second.sit(&turn));
     let halves = both_polled(task, alloc, one, other, clients, senders, manners, log);
-    let mut looker = looker.sit(&turn);
-    let entries = looker.front();
-    drop(looker);
     drop(turn);
     match halves {
-        Ok(halves) => put_halves(alloc, log, &halves, entries),
+        Ok(halves) => put_halves(alloc, log, &halves),
         Err(error) => Err(error),
     }
 }
@@ -243,18 +232,12 @@ fn both_polled<D: TryDesk + Drop>(
 }
 
 /// Puts what both came to.
-fn put_halves(
-    alloc: Global,
-    log: &mut Log<'_>,
-    halves: &Halves,
-    entries: u64,
-) -> Result<(), VectorError> {
+fn put_halves(alloc: Global, log: &mut Log<'_>, halves: &Halves) -> Result<(), VectorError> {
     let (one, other) = (halves.first.served, halves.second.served);
     log.put(
         alloc,
         format!(in alloc; "Ready({one:?}, {other:?})")?.as_str(),
     )?;
-    log.put_entries(alloc, entries)?;
     log.put_bytes(alloc, &halves.first.written)?;
     log.put_bytes(alloc, &halves.second.written)
 }

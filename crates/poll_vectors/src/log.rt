@@ -38,7 +38,6 @@ impl<'a> Log<'a> {
             self.text
                 .push_str(format!(in alloc; " wrote {bytes}")?.as_str())?;
         }
-        self.text.push_str(", ")?;
         Ok(())
     }
 
@@ -47,13 +46,15 @@ impl<'a> Log<'a> {
         if !task.is_woken() {
             return bad();
         }
-        self.put(alloc, "Pending")
+        self.put(alloc, "Pending")?;
+        self.text.push_str(", ")?;
+        Ok(())
     }
 
     /// Puts how many entries a history has.
     pub fn put_entries(&mut self, alloc: Global, entries: u64) -> Result<(), VectorError> {
         self.text
-            .push_str(format!(in alloc; "{entries} entries")?.as_str())?;
+            .push_str(format!(in alloc; ", {entries} entries")?.as_str())?;
         Ok(())
     }
 
