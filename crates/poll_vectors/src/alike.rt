@@ -1,6 +1,6 @@
 //! Random streams, each of which is served and polled.
 
-use crate::client::{Manner, Sender, sender, words};
+use crate::client::{Manner, Sender, sender_of, words_of};
 use crate::cuts::is_same;
 use crate::dice::Dice;
 use crate::served::served;
@@ -22,7 +22,7 @@ pub fn alike(task: &MockTask, alloc: Global, rest: &str) -> Result<String, Vecto
     let mut dice = Dice::new(number(seed)?);
     let count = number(count)?;
     let (line, items) = rest.split_once('|').unwrap_or((rest, ""));
-    let sender = sender(alloc, &words(line))?;
+    let sender = sender_of(alloc, &words_of(line))?;
     let alike = alike_by(task, alloc, &sender, items, &mut dice, count)?;
     Ok(format!(in alloc; "{alike} of {count} alike")?)
 }

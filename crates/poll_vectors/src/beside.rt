@@ -5,9 +5,11 @@ ghost use Rattle.poll_vectors.specs.Seats.{IsFree};
 ghost use Rattle.portal_model.specs.Seated.{is_open, state_seen};
 ghost use Rattle.turn_desk.specs.Deals.{IsDealt};
 
-use crate::client::{Manner, SCRIPT, Sender, Words, copy_of, limits_for, manner, sender, words};
+use crate::client::{
+    Manner, SCRIPT, Sender, Words, copy_of, limits_for, manner_of, sender_of, words_of,
+};
 use crate::log::Log;
-use crate::polled::{connection, half, until_over};
+use crate::polled::{connect, half_of, until_over};
 use crate::served::Half;
 use futures::future::join;
 use futures::test::MockTask;
@@ -64,15 +66,15 @@ struct Halves {
 /// second. The options are those of `client`; the first one's limit is that of the portal.
 pub fn beside(task: &MockTask, alloc: Global, rest: &str) -> Result<String, VectorError> {
     let (one, other) = rest.split_once(" | ").unwrap_or((rest, ""));
-    let (one, other) = (words(one), words(other));
-    let senders = senders(alloc, &one, &other)?;
+    let (one, other) = (words_of(one), words_of(other));
+    let senders = senders_of(alloc, &one, &other)?;
     beside_by(task, alloc, &senders, one.options, other.options)
 }
 
 /// The clients of a line, and what they send.
-fn senders(alloc: Global, one: &Words<'_>, other: &Words<'_>) -> Result<Senders, VectorError> {
-    let first = sender(alloc, one)?;
-    match sender(alloc, other) {
+fn senders_of(alloc: Global, one: &Words<'_>, other: &Words<'_>) -> Result<Senders, VectorError> {
+    let first = sender_of(alloc, one)?;
+    match sender_of(alloc, other) {
         Ok(second) => Ok(Senders { first, second }),
         Err(error) => {
             drop(first);
@@ -90,8 +92,8 @@ fn beside_by(
     other: &str,
 ) -> Result<String, VectorError> {
     let manners = Manners {
-        first: manner(one)?,
-        second: manner(other)?,
+        first: manner_of(one)?,
+        second: manner_of(other)?,
     };
     let written = Cell::new(0);
     let mut log = Log::new(alloc, &written);
@@ -143,7 +145,7 @@ fn both_over<S: Storied + Drop>(
     requires { S.entries portal ≡ [] }
 {
     portal.known();
-    match seats(alloc, portal) {
+    match seats_of(alloc, portal) {
         Ok(seats) => both_at(task, alloc, seats, clients, senders, manners, log),
         Err(portal) => {
             drop(portal);
@@ -154,7 +156,7 @@ fn both_over<S: Storied + Drop>(
 }
 
 /// The seats of a portal, or the portal where there is no memory.
-fn seats<S: Storied>(alloc: Global, portal: S) -> Result<Seats<S>, S>
+fn seats_of<S: Storied>(alloc: Global, portal: S) -> Result<Seats<S>, S>
     ensures first { IfOk result (λ s. IsDealt s.turn.table (S.opening portal) (S.entries portal)
         2 1 s.first) }
     ensures second { IfOk result (λ s. IsDealt s.turn.table (S.opening portal) (S.entries portal)
@@ -219,13 +221,13 @@ fn both_polled<D: TryDesk + Drop>(
     let Clients { first, second } = clients;
     let written = log.written;
     let bytes = senders.first.bytes.as_slice();
-    let one = connection(alloc, one, first, bytes, &manners.first, written);
+    let one = connect(alloc, one, first, bytes, &manners.first, written);
     let bytes = senders.second.bytes.as_slice();
-    let other = connection(alloc, other, second, bytes, &manners.second, written);
+    let other = connect(alloc, other, second, bytes, &manners.second, written);
     match until_over(task, alloc, join(one, other), log) {
         Ok((one, other)) => Ok(Halves {
-            first: half(one),
-            second: half(other),
+            first: half_of(one),
+            second: half_of(other),
         }),
         Err(error) => Err(error),
     }

@@ -2,7 +2,7 @@
 
 ghost use Rattle.std.specs.Prelude.{◌<◌, ◌^◌};
 
-use crate::steps::{Steps, steps};
+use crate::steps::{Steps, steps_of};
 use portal_base::limits::{Limits, Settings};
 use portal_base::list::ByteList;
 use portal_base::memory::{Replica, WantOfMemory};
@@ -51,7 +51,7 @@ pub struct Words<'a> {
 }
 
 /// The words of `WHO KIND OPTIONS BYTES`.
-pub fn words(text: &str) -> Words<'_> {
+pub fn words_of(text: &str) -> Words<'_> {
     let (who, rest) = cut(text);
     let (kind, rest) = cut(rest);
     let (options, bytes) = cut(rest);
@@ -64,16 +64,16 @@ pub fn words(text: &str) -> Words<'_> {
 }
 
 /// The client of a line, and what it sends.
-pub fn sender(alloc: Global, words: &Words<'_>) -> Result<Sender, VectorError> {
+pub fn sender_of(alloc: Global, words: &Words<'_>) -> Result<Sender, VectorError> {
     let bytes = bytes(alloc, words.bytes)?;
-    match client(alloc, words) {
+    match client_of(alloc, words) {
         Ok(client) => Ok(Sender { client, bytes }),
         Err(error) => Err(error),
     }
 }
 
 /// The client of a line.
-fn client(alloc: Global, words: &Words<'_>) -> Result<Client, VectorError> {
+fn client_of(alloc: Global, words: &Words<'_>) -> Result<Client, VectorError> {
     let kind = kind(words.kind)?;
     let history = option_number(words.options, "limit=", PLENTY)?;
     let who = who(alloc, words.who)?;
@@ -128,10 +128,10 @@ pub fn copy_of(alloc: Global, client: &Client) -> Result<Client, WantOfMemory> {
 }
 
 /// How the options of a line say that its connection is polled.
-pub fn manner(options: &str) -> Result<Manner<'_>, LineError> {
+pub fn manner_of(options: &str) -> Result<Manner<'_>, LineError> {
     Ok(Manner {
-        reads: steps(option(options, "read="))?,
-        writes: steps(option(options, "write="))?,
+        reads: steps_of(option(options, "read="))?,
+        writes: steps_of(option(options, "write="))?,
         busy: option_number(options, "busy=", 0)?,
     })
 }

@@ -1,6 +1,6 @@
 //! A stream that comes in two pieces, cut anywhere.
 
-use crate::client::{Manner, Sender, manner, sender, words};
+use crate::client::{Manner, Sender, manner_of, sender_of, words_of};
 use crate::log::{Log, put_written};
 use crate::polled::polled;
 use crate::served::{Came, same, served};
@@ -17,8 +17,8 @@ use vector_lines::error::VectorError;
 /// between which there is nothing yet, and what it comes to is the same. The options are
 /// those of `client`, but for `read`.
 pub fn cuts(task: &MockTask, alloc: Global, rest: &str) -> Result<String, VectorError> {
-    let words = words(rest);
-    let sender = sender(alloc, &words)?;
+    let words = words_of(rest);
+    let sender = sender_of(alloc, &words)?;
     cuts_by(task, alloc, &sender, words.options)
 }
 
@@ -29,7 +29,7 @@ fn cuts_by(
     sender: &Sender,
     options: &str,
 ) -> Result<String, VectorError> {
-    let manner = manner(options)?;
+    let manner = manner_of(options)?;
     let bytes = sender.bytes.as_slice();
     let waited = served(alloc, &sender.client, bytes)?;
     match odd_cut(task, alloc, &sender.client, bytes, &manner, &waited)? {

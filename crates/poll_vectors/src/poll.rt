@@ -1,6 +1,6 @@
 //! What each poll of a connection answers.
 
-use crate::client::{Sender, manner, sender, words};
+use crate::client::{Sender, manner_of, sender_of, words_of};
 use crate::log::Log;
 use crate::polled::polled;
 use crate::served::Came;
@@ -14,8 +14,8 @@ use vector_lines::notation::debug;
 /// bytes, and behind it how many bytes it wrote; how many entries the history has then;
 /// and the bytes that were written, where there are any. The options are those of `client`.
 pub fn poll(task: &MockTask, alloc: Global, rest: &str) -> Result<String, VectorError> {
-    let words = words(rest);
-    let sender = sender(alloc, &words)?;
+    let words = words_of(rest);
+    let sender = sender_of(alloc, &words)?;
     poll_by(task, alloc, &sender, words.options)
 }
 
@@ -26,7 +26,7 @@ fn poll_by(
     sender: &Sender,
     options: &str,
 ) -> Result<String, VectorError> {
-    let manner = manner(options)?;
+    let manner = manner_of(options)?;
     let written = Cell::new(0);
     let mut log = Log::new(alloc, &written);
     let bytes = sender.bytes.as_slice();

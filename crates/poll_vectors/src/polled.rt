@@ -6,7 +6,7 @@ ghost use Rattle.portal_model.specs.Seated.{is_open, state_seen};
 use crate::client::{Manner, SCRIPT, copy_of, limits_for};
 use crate::log::Log;
 use crate::outside::{ShyDesk, StepSink, StepSource};
-use crate::served::{Came, Half, came};
+use crate::served::{Came, Half, came_to};
 use futures::Future;
 use futures::task::Poll;
 use futures::test::MockTask;
@@ -70,7 +70,7 @@ fn polled_over<S: Storied + Drop>(
     let half = polled_at(task, alloc, desk, client, bytes, manner, log);
     let entries = portal.entry_count();
     drop(portal);
-    came(half, entries)
+    came_to(half, entries)
 }
 
 /// The same at a desk.
@@ -85,15 +85,15 @@ fn polled_at<D: TryDesk + Drop>(
 ) -> Result<Half, VectorError>
     requires { is_open (state_seen (D.seated desk)) (D.seated desk).seat ≡ false }
 {
-    let connection = connection(alloc, desk, client, bytes, manner, log.written);
+    let connection = connect(alloc, desk, client, bytes, manner, log.written);
     match until_over(task, alloc, connection, log) {
-        Ok(ended) => Ok(half(ended)),
+        Ok(ended) => Ok(half_of(ended)),
         Err(error) => Err(error),
     }
 }
 
 /// A connection at a desk, on which a client sends bytes, and which is polled so.
-pub fn connection<'a, D: TryDesk>(
+pub fn connect<'a, D: TryDesk>(
     alloc: Global,
     desk: D,
     client: Client,
@@ -152,7 +152,7 @@ pub fn until_over<F: Future>(
 }
 
 /// How a connection ended, and what was written on it.
-pub fn half<D: TryDesk + Drop>(ended: End<'_, D>) -> Half {
+pub fn half_of<D: TryDesk + Drop>(ended: End<'_, D>) -> Half {
     let Ended { served, parts } = ended;
     let Parts { desk, source, sink } = parts;
     drop(desk);

@@ -35,7 +35,7 @@ pub struct Came {
 }
 
 /// What a connection came to, behind which the history has so many entries.
-pub fn came(half: Result<Half, VectorError>, entries: u64) -> Result<Came, VectorError> {
+pub fn came_to(half: Result<Half, VectorError>, entries: u64) -> Result<Came, VectorError> {
     match half {
         Ok(Half { served, written }) => Ok(Came {
             served,
@@ -93,11 +93,14 @@ fn served_over<S: Storied + Drop>(
     let entries = portal.entry_count();
     drop(portal);
     let written = joined(alloc, sink.pieces().as_slice());
-    came(half(served, written), entries)
+    came_to(half_written(served, written), entries)
 }
 
 /// How a connection ended, and what was written on it.
-fn half(served: Served, written: Result<ByteList, VectorError>) -> Result<Half, VectorError> {
+fn half_written(
+    served: Served,
+    written: Result<ByteList, VectorError>,
+) -> Result<Half, VectorError> {
     match written {
         Ok(written) => Ok(Half { served, written }),
         Err(error) => Err(error),

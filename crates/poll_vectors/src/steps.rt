@@ -48,14 +48,14 @@ impl<'a> Steps<'a> {
 /// The first step of a text, and the text of those behind it.
 fn first_of(text: &str) -> (Step, &str) {
     match text.split_once('.') {
-        Some((word, ".")) => (step(word), text),
-        Some((word, rest)) => (step(word), rest),
-        None => (step(text), ""),
+        Some((word, ".")) => (step_of(word), text),
+        Some((word, rest)) => (step_of(word), rest),
+        None => (step_of(text), ""),
     }
 }
 
 /// The step of a word.
-fn step(word: &str) -> Step {
+fn step_of(word: &str) -> Step {
     match word {
         "!" => Step::NotYet,
         "x" => Step::Failed,
@@ -72,7 +72,7 @@ fn drawn(dice: &mut Dice, most: u64) -> Step {
 }
 
 /// The steps of a text, which is refused where one of its words is none.
-pub fn steps(text: &str) -> Result<Steps<'_>, LineError> {
+pub fn steps_of(text: &str) -> Result<Steps<'_>, LineError> {
     for word in text.split('.') {
         match word {
             "" | "!" | "x" => {}
