@@ -1,8 +1,8 @@
 //! The entries of a folder.
 
-ghost use Rattle.std.specs.Prelude.{◌≡◌, ◌<◌, ◌^◌, IfOk, None, OnOk, true, false};
+ghost use Rattle.std.specs.Prelude.{◌≡◌, ◌<◌, ◌^◌, IfOk, None, true, false};
 ghost use Rattle.portal_model.specs.Place.{by_app_node, file_node, folder_node, has_views, node_of, numbers_seen, root_node, sight_of_place};
-ghost use Rattle.portal_model.specs.OpenDir.{with_dots, parent_of_root, parent_of_exported, names_in_root, names_of_children, names_of_look, names_of_views, file_entry, entry_of_child};
+ghost use Rattle.portal_model.specs.OpenDir.{with_dots, parent_of_root, parent_of_exported, names_in_root, names_of_children, names_of_look, names_of_views, entry_of_child};
 ghost use Rattle.portal_base.specs.Names.{name_of};
 ghost use Rattle.portal_model.specs.State.{State};
 ghost use Rattle.app_view.specs.Books.{Lends, who_is};

@@ -1,10 +1,12 @@
 //! Links over Unix sockets.
 
+use libc::net::{SHUT_RDWR, shutdown};
 use portal_base::outside::{ReadAnswer, Sink, Source, WriteAnswer};
 use std::alloc::Global;
 use std::cell::Cell;
 use std::fs::Permissions;
 use std::io::{ErrorKind, Read, Write};
+use std::os::fd::AsRawFd;
 use std::os::unix::fs::PermissionsExt;
 use std::os::unix::net::{UnixListener, UnixStream};
 use std::{fs, io};
@@ -271,6 +273,54 @@ fn left_told(
     let second = second?;
     let third = third?;
     Ok(format!(in alloc; "heard {first}, {second}, {written:?}, {third}")?)
+}
+
+/// A watch that notes by which error of the system a listener ended.
+#[derive(Drop)]
+struct Noting {
+    code: Cell<Option<i32>>,
+}
+
+impl Watch for Noting {
+    fn begin(&self) -> bool {
+        true
+    }
+
+    fn hold_up(&self, _error: &io::Error) {}
+
+    fn end(&self, error: &io::Error) {
+        self.code.set(error.raw_os_error());
+    }
+}
+
+/// `shut PATH`: the error by which a listener ends whose socket was shut down.
+pub fn shut(system: &HostRuntime, alloc: Global, path: &str) -> Result<String, VectorError> {
+    let socket = given(alloc, placed(system, path))?;
+    shutdown(socket.as_raw_fd(), SHUT_RDWR);
+    let told = shut_over(system, alloc, &socket);
+    drop(socket);
+    told
+}
+
+fn shut_over(
+    system: &HostRuntime,
+    alloc: Global,
+    socket: &UnixListener,
+) -> Result<String, VectorError> {
+    let bell = given(alloc, Bell::new(system))?;
+    let watch = Noting {
+        code: Cell::new(None),
+    };
+    let mut listener = given(alloc, SocketListener::new(socket, &bell, &watch, false))?;
+    let has_failed = match listener.accept(alloc) {
+        Accepted::Failed => true,
+        Accepted::Link { .. } | Accepted::Closed | Accepted::Memory => false,
+    };
+    drop(listener);
+    match has_failed {
+        true => Ok(debug(alloc, &watch.code.get())?),
+        false => bad(),
+    }
 }
 
 /// The text that the next read gives, or why it gives none.

@@ -52,6 +52,7 @@ fn answer<R: System>(
         "open" => links::open(system, alloc, rest),
         "talk" => links::talk(system, alloc, rest),
         "leave" => links::leave(system, alloc, rest),
+        "shut" => links::shut(system, alloc, rest),
         "keep" => answers::keep(system, alloc, rest),
         "ring" => answers::ring(system, alloc, rest),
         "patient" => links::patient(alloc),

@@ -2,7 +2,6 @@
 
 ghost use Rattle.std.specs.Prelude.{◌≡◌, ◌<◌, ◌^◌, ◌++◌, IfOk, OnOk, Some, map, slice_get};
 ghost use Rattle.std.specs.List.{prefix_len};
-ghost use Rattle.portal_base.specs.Names.{is_same};
 ghost use Rattle.portal_model.specs.OpenDir.{entry_of_temp, name_less, names_of_temps};
 ghost use Rattle.portal_model.specs.Ordered.{bytes_less, put, put_all};
 ghost use Rattle.portal_model.specs.SeatNames.{is_temp_in, temps_in};

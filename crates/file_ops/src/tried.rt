@@ -5,7 +5,7 @@ ghost use Rattle.host_tree.specs.declared.tree.TreeDone.TheVariants as TreeDone;
 ghost use Rattle.host_tree.specs.Trees.{TreeIs};
 ghost use Rattle.portal_model.specs.declared.reply.NodeAnswer.TheVariants as NodeAnswer;
 ghost use Rattle.portal_model.specs.NodeVerdict.{HandlesStay, at_file, at_name, errs, errs_on_file, told};
-ghost use Rattle.file_ops.specs.Tries.{Goes, done_after, done_of_below, done_of_ended, done_of_tried, ended_by, fault_by, fault_behind, ended_of, called_at, fault_of_call, found_nothing, generation_in, is_not_file, moment_of, refuses, says, shown_behind, tree_done};
+ghost use Rattle.file_ops.specs.Tries.{Goes, done_after, done_of_below, done_of_ended, done_of_tried, ended_by, fault_by, fault_behind, ended_of, called_at, fault_of_call, found_nothing, generation_in, moment_of, refuses, says, shown_behind, tree_done};
 ghost use Rattle.node_looks.specs.Walks.{taken};
 ghost use Rattle.file_ops.specs.declared.tried.Came.TheVariants as came;
 

@@ -1,3 +1,4 @@
+pub mod BesideItems
 pub mod TreeFiles
 pub mod Quiet
 pub mod Going

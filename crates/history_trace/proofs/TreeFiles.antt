@@ -1,21 +1,27 @@
--- Files that stand in the order of a tree, put into one after another.
-use Rattle.std.proofs.Common.{◌≡◌, ◌+◌, ◌<◌, ℕ, Less, List, [], ◌∷◌, ◌++◌, length, take, drop, get_or, map, Bool, true, false, not, ◌&&◌, ◌||◌, cond, refl, sym, ap, subst, ◌∙◌, arith}
-use Rattle.std.specs.List.{list_all, list_any, AllByRecursion}
+-- Files that stand in the order of a tree, put into one after another, and those beside them.
+use Rattle.std.proofs.Common.{◌≡◌, ◌+◌, ◌<◌, ℕ, Less, List, [], ◌∷◌, ◌++◌, length, take, drop, get_or, map, Bool, true, false, not, ◌&&◌, ◌||◌, cond, Some, refl, sym, ap, subst, ◌∙◌, arith}
+use Rattle.std.specs.List.{filter, list_all, list_any, AllByRecursion}
 use Rattle.std.specs.List.Sorted.{IsStrictlySortedBy}
 use Rattle.std.specs.Ordering.{is_lt, ordering_reverse}
-use Rattle.std.proofs.lemmas.List.{take-append-drop}
+use Rattle.std.proofs.lemmas.List.{append-nil, map-append, take-append-drop}
+use Rattle.std.proofs.lemmas.List.Elements.{filter-append}
 use Rattle.std.proofs.lemmas.List.Folds.{list_any-append}
 use Rattle.file_generations.specs.Generations.{Held, held_with, put_present}
-use Rattle.host_tree.specs.Trees.{put_file}
-use Rattle.document_records.proofs.Loops.{all_map, map-append, map-more}
+use Rattle.host_tree.specs.Beside.{AreBeside, AreHeld}
+use Rattle.host_tree.specs.Devices.{QuietState, put_hidden, quiet_tree_of, quiet_with_hidden, quiet_with_present}
+use Rattle.host_tree.specs.Trees.{TreeIs, put_file, settled}
+use Rattle.host_tree.proofs.BesideFiles.{none-beside}
+use Rattle.document_records.proofs.Loops.{all_map, one_more}
+use Rattle.portal_base.specs.Calls.{Calls}
 use Rattle.portal_base.specs.Content.{ArePlaced, is_above, paths_of}
 use Rattle.portal_base.specs.Names.{is_host_path, is_same, root}
 use Rattle.portal_base.specs.PathOrder.{path_order}
 use Rattle.portal_base.specs.PathOrders.{path_order_total}
 use Rattle.portal_base.specs.declared.files.File.{File}
 use Rattle.portal_model.specs.declared.opening.FileItem.{FileItem}
-use Rattle.portal_model.proofs.OpeningLaws.{items-first}
-use Rattle.portal_model.specs.Opening.{file_of, held_items, is_first_item}
+use Rattle.portal_model.specs.Opening.{file_of, held_items}
+use Rattle.history_trace.specs.Replayed.{tree_begun, tree_with}
+use Rattle.history_trace.proofs.BesideItems.{beside-front}
 
 -- ---- paths of which a front is taken
 
@@ -72,28 +78,98 @@ put-last f (g ∷ gs) h =
 abbrev files : List FileItem → List File
 files items = map file_of items
 
-paths-append : (xs ys : List FileItem) → paths_of (files (xs ++ ys)) ≡ paths_of (files xs) ++ paths_of (files ys)
-paths-append xs ys = ap paths_of (map-append file_of xs ys) ∙ map-append (λ (f : File). f.path) (files xs) (files ys)
+abbrev shown : List FileItem → List File
+shown items = files (filter (λ f. f.present) items)
 
-placed-take : (items : List FileItem) (n : ℕ) → ArePlaced (paths_of (files items)) → ArePlaced (paths_of (files (take n items)))
+abbrev others : List FileItem → List File
+others items = files (filter (λ f. not f.present) items)
+
+shown-append : (xs ys : List FileItem) → shown (xs ++ ys) ≡ shown xs ++ shown ys
+shown-append xs ys =
+    ap (λ (zs : List FileItem). files zs) (filter-append (λ (f : FileItem). f.present) xs ys)
+    ∙ map-append file_of (filter (λ (f : FileItem). f.present) xs) (filter (λ (f : FileItem). f.present) ys)
+
+others-append : (xs ys : List FileItem) → others (xs ++ ys) ≡ others xs ++ others ys
+others-append xs ys =
+    ap (λ (zs : List FileItem). files zs) (filter-append (λ (f : FileItem). not f.present) xs ys)
+    ∙ map-append file_of (filter (λ (f : FileItem). not f.present) xs) (filter (λ (f : FileItem). not f.present) ys)
+
+placed-take : (items : List FileItem) (n : ℕ) → ArePlaced (paths_of (shown items)) → ArePlaced (paths_of (shown (take n items)))
 placed-take items n p =
-    placed-front (paths_of (files (take n items))) (paths_of (files (drop n items)))
-    (subst ArePlaced (ap (λ (xs : List FileItem). paths_of (files xs)) (sym (take-append-drop n items)) ∙ paths-append (take n items) (drop n items)) p)
+    let parts : shown items ≡ shown (take n items) ++ shown (drop n items) =
+    ap (λ (xs : List FileItem). shown xs) (sym (take-append-drop n items)) ∙ shown-append (take n items) (drop n items) in
+    placed-front (paths_of (shown (take n items))) (paths_of (shown (drop n items)))
+    (subst ArePlaced (ap paths_of parts ∙ map-append (λ (f : File). f.path) (shown (take n items)) (shown (drop n items))) p)
 
-module _ (items : List FileItem) (placed : ArePlaced (paths_of (files items))) (i : ℕ) (item : FileItem) (inside : i < length items) (is : item ≡ get_or items i item) where
-  more : files (take (i + 1) items) ≡ files (take i items) ++ file_of item ∷ []
-  more = map-more file_of items i item inside is
+beside-take : (items : List FileItem) (n : ℕ) → AreHeld (held_items items) → AreBeside (shown items) (others (take n items))
+beside-take items n a =
+    beside-front (shown items) (others (take n items)) (others (drop n items))
+    (subst (AreBeside (shown items)) (ap (λ (xs : List FileItem). others xs) (sym (take-append-drop n items)) ∙ others-append (take n items) (drop n items)) a)
 
-  sorted : IsStrictlySortedBy path_order (paths_of (files (take i items)) ++ item.path ∷ [])
-  sorted =
-      subst (IsStrictlySortedBy path_order) (ap paths_of more ∙ map-append (λ (f : File). f.path) (files (take i items)) (file_of item ∷ [])) (placed-take items (i + 1) placed).in_order
+module _ (items : List FileItem) (i : ℕ) (item : FileItem) (inside : i < length items) (is : item ≡ get_or items i item) where
+  shown-more : (b : Bool) → item.present ≡ b → shown (take (i + 1) items) ≡ shown (take i items) ++ files (cond b (item ∷ []) [])
+  shown-more b h =
+      ap (λ (xs : List FileItem). shown xs) (one_more items i item inside is)
+      ∙ (shown-append (take i items) (item ∷ [])
+      ∙ ap (λ (c : Bool). shown (take i items) ++ files (cond c (item ∷ []) [])) h)
 
-  -- each file has its place behind those before it
-  pub put-next : put_file (file_of item) (files (take i items)) ≡ files (take (i + 1) items)
-  put-next = put-last (file_of item) (files (take i items)) (ahead-of-last (paths_of (files (take i items))) item.path sorted) ∙ sym more
+  others-more : (b : Bool) → item.present ≡ b → others (take (i + 1) items) ≡ others (take i items) ++ files (cond (not b) (item ∷ []) [])
+  others-more b h =
+      ap (λ (xs : List FileItem). others xs) (one_more items i item inside is)
+      ∙ (others-append (take i items) (item ∷ [])
+      ∙ ap (λ (c : Bool). others (take i items) ++ files (cond (not c) (item ∷ []) [])) h)
 
-  pub placed-next : ArePlaced (paths_of (put_file (file_of item) (files (take i items))))
-  placed-next = subst (λ (fs : List File). ArePlaced (paths_of fs)) (sym put-next) (placed-take items (i + 1) placed)
+  -- ---- a present one
+
+  module _ (placed : ArePlaced (paths_of (shown items))) where
+    sorted : item.present ≡ true → IsStrictlySortedBy path_order (paths_of (shown (take i items)) ++ item.path ∷ [])
+    sorted h =
+        subst (IsStrictlySortedBy path_order) (ap paths_of (shown-more true h) ∙ map-append (λ (f : File). f.path) (shown (take i items)) (file_of item ∷ []))
+        (placed-take items (i + 1) placed).in_order
+
+    -- it has its place behind those before it
+    put-next : item.present ≡ true → put_file (file_of item) (shown (take i items)) ≡ shown (take (i + 1) items)
+    put-next h =
+        put-last (file_of item) (shown (take i items)) (ahead-of-last (paths_of (shown (take i items))) item.path (sorted h))
+        ∙ sym (shown-more true h)
+
+    pub placed-next : (tree : QuietState) → tree ≡ tree_begun (held_with (shown (take i items)) []) → item.present ≡ true →
+        ArePlaced (paths_of (put_file (file_of item) tree.files.present))
+    placed-next tree e h =
+        subst (λ (t : QuietState). ArePlaced (paths_of (put_file (file_of item) t.files.present))) (sym e)
+        (subst (λ (fs : List File). ArePlaced (paths_of fs)) (sym (put-next h)) (placed-take items (i + 1) placed))
+
+    pub held-next : (tree : QuietState) → tree ≡ tree_begun (held_with (shown (take i items)) []) → AreHeld (put_present (file_of item) tree.files)
+    held-next tree e =
+        subst (λ (t : QuietState). AreHeld (put_present (file_of item) t.files)) (sym e) (none-beside (put_file (file_of item) (shown (take i items))))
+
+    step-present : (b : Bool) → item.present ≡ b →
+        cond b (quiet_with_present (file_of item) (tree_begun (held_with (shown (take i items)) []))) (tree_begun (held_with (shown (take i items)) []))
+        ≡ tree_begun (held_with (shown (take (i + 1) items)) [])
+    step-present true h = ap (λ (fs : List File). tree_begun (held_with fs [])) (put-next h)
+    step-present false h = ap (λ (fs : List File). tree_begun (held_with fs [])) (sym (shown-more false h ∙ append-nil (shown (take i items))))
+
+    pub present-next : (tree : QuietState) → tree ≡ tree_begun (held_with (shown (take i items)) []) →
+        cond item.present (quiet_with_present (file_of item) tree) tree ≡ tree_begun (held_with (shown (take (i + 1) items)) [])
+    present-next tree e = ap (λ (t : QuietState). cond item.present (quiet_with_present (file_of item) t) t) e ∙ step-present item.present refl
+
+  -- ---- one beside them
+
+  pub beside-next : AreHeld (held_items items) → (tree : QuietState) → tree ≡ tree_begun (held_with (shown items) (others (take i items))) → item.present ≡ false →
+      AreHeld (put_hidden (file_of item) tree.files)
+  beside-next a tree e h =
+      subst (λ (t : QuietState). AreHeld (put_hidden (file_of item) t.files)) (sym e)
+      (subst (AreBeside (shown items)) (others-more false h) (beside-take items (i + 1) a))
+
+  step-hidden : (b : Bool) → item.present ≡ b →
+      cond b (tree_begun (held_with (shown items) (others (take i items)))) (quiet_with_hidden (file_of item) (tree_begun (held_with (shown items) (others (take i items)))))
+      ≡ tree_begun (held_with (shown items) (others (take (i + 1) items)))
+  step-hidden true h = ap (λ (fs : List File). tree_begun (held_with (shown items) fs)) (sym (others-more true h ∙ append-nil (others (take i items))))
+  step-hidden false h = ap (λ (fs : List File). tree_begun (held_with (shown items) fs)) (sym (others-more false h))
+
+  pub hidden-next : (tree : QuietState) → tree ≡ tree_begun (held_with (shown items) (others (take i items))) →
+      cond item.present tree (quiet_with_hidden (file_of item) tree) ≡ tree_begun (held_with (shown items) (others (take (i + 1) items)))
+  hidden-next tree e = ap (λ (t : QuietState). cond item.present t (quiet_with_hidden (file_of item) t)) e ∙ step-hidden item.present refl
 
 -- the path of a file among these, each of which is a path on the host
 pub named-here : (xs : List FileItem) (i : ℕ) (x : FileItem) → i < length xs → x ≡ get_or xs i x → list_all is_host_path (paths_of (files xs)) ≡ true → is_host_path x.path ≡ true
@@ -103,23 +179,17 @@ named-here xs i x h e k = all_map file_of (λ (f : File). is_host_path f.path) x
     mapped [] = refl
     mapped (f ∷ fs) = ap (λ (b : Bool). is_host_path f.path && b) (mapped fs)
 
--- ---- files of which each is the first of its path
+-- ---- a tree that is settled
 
-all-front-of : {X : Type 0} (p : X → Bool) (xs ys : List X) → list_all p (xs ++ ys) ≡ true → list_all p xs ≡ true
-all-front-of p [] ys h = refl
-all-front-of p (x ∷ xs) ys h = grind (arith, all-front-of p xs ys)
+held-is : (x y : Held) → Some x ≡ Some y → x ≡ y
+held-is x y e = cc
 
-pub first-front : (items : List FileItem) (n : ℕ) → list_all is_first_item items ≡ true → list_all is_first_item (take n items) ≡ true
-first-front items n h = all-front-of is_first_item (take n items) (drop n items) (ap (list_all is_first_item) (take-append-drop n items) ∙ h)
+calls-are : (x y : Calls) → Some x ≡ Some y → x ≡ y
+calls-are x y e = cc
 
-module _ (items : List FileItem) (placed : ArePlaced (paths_of (files items))) (first : list_all is_first_item items ≡ true) (i : ℕ) (item : FileItem) (inside : i < length items) (is : item ≡ get_or items i item) where
-  pub held-next : put_present (file_of item) (held_items (take i items)) ≡ held_items (take (i + 1) items)
-  held-next =
-      ap (put_present (file_of item)) (items-first (take i items) (first-front items i first))
-      ∙ (ap (λ (fs : List File). held_with fs []) (put-next items placed i item inside is)
-      ∙ sym (items-first (take (i + 1) items) (first-front items (i + 1) first)))
-
-  pub placed-held : ArePlaced (paths_of (put_file (file_of item) (held_items (take i items)).present))
-  placed-held =
-      subst (λ (h : Held). ArePlaced (paths_of (put_file (file_of item) h.present))) (sym (items-first (take i items) (first-front items i first)))
-      (placed-next items placed i item inside is)
+pub settled-with : (tree : QuietState) (held : Held) → quiet_tree_of tree ≡ settled (quiet_tree_of (tree_begun held)) → tree ≡ tree_with held
+settled-with tree held e =
+    let began : tree.began ≡ held = held-is tree.began held (ap (λ (t : TreeIs). t.began) e) in
+    let files-are : tree.files ≡ held = held-is tree.files held (ap (λ (t : TreeIs). t.told) e) in
+    let made : tree.made ≡ 0 = ap (λ (c : Calls). c.made) (calls-are (record { made = tree.made; failing = [] }) (record { made = 0; failing = [] }) (ap (λ (t : TreeIs). t.calls) e)) in
+    λ i. record { began = began i; files = files-are i; made = made i }

@@ -1,6 +1,6 @@
 -- What a replay of a history keeps.
 use Rattle.std.specs.Prelude.{◌≡◌, ◌≤◌, ℕ, List, [], ◌∷◌, ◌++◌, map, true, Some, IfSome}
-use Rattle.host_tree.specs.Devices.{QuietState}
+use Rattle.host_tree.specs.Devices.{QuietState, no_files}
 use Rattle.file_generations.specs.Generations.{Held}
 use Rattle.portal_model.specs.declared.entry.Entry.{Entry}
 use Rattle.portal_model.specs.declared.entry.Fault.TheVariants as Fault
@@ -24,6 +24,10 @@ use Rattle.portal_steps.specs.Story.{PortalIs, Story, cost_with, limit_of, state
 -- a tree that has these files, of which no call came
 abbrev pub tree_with : Held → QuietState
 tree_with tree = record { began = tree; files = tree; made = 0 }
+
+-- a tree that has these files and began with none, of which no call came
+abbrev pub tree_begun : Held → QuietState
+tree_begun files = record { began = no_files; files = files; made = 0 }
 
 -- the opening state without its list of files
 abbrev pub without_files : OpeningState → OpeningState

@@ -1,12 +1,11 @@
 //! The trace of an application in a history.
 
-ghost use Rattle.std.specs.Prelude.{◌≡◌, ◌≤◌, map, true, IfOk};
-ghost use Rattle.std.specs.List.{list_all};
+ghost use Rattle.std.specs.Prelude.{◌≡◌, ◌≤◌, map, IfOk};
 ghost use Rattle.app_trace.specs.Told.{item_told, trace_told};
 ghost use Rattle.app_world.specs.World.{items, trace};
 ghost use Rattle.portal_desk.specs.Opening.{IsOpeningState};
 ghost use Rattle.portal_model.specs.History.{Legal, cost};
-ghost use Rattle.portal_model.specs.Opening.{is_first_item, opened};
+ghost use Rattle.portal_model.specs.Opening.{opened};
 ghost use Rattle.history_trace.specs.Replayed.{Begins};
 
 use crate::beginning::{QuietPortal, opened_portal};
@@ -22,8 +21,8 @@ use std::alloc::Global;
 use std::collections::BTreeMap;
 
 /// The trace of an application in a legal history, which begins in an opening
-/// state whose files are the first of their paths, and costs no more than its
-/// limit: what it holds of that state, and what then happens to it.
+/// state, and costs no more than its limit: what it holds of that state, and what
+/// then happens to it.
 pub fn trace_of(
     alloc: Global,
     opening: &OpeningState,
@@ -33,7 +32,6 @@ pub fn trace_of(
     requires legal { Legal (opened opening.now) history.now.entries }
     requires within { cost history.now.entries ≤ opening.now.limits.history }
     requires started { IsOpeningState (opened opening.now) }
-    requires first { list_all is_first_item opening.now.files ≡ true }
     ensures { IfOk result (λ t. trace_told t
         ≡ trace app.now (opened opening.now) history.now.entries) }
 {
@@ -58,7 +56,6 @@ fn items_told(
     requires legal { Legal (opened opening.now) history.now.entries }
     requires within { cost history.now.entries ≤ opening.now.limits.history }
     requires started { IsOpeningState (opened opening.now) }
-    requires first { list_all is_first_item opening.now.files ≡ true }
     ensures { IfOk result (λ told. map item_told told
         ≡ items app.now (opened opening.now) history.now.entries) }
 {
@@ -80,7 +77,6 @@ fn replay_all(
     requires legal { Legal (opened opening.now) history.now.entries }
     requires within { cost history.now.entries ≤ opening.now.limits.history }
     requires started { IsOpeningState (opened opening.now) }
-    requires first { list_all is_first_item opening.now.files ≡ true }
     requires begins { Begins opening.now portal.old.story }
     ensures { IfOk result (λ told. map item_told told
         ≡ items app.now (opened opening.now) history.now.entries) }

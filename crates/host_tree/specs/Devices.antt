@@ -1,5 +1,5 @@
 -- What the trees in memory are.
-use Rattle.std.specs.Prelude.{ℕ, List, [], Bool, Some}
+use Rattle.std.specs.Prelude.{ℕ, List, [], ◌∷◌, ◌++◌, Bool, Some}
 use Rattle.portal_base.specs.Calls.{Counted, counted, uncalled}
 use Rattle.portal_base.specs.declared.files.File.{File}
 use Rattle.host_tree.specs.Trees.{Held, Noted, TreeIs, held_with, note, put_present, unnoted}
@@ -58,5 +58,13 @@ no_files = held_with [] []
 abbrev pub with_file : File → TreeState → TreeState
 with_file f s = record s { began = put_present f s.began; files = put_present f s.files }
 
-abbrev pub quiet_with_file : File → QuietState → QuietState
-quiet_with_file f s = record s { began = put_present f s.began; files = put_present f s.files }
+-- one more file that is present, of those that it has alone
+abbrev pub quiet_with_present : File → QuietState → QuietState
+quiet_with_present f s = record s { files = put_present f s.files }
+
+-- one more beside the present ones, behind the others
+abbrev pub put_hidden : File → Held → Held
+put_hidden f held = held_with held.present (held.hidden ++ f ∷ [])
+
+abbrev pub quiet_with_hidden : File → QuietState → QuietState
+quiet_with_hidden f s = record s { files = put_hidden f s.files }

@@ -4,7 +4,7 @@ ghost use Rattle.std.specs.Prelude.{◌≡◌, ◌≤◌, ◌+◌, ◌-◌, [], 
 ghost use Rattle.std.specs.List.{list_any, list_all};
 ghost use Rattle.portal_base.specs.Content.{look_at, is_folder, has_room, is_above, file_named, file_at, IsTree, ArePlaced, paths_of};
 ghost use Rattle.portal_base.specs.FolderNames.{names_in};
-ghost use Rattle.host_tree.specs.Trees.{overlaid, cut_to, bytes_from, DoesFiles, has_file, change_named, written, resized, may_create, put_file, file_with, without, new_file, is_done_fault};
+ghost use Rattle.host_tree.specs.Trees.{overlaid, cut_to, bytes_from, DoesFiles, has_file, change_named, written, resized, may_create, put_file, without, new_file, is_done_fault};
 
 use crate::names::FolderNames;
 use crate::tree::TreeDone;
@@ -263,23 +263,13 @@ impl Files {
         Ok(names)
     }
 
-    /// Adds the first file of a path where the paths then are those of a tree.
-    pub(crate) fn add(
-        &mut self,
-        path: HostPath,
-        bytes: ByteList,
-        moment: u64,
-    ) -> Result<(), WantOfMemory>
-        requires { ArePlaced (paths_of (put_file (file_with path bytes moment) self.old)) }
-        ensures ok { OnOk result (self.new ≡ put_file (file_with path bytes moment) self.old) }
+    /// Adds a file where the paths then are those of a tree.
+    pub(crate) fn add(&mut self, path: HostPath, stored: Stored) -> Result<(), WantOfMemory>
+        requires { ArePlaced (paths_of (put_file (file_of (path, stored)) self.old)) }
+        ensures ok { OnOk result (self.new ≡ put_file (file_of (path, stored)) self.old) }
         ensures err { OnErr result (self.new ≡ self.old) }
     {
         let _ = path.as_bytes();
-        let stored = Stored {
-            generation: 0,
-            bytes,
-            moment,
-        };
         self.map.insert(path, stored)?;
         Ok(())
     }

@@ -5,15 +5,15 @@ ghost use Rattle.portal_base.specs.Content.{look_at, is_folder, file_at, file_na
 ghost use Rattle.portal_base.specs.FolderNames.{names_in};
 ghost use Rattle.file_generations.specs.Generations.{Held, all_held, change_held, freshened, held_with, is_held, may_turn, put_present, turned, turned_to};
 ghost use Rattle.host_tree.specs.Beside.{AreBeside, AreHeld, are_apart};
-ghost use Rattle.host_tree.specs.Devices.{no_files};
-ghost use Rattle.host_tree.specs.Stored.{stored_of};
+ghost use Rattle.host_tree.specs.Devices.{no_files, put_hidden};
+ghost use Rattle.host_tree.specs.Stored.{file_of, stored_of};
 ghost use Rattle.host_tree.specs.Trees.{DoesHeld, may_be_present, has_file, put_file, without, file_with, written, resized, may_create, may_fresh, new_file, is_done_fault};
 
 use crate::files::{Files, Stored, done};
 use crate::hidden::HiddenFiles;
 use crate::names::FolderNames;
 use crate::tree::TreeDone;
-use portal_base::files::{FileName, Look};
+use portal_base::files::{File, FileName, Look};
 use portal_base::list::ByteList;
 use portal_base::memory::{Replica, WantOfMemory};
 use portal_base::names::HostPath;
@@ -114,7 +114,37 @@ impl HeldFiles {
         ensures ok { OnOk result (self.new ≡ put_present (file_with path bytes moment) self.old) }
         ensures err { OnErr result (self.new ≡ self.old) }
     {
-        self.present.add(path, bytes, moment)?;
+        let stored = Stored {
+            generation: 0,
+            bytes,
+            moment,
+        };
+        self.present.add(path, stored)?;
+        Ok(())
+    }
+
+    /// Adds a present file of any generation where the paths then are those of a tree, and
+    /// the files beside stay so.
+    pub(crate) fn add_present(&mut self, file: File) -> Result<(), WantOfMemory>
+        requires placed { ArePlaced (paths_of (put_file file self.old.present)) }
+        requires held { AreHeld (put_present file self.old) }
+        ensures ok { OnOk result (self.new ≡ put_present file self.old) }
+        ensures err { OnErr result (self.new ≡ self.old) }
+    {
+        let (path, stored) = parts(file);
+        self.present.add(path, stored)?;
+        Ok(())
+    }
+
+    /// Adds a file that isn't present behind those that aren't, where it and they are beside
+    /// the present ones.
+    pub(crate) fn add_hidden(&mut self, file: File) -> Result<(), WantOfMemory>
+        requires { AreHeld (put_hidden file self.old) }
+        ensures ok { OnOk result (self.new ≡ put_hidden file self.old) }
+        ensures err { OnErr result (self.new ≡ self.old) }
+    {
+        let (path, stored) = parts(file);
+        self.hidden.add(path, stored)?;
         Ok(())
     }
 
@@ -218,6 +248,26 @@ impl Replica for HeldFiles {
             hidden: self.hidden.replica(alloc)?,
         })
     }
+}
+
+/// The path of a file, and what is stored of it.
+fn parts(file: File) -> (HostPath, Stored)
+    ensures { file_of result ≡ file }
+{
+    let File {
+        path,
+        generation,
+        bytes,
+        moment,
+    } = file;
+    (
+        path,
+        Stored {
+            generation,
+            bytes,
+            moment,
+        },
+    )
 }
 
 /// Writes over the bytes of a file from an offset on.

@@ -90,6 +90,15 @@ impl HiddenFiles {
         set_len_in(&mut self.files, name, size, now)
     }
 
+    /// Puts a file behind the others.
+    pub(crate) fn add(&mut self, path: HostPath, stored: Stored) -> Result<(), WantOfMemory>
+        ensures ok { OnOk result (self.new ≡ self.old ++ file_of (path, stored) ∷ []) }
+        ensures err { OnErr result (self.new ≡ self.old) }
+    {
+        self.files.push((path, stored))?;
+        Ok(())
+    }
+
     /// Puts an empty file behind the others.
     pub(crate) fn add_empty(
         &mut self,

@@ -3,15 +3,16 @@
 ghost use Rattle.std.specs.Prelude.{◌≡◌, OnOk, OnErr, Some, false};
 ghost use Rattle.portal_base.specs.Content.{IsTree, ArePlaced, paths_of};
 ghost use Rattle.portal_base.specs.Calls.{uncalled};
+ghost use Rattle.host_tree.specs.Beside.{AreHeld};
 ghost use Rattle.host_tree.specs.Trees.{put_file, file_with};
-ghost use Rattle.host_tree.specs.Devices.{no_files, with_file, quiet_with_file};
+ghost use Rattle.host_tree.specs.Devices.{no_files, put_hidden, quiet_with_hidden, quiet_with_present, with_file};
 ghost use Rattle.host_tree.specs.Trees.{unnoted};
 
 use crate::files::bytes_from;
 use crate::held::HeldFiles;
 use crate::made::CallsMade;
 use crate::tree::{AttrAnswer, HostTree, ListAnswer, LookAnswer, TreeCall, TreeDone, TreeRead};
-use portal_base::files::{ChildName, FileName};
+use portal_base::files::{ChildName, File, FileName};
 use portal_base::list::{ByteList, List};
 use portal_base::memory::{Replica, WantOfMemory};
 use portal_base::names::HostPath;
@@ -216,31 +217,27 @@ impl QuietTree {
         }
     }
 
-    /// Adds the first file of a path to those that the tree began with, before its first
-    /// call.
-    pub fn add_file(
-        &mut self,
-        path: HostPath,
-        content: ByteList,
-        moment: u64,
-    ) -> Result<(), WantOfMemory>
+    /// Adds a present file of any generation to those that the tree has, before its first
+    /// call. [`HostTree::settle`] takes it among those that the tree began with.
+    pub fn add_present(&mut self, file: File) -> Result<(), WantOfMemory>
         requires fresh { self.old.made ≡ 0 }
-        requires began { ArePlaced
-            (paths_of (put_file (file_with path content moment) self.old.began.present)) }
-        requires files { ArePlaced
-            (paths_of (put_file (file_with path content moment) self.old.files.present)) }
-        ensures ok { OnOk result
-            (self.new ≡ quiet_with_file (file_with path content moment) self.old) }
+        requires placed { ArePlaced (paths_of (put_file file self.old.files.present)) }
+        requires held { AreHeld (put_present file self.old.files) }
+        ensures ok { OnOk result (self.new ≡ quiet_with_present file self.old) }
         ensures err { OnErr result (self.new ≡ self.old) }
     {
-        add_to_both(
-            self.alloc,
-            &mut self.began,
-            &mut self.files,
-            path,
-            content,
-            moment,
-        )
+        self.files.add_present(file)
+    }
+
+    /// Adds a file that isn't present to those that the tree has, behind the others, before
+    /// its first call. [`HostTree::settle`] takes it among those that the tree began with.
+    pub fn add_hidden(&mut self, file: File) -> Result<(), WantOfMemory>
+        requires fresh { self.old.made ≡ 0 }
+        requires held { AreHeld (put_hidden file self.old.files) }
+        ensures ok { OnOk result (self.new ≡ quiet_with_hidden file self.old) }
+        ensures err { OnErr result (self.new ≡ self.old) }
+    {
+        self.files.add_hidden(file)
     }
 }
 

@@ -56,10 +56,10 @@ DrewForMade s a old new = (new ≡ old)
 
 -- What a refusal does, which comes where memory is wanted: the keeper may have been asked once and
 -- have wanted memory too. Where the request may ask the tree in vain, that may have been asked, of
--- which no call failed, and else it is the same; a request on a node asks it so often at most as its
--- kind and its node say; an Add looks once at most at each of its files, of which it may have 16, or
--- twice where the file is named. Where the request may draw words, some may have been drawn, one
--- for each file at most, and no more than documents would have been made, and else they are the
+-- which no call failed, and else it is the same; a request on a node asks it so often at most as
+-- its kind and its node say; an Add looks once at most at each of its files, of which it may have
+-- 16, or twice where the file is named. Where the request may draw words, some may have been drawn,
+-- one for each file at most, and no more than documents would have been made, and else they are the
 -- same; and where it may read the clock, that may have been read once, and else it is the same; and
 -- where it may not change the records the keeper is the same. All else is as before.
 pub record Spends {T K C W : Type 0} (tree_is : T → TreeIs) (keeper_is : K

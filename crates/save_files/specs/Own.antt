@@ -1,5 +1,5 @@
 -- The temporaries that connections have: each its own, numbered from 1 as they were added.
-use Rattle.std.specs.Prelude.{◌≡◌, ℕ, ◌==◌, nat_eq, ◌+◌, ◌<◌, ◌≤◌, List, [], ◌∷◌, ◌++◌, Bool, false, not, ◌&&◌, cond, Option, Some, None, IfSome, option_map, length, map, slice_get, find}
+use Rattle.std.specs.Prelude.{◌≡◌, ℕ, ◌==◌, nat_eq, ◌+◌, ◌<◌, ◌≤◌, List, [], ◌∷◌, ◌++◌, Bool, false, not, ◌&&◌, cond, Option, Some, None, option_map, length, map, slice_get, find}
 use Rattle.std.specs.List.{IsDistinct, filter}
 use Rattle.std.specs.Map.{lookup, remove_entry, keys_of}
 use Rattle.portal_base.specs.Names.{is_same}

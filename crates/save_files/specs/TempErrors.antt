@@ -1,6 +1,6 @@
 -- Why a temporary gets no number: the connection has as many as it may, or there is no memory or no
 -- further number.
-use Rattle.std.specs.Prelude.{ℕ, ◌<◌, ◌≤◌, length}
+use Rattle.std.specs.Prelude.{◌<◌, ◌≤◌, length}
 use Rattle.save_files.specs.Own.{Own, most_temps}
 use Rattle.save_files.specs.declared.own.TempError.{TempError}
 use Rattle.save_files.specs.declared.own.TempError.TheVariants.{Full, Memory}

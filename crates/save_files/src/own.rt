@@ -1,6 +1,6 @@
 //! The temporaries of one connection.
 
-ghost use Rattle.std.specs.Prelude.{◌≡◌, ℕ, ◌+◌, ◌<◌, [], IsOk, IfOk, OnOk, OnErr, IfErr, IsSome, length, option_copied, Some};
+ghost use Rattle.std.specs.Prelude.{◌≡◌, ◌+◌, ◌<◌, IsOk, IfOk, OnOk, OnErr, IfErr, IsSome, length, option_copied, Some};
 ghost use Rattle.save_files.specs.Own.{AreNumbered, IsFresh, Adds, Renames, Removes, RemovesOthers, Keeps, CanAdd, temp_of, found_in, number_at, most_temps, last_number};
 ghost use Rattle.save_files.specs.TempErrors.{Refuses};
 

@@ -1,6 +1,6 @@
 //! The temporaries of all connections.
 
-ghost use Rattle.std.specs.Prelude.{◌≡◌, ℕ, ◌+◌, ◌<◌, ◌≤◌, [], IsOk, IfOk, OnOk, OnErr, IfErr, IfSome, option_copied, None, is_some, IsSome, IsSomeAnd};
+ghost use Rattle.std.specs.Prelude.{◌≡◌, ◌+◌, ◌<◌, ◌≤◌, [], IsOk, IfOk, OnOk, OnErr, IfErr, IfSome, option_copied, None, is_some, IsSome, IsSomeAnd};
 ghost use Rattle.save_files.specs.Own.{own_on, temp_of, found_in, number_at, AtSeat, IsKept, Both, Enters, Leaves, Adds, Renames, Removes, RemovesOthers, Keeps, CanAdd};
 ghost use Rattle.save_files.specs.Taken.{last_taken, with_taken};
 ghost use Rattle.save_files.specs.TempErrors.{Refuses};

@@ -6,7 +6,6 @@ use portal_base::list::List;
 use portal_base::outside::{Sink, StdSink};
 use portal_base::text::Text;
 use portal_model::reply::Refused;
-use std::os::fd::AsRawFd;
 use std::os::unix::net::UnixListener;
 use std::sync::OnceLock;
 use std::sync::atomic::{AtomicBool, AtomicU64, Ordering};
@@ -17,6 +16,13 @@ use worker_gate::gate::{Gate, Point};
 
 /// How many milliseconds a post waits that can take no connection, before it tries again.
 const PAUSE: u64 = 100;
+
+/// How many milliseconds a post that is about to accept waits at most for the others.
+const PATIENCE: u64 = 60_000;
+
+/// After how many milliseconds at most it looks again whether all are: at first after one, and each
+/// time after twice as many as before.
+const LONGEST_STEP: u64 = 100;
 
 /// A socket that is made, and is to stand at its path.
 #[derive(Drop)]
@@ -38,26 +44,39 @@ pub struct Hall {
     pub places: List<Place>,
 }
 
-/// Why a socket couldn't be put in its place.
+/// What a start came to.
 #[derive(Drop)]
-struct PlaceFault {
-    /// The number of the place, from 0.
-    number: usize,
-    /// What the system says.
-    error: io::Error,
+enum Outcome {
+    /// The sockets stand.
+    Stands,
+    /// One couldn't be put in its place, and none stands.
+    NoPlace {
+        /// The number of the place, from 0.
+        number: usize,
+        /// What the system says.
+        error: io::Error,
+    },
+    /// Some posts have no thread, and no socket was put in its place.
+    FewThreads,
 }
 
 /// What the posts of a service share.
 ///
 /// Their sockets are put in their places when the last post is about to accept for the
 /// first time, and then one line on standard output tells that they stand. Where one
-/// can't be, none stays, and all posts end.
+/// can't be, none stays, and all posts end; and so it is where the last post doesn't come to
+/// that within a minute, since some have no thread.
+///
+/// No post accepts before it is known what the start came to.
 #[derive(Drop)]
 pub struct Standing<'a> {
     system: &'a HostRuntime,
     hall: OnceLock<Hall>,
+    posts: AtomicU64,
     to_begin: AtomicU64,
-    fault: OnceLock<PlaceFault>,
+    /// Who sets this is the one who finds out what the start comes to.
+    is_claimed: AtomicBool,
+    outcome: OnceLock<Outcome>,
     told_wait: AtomicBool,
     rounds: Rounds<'a>,
 }
@@ -68,8 +87,10 @@ impl<'a> Standing<'a> {
         Standing {
             system,
             hall: OnceLock::new(),
+            posts: AtomicU64::new(0),
             to_begin: AtomicU64::new(0),
-            fault: OnceLock::new(),
+            is_claimed: AtomicBool::new(false),
+            outcome: OnceLock::new(),
             told_wait: AtomicBool::new(false),
             rounds: Rounds::new(system),
         }
@@ -98,15 +119,28 @@ impl<'a> Standing<'a> {
 
     /// So many posts are to begin before the sockets are put in their places.
     pub fn expect(&self, posts: u64) {
+        self.posts.store(posts, Ordering::SeqCst);
         self.to_begin.store(posts, Ordering::SeqCst);
         self.rounds.expect(posts);
     }
 
     /// The socket that couldn't be put in its place, where there was one, and why.
     pub fn fault(&self) -> Option<(&Place, &io::Error)> {
-        let fault = self.fault.get()?;
-        let place = self.hall.get()?.places.get(fault.number)?;
-        Some((place, &fault.error))
+        match self.outcome.get()? {
+            Outcome::NoPlace { number, error } => {
+                let place = self.hall.get()?.places.get(*number)?;
+                Some((place, error))
+            }
+            Outcome::Stands | Outcome::FewThreads => None,
+        }
+    }
+
+    /// How many posts there are, where some have no thread.
+    pub fn lacks_threads(&self) -> Option<u64> {
+        match self.outcome.get()? {
+            Outcome::FewThreads => Some(self.posts.load(Ordering::SeqCst)),
+            Outcome::Stands | Outcome::NoPlace { .. } => None,
+        }
     }
 
     /// Takes the sockets away that were made and don't stand.
@@ -116,38 +150,79 @@ impl<'a> Standing<'a> {
         }
     }
 
-    /// Puts each socket in its place.
+    /// Whether the sockets stand.
+    fn stands(&self) -> bool {
+        match self.outcome.get() {
+            Some(Outcome::Stands) => true,
+            _ => false,
+        }
+    }
+
+    /// Puts the sockets in their places, unless the start was given up, and tells that they stand.
     fn show(&self) {
-        let Some(hall) = self.hall.get() else {
+        if self.is_claimed.swap(true, Ordering::SeqCst) {
             return;
+        }
+        let outcome = self.placed();
+        let _ = self.outcome.try_set(outcome);
+        if self.stands() {
+            self.tell_ready();
+        }
+    }
+
+    /// Puts each socket in its place. Where one can't be, those are taken away again that stand.
+    fn placed(&self) -> Outcome {
+        let Some(hall) = self.hall.get() else {
+            return Outcome::Stands;
         };
         for (number, place) in hall.places.as_slice().iter().enumerate() {
             let path = place.path.as_str();
             if let Err(error) = hall.folder.show(self.system, number, path) {
-                self.give_up(hall, PlaceFault { number, error });
-                return;
+                self.take_away(hall, number);
+                return Outcome::NoPlace { number, error };
             }
         }
         hall.folder.clear(self.system);
-        self.tell_ready(hall);
+        Outcome::Stands
     }
 
-    /// Takes the sockets away again that stand already, and ends all accepts.
-    fn give_up(&self, hall: &Hall, fault: PlaceFault) {
-        let shown = fault.number;
-        // Ahead of the ends of posts, which aren't told then.
-        let _ = self.fault.try_set(fault);
+    /// Takes so many sockets away again, the first, that stand already.
+    fn take_away(&self, hall: &Hall, shown: usize) {
         for place in hall.places.as_slice().iter().take(shown) {
             let _ = fs::remove_file(self.system, place.path.as_str());
         }
-        for place in hall.places.as_slice() {
-            // An accept at a socket that is shut down fails, also one that waits (shutdown(2)).
-            libc::net::shutdown(place.listener.as_raw_fd(), libc::net::SHUT_RDWR);
+    }
+
+    /// Gives the start up, unless its sockets are being put in their places.
+    fn give_up(&self) {
+        if !self.is_claimed.swap(true, Ordering::SeqCst) {
+            let _ = self.outcome.try_set(Outcome::FewThreads);
+        }
+    }
+
+    /// Waits until it is known what the start came to. Where the last post isn't about to accept
+    /// within a minute, it is given up.
+    fn await_outcome(&self) {
+        let mut step = 1_u64;
+        let mut waited = 0_u64;
+        for _ in 0..u64::MAX {
+            if self.outcome.get().is_some() {
+                return;
+            }
+            if waited >= PATIENCE {
+                self.give_up();
+            }
+            thread::sleep(self.system, Duration::from_millis(step));
+            waited = waited.saturating_add(step);
+            step = step.saturating_mul(2).min(LONGEST_STEP);
         }
     }
 
     /// Tells on standard output that the sockets stand.
-    fn tell_ready(&self, hall: &Hall) {
+    fn tell_ready(&self) {
+        let Some(hall) = self.hall.get() else {
+            return;
+        };
         // Who waits for the line may be gone, or there is no memory for it: the sockets are served
         // all the same.
         let alloc = self.system.alloc();
@@ -166,7 +241,9 @@ impl<'a> Watch for Standing<'a> {
         if self.to_begin.fetch_sub(1, Ordering::SeqCst) == 1 {
             self.show();
         }
-        self.fault.get().is_none()
+        // A post that has no thread of its own begins only once another has ended.
+        self.await_outcome();
+        self.stands()
     }
 
     fn hold_up(&self, error: &io::Error) {
@@ -179,9 +256,7 @@ impl<'a> Watch for Standing<'a> {
     }
 
     fn end(&self, error: &io::Error) {
-        if self.fault.get().is_none() {
-            let _ = eprintln!(self.system; "docportal: a post ends, it can't accept: {error}");
-        }
+        let _ = eprintln!(self.system; "docportal: a post ends, it can't accept: {error}");
     }
 
     fn give(&self, spends: bool) {

@@ -300,6 +300,12 @@ impl<'v, 'a, R: System> Openers<
 
     fn close(&mut self) -> Result<(), ServeEnd> {
         let standing = self.standing;
+        if let Some(posts) = standing.lacks_threads() {
+            self.count();
+            return Err(ServeEnd::FewThreads {
+                wanted: posts.saturating_add(TREE_THREADS as u64),
+            });
+        }
         match standing.fault() {
             Some((place, error)) => Err(self.no_socket(&place.path, error)),
             None => Ok(()),

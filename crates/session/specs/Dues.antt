@@ -1,5 +1,5 @@
 -- What an item asks, apart from how it is answered, and how it is answered by what became of that.
-use Rattle.std.specs.Prelude.{◌≡◌, ◌≢◌, ℕ, List, [], ◌∷◌, ◌++◌, map, Bool, true, cond, Option, None, IfSome, Ok, option_to_list}
+use Rattle.std.specs.Prelude.{◌≡◌, ◌≢◌, ℕ, List, [], ◌∷◌, ◌++◌, map, Bool, true, cond, None, IfSome, Ok, option_to_list}
 use Rattle.std.specs.List.{list_all}
 use Rattle.bus_answers.specs.Little.{is_little, kind_of}
 use Rattle.bus_answers.specs.declared.kind.ReturnKind.TheVariants.{Data}

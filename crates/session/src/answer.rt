@@ -3,7 +3,7 @@
 //! Who asks stands between the two: a desk that waits, or one that may say that
 //! it is busy.
 
-ghost use Rattle.std.specs.Prelude.{◌≡◌, ◌<◌, ◌≤◌, ◌∷◌, [], ◌++◌, ℕ, List as AList, map, option_to_list, true, IfOk, IfSome};
+ghost use Rattle.std.specs.Prelude.{◌≡◌, ◌<◌, ◌≤◌, [], ◌++◌, ℕ, List as AList, map, option_to_list, true, IfOk, IfSome};
 ghost use Rattle.std.specs.Prelude.{IsOk, OnErr, vec_capacity};
 ghost use Rattle.std.specs.List.{list_all};
 ghost use Rattle.dbus_dispatch.specs.Signals.{signal_of};

@@ -1,11 +1,14 @@
 //! A bell, which ends what threads wait for at sockets.
 
-use libc::net::{POLLIN, poll};
+use libc::net::{POLLERR, POLLHUP, POLLIN, POLLNVAL, poll};
 use libc::types::pollfd;
 use std::io;
 use std::io::{PipeReader, PipeWriter, Read, Write};
 use std::os::fd::{AsRawFd, RawFd};
 use std::sync::atomic::{AtomicBool, Ordering};
+
+/// What poll(2) tells of a descriptor that isn't served any more.
+const OVER: i16 = POLLHUP | POLLERR | POLLNVAL;
 
 /// A bell that is heard by any number of threads while they wait for a client. It rings until
 /// it is stilled.
@@ -27,6 +30,8 @@ pub(crate) struct Waited {
     pub(crate) is_rung: bool,
     /// The descriptor is ready.
     pub(crate) is_ready: bool,
+    /// It was shut down, has failed, or isn't open: it stays ready (poll(2)).
+    pub(crate) is_over: bool,
 }
 
 impl Bell {
@@ -67,6 +72,7 @@ impl Bell {
         Waited {
             is_rung: second.revents != 0,
             is_ready: first.revents != 0,
+            is_over: first.revents & OVER != 0,
         }
     }
 }

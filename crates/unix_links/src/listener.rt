@@ -60,7 +60,7 @@ pub trait Watch {
 /// itself is no fault: a client that has gone is passed over, and where descriptors or
 /// memory are wanting it waits and goes on. It keeps one descriptor in spare, so that a
 /// client is taken also where nobody may open a file. Each other error is a fault, and so
-/// is it where the watch lets it not begin. It never closes.
+/// is it where the socket was shut down, or the watch lets it not begin. It never closes.
 ///
 /// While the bell rings it takes no client, and each of its links is one of the program's own:
 /// one that ends at once, or one whose bytes come from the watch.
@@ -127,8 +127,14 @@ impl<'a, W: Watch> SocketListener<'a, W> {
             self.spare = self.socket.try_clone().ok();
         }
         for _ in 0..u64::MAX {
-            if self.bell.wait(self.socket.as_raw_fd(), POLLIN).is_rung {
+            let waited = self.bell.wait(self.socket.as_raw_fd(), POLLIN);
+            if waited.is_rung {
                 return Ok(None);
+            }
+            if waited.is_over {
+                // What an accept that waits says of a socket that is shut down. One that doesn't
+                // wait says for ever that nobody has come (accept(2)), and no wait is one then.
+                return Err(io::Error::from_raw_os_error(libc::EINVAL));
             }
             let accepted = match self.socket.accept() {
                 Ok((stream, _)) => ends(alloc, stream, self.bell),

@@ -12,6 +12,3 @@ trace_of-trace-requires-clause-started c = started c.args.script.now.lines c.arg
 
 pub returns : goal.returns
 returns c = traced_ok c.args.script.now.lines c.args.portal.now c.in_ok-opening.opening c.history.result.now.entries c.requires.script c.requires.ran c.in_ok-opening.ensures c.history.ensures c.args.app.now c.trace_of-trace.result c.trace_of-trace.ensures
-
-pub trace_of-trace-requires-clause-first : goal.trace_of-trace-requires-clause-first
-trace_of-trace-requires-clause-first c = c.in_ok-opening.ensures.first
