@@ -1,13 +1,12 @@
 //! Random streams, each of which is served and polled.
 
-use crate::client::{Manner, Sender, sender_of, words_of};
+use crate::client::{Line, Manner, line_of, words_of};
 use crate::cuts::is_same;
 use crate::dice::Dice;
 use crate::served::served;
 use crate::steps::Steps;
 use futures::test::MockTask;
 use portal_base::list::{ByteList, List};
-use session::act::Client;
 use std::alloc::Global;
 use vector_lines::error::VectorError;
 use vector_lines::notation::{bytes, cut, number};
@@ -15,23 +14,25 @@ use vector_lines::notation::{bytes, cut, number};
 /// `alike SEED COUNT WHO KIND OPTIONS BYTES | ITEM | ITEM ..`: how many of so many random
 /// streams come to the same, each served by `serve_connection` and polled in a random
 /// manner. A stream is the bytes and up to seven of the items behind them; now and then its
-/// end is missing, or one of its bytes is another. The option is `limit`, as `client` says.
+/// end is missing, or one of its bytes is another. The option is `limit`, as `Words` says.
 pub fn alike(task: &MockTask, alloc: Global, rest: &str) -> Result<String, VectorError> {
     let (seed, rest) = cut(rest);
     let (count, rest) = cut(rest);
     let mut dice = Dice::new(number(seed)?);
     let count = number(count)?;
-    let (line, items) = rest.split_once('|').unwrap_or((rest, ""));
-    let sender = sender_of(alloc, &words_of(line))?;
-    let alike = alike_by(task, alloc, &sender, items, &mut dice, count)?;
+    let (words, items) = rest.split_once('|').unwrap_or((rest, ""));
+    let words = words_of(words);
+    let bytes = bytes(alloc, words.bytes)?;
+    let line = line_of(&words, bytes.as_slice())?;
+    let alike = count_alike(task, alloc, &line, items, &mut dice, count)?;
     Ok(format!(in alloc; "{alike} of {count} alike")?)
 }
 
-/// How many of so many streams of a client come to the same.
-fn alike_by(
+/// How many of so many streams come to the same.
+fn count_alike(
     task: &MockTask,
     alloc: Global,
-    sender: &Sender,
+    line: &Line<'_>,
     items: &str,
     dice: &mut Dice,
     count: u64,
@@ -39,7 +40,7 @@ fn alike_by(
     let items = items_of(alloc, items)?;
     let mut alike = 0u64;
     for _ in 0..count {
-        if is_next_alike(task, alloc, sender, items.as_slice(), dice)? {
+        if is_next_alike(task, alloc, line, items.as_slice(), dice)? {
             alike = alike.saturating_add(1);
         }
     }
@@ -59,25 +60,19 @@ fn items_of(alloc: Global, words: &str) -> Result<List<ByteList>, VectorError> {
 fn is_next_alike(
     task: &MockTask,
     alloc: Global,
-    sender: &Sender,
+    line: &Line<'_>,
     items: &[ByteList],
     dice: &mut Dice,
 ) -> Result<bool, VectorError> {
-    let stream = stream(alloc, dice, sender.bytes.as_slice(), items)?;
-    let manner = any_manner(dice);
-    is_alike(task, alloc, &sender.client, stream.as_slice(), &manner)
+    let stream = stream(alloc, dice, line.bytes, items)?;
+    let line = line.with(stream.as_slice(), any_manner(dice));
+    is_alike(task, alloc, &line)
 }
 
 /// Whether a connection comes to the same, served and polled.
-fn is_alike(
-    task: &MockTask,
-    alloc: Global,
-    client: &Client,
-    bytes: &[u8],
-    manner: &Manner<'_>,
-) -> Result<bool, VectorError> {
-    let waited = served(alloc, client, bytes)?;
-    is_same(task, alloc, client, bytes, manner, &waited)
+fn is_alike(task: &MockTask, alloc: Global, line: &Line<'_>) -> Result<bool, VectorError> {
+    let waited = served(alloc, line)?;
+    is_same(task, alloc, line, &waited)
 }
 
 /// A random stream.

@@ -1,47 +1,31 @@
 //! Two connections that are polled beside each other.
 
-ghost use Rattle.std.specs.Prelude.{◌≡◌, [], false, IfOk};
-ghost use Rattle.poll_vectors.specs.Seats.{IsFree};
+ghost use Rattle.std.specs.Prelude.{◌≡◌, [], IfOk, IsSome, false};
 ghost use Rattle.portal_model.specs.Seated.{is_open, state_seen};
 ghost use Rattle.turn_desk.specs.Deals.{IsDealt};
+ghost use Rattle.turn_desk.specs.Sights.{seated_of};
 
-use crate::client::{
-    Manner, SCRIPT, Sender, Words, copy_of, limits_for, manner_of, sender_of, words_of,
-};
+use crate::client::{Line, SCRIPT, limits_for, line_of, words_of};
 use crate::log::Log;
-use crate::polled::{connect, half_of, until_over};
+use crate::polled::{Connection, connect, half_of, until_over};
 use crate::served::Half;
 use futures::future::join;
 use futures::test::MockTask;
 use portal_core::storied::Storied;
 use portal_desk::TryDesk;
 use portal_lines::opened_by;
-use session::act::Client;
 use std::alloc::Global;
 use std::cell::Cell;
 use turn_desk::seats::{Pass, Turn};
 use turn_desk::start::{Started, TurnError};
 use vector_lines::error::{LineError, VectorError};
+use vector_lines::notation::bytes;
 
-/// Two clients, and the bytes that they send.
-#[derive(Drop)]
-struct Senders {
-    first: Sender,
-    second: Sender,
-}
-
-/// Two clients.
-#[derive(Drop)]
-struct Clients {
-    first: Client,
-    second: Client,
-}
-
-/// How two connections are polled.
+/// What a line says of two connections.
 #[derive(Clone, Copy)]
-struct Manners<'a> {
-    first: Manner<'a>,
-    second: Manner<'a>,
+struct Lines<'a> {
+    first: Line<'a>,
+    second: Line<'a>,
 }
 
 /// A turn, and the passes of its two seats.
@@ -63,93 +47,57 @@ struct Halves {
 /// connections of one portal answers, each of which gets its bytes, until both are over,
 /// and behind it how many bytes both wrote; and the bytes that were written on each, where
 /// there are any. In each poll the first goes as far as it can without waiting, and then the
-/// second. The options are those of `client`; the first one's limit is that of the portal.
+/// second. The options are those of `Words`; the first one's limit is that of the portal.
 pub fn beside(task: &MockTask, alloc: Global, rest: &str) -> Result<String, VectorError> {
     let (one, other) = rest.split_once(" | ").unwrap_or((rest, ""));
     let (one, other) = (words_of(one), words_of(other));
-    let senders = senders_of(alloc, &one, &other)?;
-    beside_by(task, alloc, &senders, one.options, other.options)
-}
-
-/// The clients of a line, and what they send.
-fn senders_of(alloc: Global, one: &Words<'_>, other: &Words<'_>) -> Result<Senders, VectorError> {
-    let first = sender_of(alloc, one)?;
-    match sender_of(alloc, other) {
-        Ok(second) => Ok(Senders { first, second }),
-        Err(error) => {
-            drop(first);
-            Err(error)
-        }
-    }
-}
-
-/// The same of two clients that send bytes.
-fn beside_by(
-    task: &MockTask,
-    alloc: Global,
-    senders: &Senders,
-    one: &str,
-    other: &str,
-) -> Result<String, VectorError> {
-    let manners = Manners {
-        first: manner_of(one)?,
-        second: manner_of(other)?,
+    let first = bytes(alloc, one.bytes)?;
+    let second = bytes(alloc, other.bytes)?;
+    let lines = Lines {
+        first: line_of(&one, first.as_slice())?,
+        second: line_of(&other, second.as_slice())?,
     };
+    beside_lines(task, alloc, &lines)
+}
+
+/// The same of what a line says.
+fn beside_lines(task: &MockTask, alloc: Global, lines: &Lines<'_>) -> Result<String, VectorError> {
     let written = Cell::new(0);
     let mut log = Log::new(alloc, &written);
-    both(task, alloc, senders, &manners, &mut log)?;
+    let halves = both(task, alloc, lines, &mut log)?;
+    put_halves(alloc, &mut log, &halves)?;
     Ok(log.text)
 }
 
-/// Polls both over a portal of their own.
+/// What both come to over a portal of their own.
 fn both(
     task: &MockTask,
     alloc: Global,
-    senders: &Senders,
-    manners: &Manners<'_>,
+    lines: &Lines<'_>,
     log: &mut Log<'_>,
-) -> Result<(), VectorError> {
-    let clients = copies(alloc, senders)?;
-    match opened_by(alloc, SCRIPT, limits_for(&senders.first.client)) {
-        Ok(portal) => both_over(task, alloc, portal, clients, senders, manners, log),
-        Err(error) => {
-            drop(clients);
-            Err(error)
-        }
+) -> Result<Halves, VectorError> {
+    match opened_by(alloc, SCRIPT, limits_for(&lines.first)) {
+        Ok(portal) => both_over(task, alloc, portal, lines, log),
+        Err(error) => Err(error),
     }
 }
 
-/// The same clients.
-fn copies(alloc: Global, senders: &Senders) -> Result<Clients, VectorError> {
-    let first = copy_of(alloc, &senders.first.client)?;
-    match copy_of(alloc, &senders.second.client) {
-        Ok(second) => Ok(Clients { first, second }),
-        Err(error) => {
-            drop(first);
-            Err(VectorError::from(error))
-        }
-    }
-}
-
-/// Polls both over a portal that has no connection yet.
-#[tactic(auto, using(crate::proofs::Closed::free_dealt))]
+/// The same over a portal that has no connection yet.
+#[tactic(auto, using(crate::proofs::Closed::none_dealt))]
 fn both_over<S: Storied + Drop>(
     task: &MockTask,
     alloc: Global,
     portal: S,
-    clients: Clients,
-    senders: &Senders,
-    manners: &Manners<'_>,
+    lines: &Lines<'_>,
     log: &mut Log<'_>,
-) -> Result<(), VectorError>
+) -> Result<Halves, VectorError>
     requires { S.entries portal ≡ [] }
 {
     portal.known();
     match seats_of(alloc, portal) {
-        Ok(seats) => both_at(task, alloc, seats, clients, senders, manners, log),
+        Ok(seats) => both_seated(task, alloc, seats, lines, log),
         Err(portal) => {
             drop(portal);
-            drop(clients);
             Err(VectorError::Line(LineError::Memory))
         }
     }
@@ -177,18 +125,20 @@ fn seats_of<S: Storied>(alloc: Global, portal: S) -> Result<Seats<S>, S>
     }
 }
 
-/// Polls both at their seats, and puts what they come to.
-fn both_at<S: Storied + Drop>(
+/// The same at its seats, none of which has an open connection.
+fn both_seated<S: Storied + Drop>(
     task: &MockTask,
     alloc: Global,
     seats: Seats<S>,
-    clients: Clients,
-    senders: &Senders,
-    manners: &Manners<'_>,
+    lines: &Lines<'_>,
     log: &mut Log<'_>,
-) -> Result<(), VectorError>
-    requires first { IsFree seats.turn.table seats.first }
-    requires second { IsFree seats.turn.table seats.second }
+) -> Result<Halves, VectorError>
+    requires first { seats.first.table ≡ seats.turn.table }
+    requires second { seats.second.table ≡ seats.turn.table }
+    requires first_closed { is_open (state_seen (seated_of seats.first)) seats.first.knows.number
+        ≡ false }
+    requires second_closed { is_open (state_seen (seated_of seats.second))
+        seats.second.knows.number ≡ false }
 {
     let Seats {
         turn,
@@ -196,50 +146,56 @@ fn both_at<S: Storied + Drop>(
         second,
     } = seats;
     let (one, other) = (first.sit(&turn), second.sit(&turn));
-    let halves = both_polled(task, alloc, one, other, clients, senders, manners, log);
+    let halves = both_at(task, alloc, one, other, lines, log);
     drop(turn);
-    match halves {
-        Ok(halves) => put_halves(alloc, log, &halves),
-        Err(error) => Err(error),
-    }
+    halves
 }
 
-/// Polls both at desks.
-fn both_polled<D: TryDesk + Drop>(
+/// The same at desks.
+fn both_at<D: TryDesk + Drop>(
     task: &MockTask,
     alloc: Global,
     one: D,
     other: D,
-    clients: Clients,
-    senders: &Senders,
-    manners: &Manners<'_>,
+    lines: &Lines<'_>,
     log: &mut Log<'_>,
 ) -> Result<Halves, VectorError>
     requires one { is_open (state_seen (D.seated one)) (D.seated one).seat ≡ false }
     requires other { is_open (state_seen (D.seated other)) (D.seated other).seat ≡ false }
 {
-    let Clients { first, second } = clients;
-    let written = log.written;
-    let bytes = senders.first.bytes.as_slice();
-    let one = connect(alloc, one, first, bytes, &manners.first, written);
-    let bytes = senders.second.bytes.as_slice();
-    let other = connect(alloc, other, second, bytes, &manners.second, written);
-    match until_over(task, alloc, join(one, other), log) {
-        Ok((one, other)) => Ok(Halves {
-            first: half_of(one),
-            second: half_of(other),
-        }),
-        Err(error) => Err(error),
+    let one = connect(alloc, one, &lines.first, log.written)?;
+    match connect(alloc, other, &lines.second, log.written) {
+        Ok(other) => both_polled(task, alloc, one, other, log),
+        Err(error) => {
+            drop(one);
+            Err(error)
+        }
     }
+}
+
+/// The same of connections.
+fn both_polled<D: TryDesk + Drop>(
+    task: &MockTask,
+    alloc: Global,
+    one: Connection<'_, D>,
+    other: Connection<'_, D>,
+    log: &mut Log<'_>,
+) -> Result<Halves, VectorError>
+    requires one { IsSome one.session }
+    requires other { IsSome other.session }
+{
+    let (one, other) = until_over(task, alloc, join(one, other), log)?;
+    Ok(Halves {
+        first: half_of(one),
+        second: half_of(other),
+    })
 }
 
 /// Puts what both came to.
 fn put_halves(alloc: Global, log: &mut Log<'_>, halves: &Halves) -> Result<(), VectorError> {
     let (one, other) = (halves.first.served, halves.second.served);
-    log.put(
-        alloc,
-        format!(in alloc; "Ready({one:?}, {other:?})")?.as_str(),
-    )?;
+    let ready = format!(in alloc; "Ready({one:?}, {other:?})")?;
+    log.put(alloc, ready.as_str())?;
     log.put_bytes(alloc, &halves.first.written)?;
     log.put_bytes(alloc, &halves.second.written)
 }

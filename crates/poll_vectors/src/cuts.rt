@@ -1,49 +1,43 @@
 //! A stream that comes in two pieces, cut anywhere.
 
-use crate::client::{Manner, Sender, manner_of, sender_of, words_of};
+use crate::client::{Line, Manner, line_of, words_of};
 use crate::log::{Log, put_written};
 use crate::polled::polled;
 use crate::served::{Came, same, served};
 use crate::steps::Steps;
 use futures::test::MockTask;
-use session::act::Client;
 use std::alloc::Global;
 use std::cell::Cell;
 use vector_lines::error::VectorError;
+use vector_lines::notation::bytes;
 
 /// `cuts WHO KIND OPTIONS BYTES`: how a connection ends that gets the bytes, how many
 /// entries the history has then, and the bytes that were written, where there are any; it
 /// is served by `serve_connection`, and polled once for each cut of the bytes in two,
 /// between which there is nothing yet, and what it comes to is the same. The options are
-/// those of `client`, but for `read`.
+/// those of `Words`, but for `read`.
 pub fn cuts(task: &MockTask, alloc: Global, rest: &str) -> Result<String, VectorError> {
     let words = words_of(rest);
-    let sender = sender_of(alloc, &words)?;
-    cuts_by(task, alloc, &sender, words.options)
+    let bytes = bytes(alloc, words.bytes)?;
+    let line = line_of(&words, bytes.as_slice())?;
+    cuts_of(task, alloc, &line)
 }
 
-/// The same of a client that sends bytes.
-fn cuts_by(
-    task: &MockTask,
-    alloc: Global,
-    sender: &Sender,
-    options: &str,
-) -> Result<String, VectorError> {
-    let manner = manner_of(options)?;
-    let bytes = sender.bytes.as_slice();
-    let waited = served(alloc, &sender.client, bytes)?;
-    match odd_cut(task, alloc, &sender.client, bytes, &manner, &waited)? {
+/// The same of what a line says.
+fn cuts_of(task: &MockTask, alloc: Global, line: &Line<'_>) -> Result<String, VectorError> {
+    let waited = served(alloc, line)?;
+    match odd_cut(task, alloc, line, &waited)? {
         Some(at) => Ok(format!(in alloc; "not the same, cut at {at}")?),
-        None => told(alloc, &waited, bytes.len()),
+        None => told(alloc, &waited, line.bytes.len()),
     }
 }
 
 /// What a connection came to, wherever its bytes were cut.
 fn told(alloc: Global, came: &Came, len: usize) -> Result<String, VectorError> {
-    let ending = came.served;
+    let ending = came.half.served;
     let entries = came.entries;
     let mut told = format!(in alloc; "{ending:?}, {entries} entries, cut anywhere in {len} bytes")?;
-    put_written(alloc, &mut told, came.written.as_slice())?;
+    put_written(alloc, &mut told, came.half.written.as_slice())?;
     Ok(told)
 }
 
@@ -51,13 +45,11 @@ fn told(alloc: Global, came: &Came, len: usize) -> Result<String, VectorError> {
 fn odd_cut(
     task: &MockTask,
     alloc: Global,
-    client: &Client,
-    bytes: &[u8],
-    manner: &Manner<'_>,
+    line: &Line<'_>,
     waited: &Came,
 ) -> Result<Option<usize>, VectorError> {
-    for at in 0..=bytes.len() {
-        if !is_same_cut(task, alloc, client, bytes, manner, at, waited)? {
+    for at in 0..=line.bytes.len() {
+        if !is_same_cut(task, alloc, line, at, waited)? {
             return Ok(Some(at));
         }
     }
@@ -68,19 +60,17 @@ fn odd_cut(
 fn is_same_cut(
     task: &MockTask,
     alloc: Global,
-    client: &Client,
-    bytes: &[u8],
-    manner: &Manner<'_>,
+    line: &Line<'_>,
     at: usize,
     waited: &Came,
 ) -> Result<bool, VectorError> {
     let text = cut_at(alloc, at)?;
     let manner = Manner {
         reads: Steps::Told(text.as_str()),
-        writes: manner.writes,
-        busy: manner.busy,
+        writes: line.manner.writes,
+        busy: line.manner.busy,
     };
-    is_same(task, alloc, client, bytes, &manner, waited)
+    is_same(task, alloc, &line.with(line.bytes, manner), waited)
 }
 
 /// The steps of a cut.
@@ -91,17 +81,15 @@ fn cut_at(alloc: Global, at: usize) -> Result<String, VectorError> {
     Ok(format!(in alloc; "{at}.!")?)
 }
 
-/// Whether a connection that is polled so comes to the same.
+/// Whether the connection of a line comes to the same, polled.
 pub fn is_same(
     task: &MockTask,
     alloc: Global,
-    client: &Client,
-    bytes: &[u8],
-    manner: &Manner<'_>,
+    line: &Line<'_>,
     waited: &Came,
 ) -> Result<bool, VectorError> {
     let written = Cell::new(0);
     let mut log = Log::new(alloc, &written);
-    let other = polled(task, alloc, client, bytes, manner, &mut log)?;
+    let other = polled(task, alloc, line, &mut log)?;
     Ok(same(waited, &other))
 }

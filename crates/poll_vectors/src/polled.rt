@@ -1,12 +1,12 @@
 //! Connections that are polled.
 
-ghost use Rattle.std.specs.Prelude.{◌≡◌, [], IsSome, false};
+ghost use Rattle.std.specs.Prelude.{◌≡◌, [], IfOk, IsSome, false};
 ghost use Rattle.portal_model.specs.Seated.{is_open, state_seen};
 
-use crate::client::{Manner, SCRIPT, copy_of, limits_for};
+use crate::client::{Line, SCRIPT, client_of, limits_for};
 use crate::log::Log;
 use crate::outside::{ShyDesk, StepSink, StepSource};
-use crate::served::{Came, Half, came_to};
+use crate::served::{Came, Half};
 use futures::Future;
 use futures::task::Poll;
 use futures::test::MockTask;
@@ -31,23 +31,17 @@ pub type Connection<'a, D> = PollConnection<ShyDesk<D>, StepSource<'a>, StepSink
 /// What one is made of, once it is over.
 pub type End<'a, D> = Ended<ShyDesk<D>, StepSource<'a>, StepSink<'a>>;
 
-/// What a connection comes to on which a client sends bytes, and which is polled so. What
-/// each poll answers is put to a log.
+/// What the connection of a line comes to, polled. Each poll that is pending is put to a
+/// log.
 pub fn polled(
     task: &MockTask,
     alloc: Global,
-    client: &Client,
-    bytes: &[u8],
-    manner: &Manner<'_>,
+    line: &Line<'_>,
     log: &mut Log<'_>,
 ) -> Result<Came, VectorError> {
-    let copy = copy_of(alloc, client)?;
-    match opened_by(alloc, SCRIPT, limits_for(client)) {
-        Ok(portal) => polled_over(task, alloc, portal, copy, bytes, manner, log),
-        Err(error) => {
-            drop(copy);
-            Err(error)
-        }
+    match opened_by(alloc, SCRIPT, limits_for(line)) {
+        Ok(portal) => polled_over(task, alloc, portal, line, log),
+        Err(error) => Err(error),
     }
 }
 
@@ -57,20 +51,20 @@ fn polled_over<S: Storied + Drop>(
     task: &MockTask,
     alloc: Global,
     portal: S,
-    client: Client,
-    bytes: &[u8],
-    manner: &Manner<'_>,
+    line: &Line<'_>,
     log: &mut Log<'_>,
 ) -> Result<Came, VectorError>
     requires { S.entries portal ≡ [] }
 {
     portal.known();
     let mut portal = portal;
-    let desk = LocalDesk::new(&mut portal, 1);
-    let half = polled_at(task, alloc, desk, client, bytes, manner, log);
+    let half = polled_at(task, alloc, LocalDesk::new(&mut portal, 1), line, log);
     let entries = portal.entry_count();
     drop(portal);
-    came_to(half, entries)
+    Ok(Came {
+        half: half?,
+        entries,
+    })
 }
 
 /// The same at a desk.
@@ -78,27 +72,36 @@ fn polled_at<D: TryDesk + Drop>(
     task: &MockTask,
     alloc: Global,
     desk: D,
-    client: Client,
-    bytes: &[u8],
-    manner: &Manner<'_>,
+    line: &Line<'_>,
     log: &mut Log<'_>,
 ) -> Result<Half, VectorError>
     requires { is_open (state_seen (D.seated desk)) (D.seated desk).seat ≡ false }
 {
-    let connection = connect(alloc, desk, client, bytes, manner, log.written);
-    match until_over(task, alloc, connection, log) {
-        Ok(ended) => Ok(half_of(ended)),
-        Err(error) => Err(error),
-    }
+    let connection = connect(alloc, desk, line, log.written)?;
+    let ended = until_over(task, alloc, connection, log)?;
+    Ok(half_of(ended))
 }
 
-/// A connection at a desk, on which a client sends bytes, and which is polled so.
-pub fn connect<'a, D: TryDesk>(
+/// The connection of a line at a desk.
+pub fn connect<'a, D: TryDesk + Drop>(
+    alloc: Global,
+    desk: D,
+    line: &Line<'a>,
+    written: &'a Cell<u64>,
+) -> Result<Connection<'a, D>, VectorError>
+    requires { is_open (state_seen (D.seated desk)) (D.seated desk).seat ≡ false }
+    ensures { IfOk result (λ c. IsSome c.session) }
+{
+    let client = client_of(alloc, line)?;
+    Ok(connection_of(alloc, desk, client, line, written))
+}
+
+/// The same of its client.
+fn connection_of<'a, D: TryDesk>(
     alloc: Global,
     desk: D,
     client: Client,
-    bytes: &'a [u8],
-    manner: &Manner<'a>,
+    line: &Line<'a>,
     written: &'a Cell<u64>,
 ) -> Connection<'a, D>
     requires { is_open (state_seen (D.seated desk)) (D.seated desk).seat ≡ false }
@@ -106,20 +109,20 @@ pub fn connect<'a, D: TryDesk>(
 {
     let desk = ShyDesk {
         desk,
-        every: manner.busy,
+        every: line.manner.busy,
         tries: 0,
         busy: 0,
     };
     let source = StepSource {
-        bytes,
+        bytes: line.bytes,
         at: 0,
-        steps: manner.reads,
+        steps: line.manner.reads,
         faults: 0,
         waits: 0,
     };
     let sink = StepSink {
         bytes: List::new(alloc),
-        steps: manner.writes,
+        steps: line.manner.writes,
         written,
         faults: 0,
         waits: 0,

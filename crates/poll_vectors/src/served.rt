@@ -1,12 +1,14 @@
-//! The same client, served by a session that waits.
+//! The same connections, served by a session that waits.
 
-ghost use Rattle.std.specs.Prelude.{◌≡◌, []};
+ghost use Rattle.std.specs.Prelude.{◌≡◌, [], false};
+ghost use Rattle.portal_model.specs.Seated.{is_open, state_seen};
 
-use crate::client::{SCRIPT, limits_for};
+use crate::client::{Line, SCRIPT, client_of, limits_for};
 use portal_base::list::{ByteList, List};
 use portal_base::outside::{MemorySink, MemorySource};
 use portal_core::local_desk::LocalDesk;
 use portal_core::storied::Storied;
+use portal_desk::Desk;
 use portal_lines::opened_by;
 use session::act::Client;
 use session::connection::serve_connection;
@@ -23,46 +25,27 @@ pub struct Half {
     pub written: ByteList,
 }
 
-/// What a connection came to.
+/// What a connection came to over a portal of its own.
 #[derive(Drop)]
 pub struct Came {
-    /// How it ended.
-    pub served: Served,
+    /// How it ended, and what was written on it.
+    pub half: Half,
     /// How many entries the history has then.
     pub entries: u64,
-    /// The bytes that were written.
-    pub written: ByteList,
-}
-
-/// What a connection came to, behind which the history has so many entries.
-pub fn came_to(half: Result<Half, VectorError>, entries: u64) -> Result<Came, VectorError> {
-    match half {
-        Ok(Half { served, written }) => Ok(Came {
-            served,
-            entries,
-            written,
-        }),
-        Err(error) => Err(error),
-    }
 }
 
 /// Whether two connections came to the same.
 pub fn same(one: &Came, other: &Came) -> bool {
-    one.served == other.served
+    one.half.served == other.half.served
         && one.entries == other.entries
-        && one.written.as_slice() == other.written.as_slice()
+        && one.half.written.as_slice() == other.half.written.as_slice()
 }
 
-/// What a connection comes to on which a client sends bytes, and which is served by
-/// `serve_connection`.
-pub fn served(alloc: Global, client: &Client, bytes: &[u8]) -> Result<Came, VectorError> {
-    let source = MemorySource::new(List::copied(alloc, bytes)?, 0);
-    match opened_by(alloc, SCRIPT, limits_for(client)) {
-        Ok(portal) => served_over(alloc, portal, client, source),
-        Err(error) => {
-            drop(source);
-            Err(error)
-        }
+/// What the connection of a line comes to, served by `serve_connection`.
+pub fn served(alloc: Global, line: &Line<'_>) -> Result<Came, VectorError> {
+    match opened_by(alloc, SCRIPT, limits_for(line)) {
+        Ok(portal) => served_over(alloc, portal, line),
+        Err(error) => Err(error),
     }
 }
 
@@ -71,16 +54,41 @@ pub fn served(alloc: Global, client: &Client, bytes: &[u8]) -> Result<Came, Vect
 fn served_over<S: Storied + Drop>(
     alloc: Global,
     portal: S,
-    client: &Client,
-    source: MemorySource,
+    line: &Line<'_>,
 ) -> Result<Came, VectorError>
     requires { S.entries portal ≡ [] }
 {
     portal.known();
     let mut portal = portal;
-    let mut source = source;
+    let half = served_at(alloc, LocalDesk::new(&mut portal, 1), line);
+    let entries = portal.entry_count();
+    drop(portal);
+    Ok(Came {
+        half: half?,
+        entries,
+    })
+}
+
+/// The same at a desk.
+fn served_at<D: Desk + Drop>(alloc: Global, desk: D, line: &Line<'_>) -> Result<Half, VectorError>
+    requires { is_open (state_seen (D.seated desk)) (D.seated desk).seat ≡ false }
+{
+    let client = client_of(alloc, line)?;
+    served_to(alloc, desk, &client, line.bytes)
+}
+
+/// The same of its client, which sends bytes.
+fn served_to<D: Desk + Drop>(
+    alloc: Global,
+    desk: D,
+    client: &Client,
+    bytes: &[u8],
+) -> Result<Half, VectorError>
+    requires { is_open (state_seen (D.seated desk)) (D.seated desk).seat ≡ false }
+{
+    let mut desk = desk;
+    let mut source = MemorySource::new(List::copied(alloc, bytes)?, 0);
     let mut sink = MemorySink::new(alloc, 0);
-    let mut desk = LocalDesk::new(&mut portal, 1);
     let served = serve_connection(
         alloc,
         &mut desk,
@@ -90,21 +98,8 @@ fn served_over<S: Storied + Drop>(
         &mut source,
         &mut sink,
     );
-    let entries = portal.entry_count();
-    drop(portal);
-    let written = joined(alloc, sink.pieces().as_slice());
-    came_to(half_written(served, written), entries)
-}
-
-/// How a connection ended, and what was written on it.
-fn half_written(
-    served: Served,
-    written: Result<ByteList, VectorError>,
-) -> Result<Half, VectorError> {
-    match written {
-        Ok(written) => Ok(Half { served, written }),
-        Err(error) => Err(error),
-    }
+    let written = joined(alloc, sink.pieces().as_slice())?;
+    Ok(Half { served, written })
 }
 
 /// The bytes of pieces.
