@@ -98,7 +98,7 @@ fn broken(alloc: Global, dice: &mut Dice, bytes: ByteList) -> Result<ByteList, V
     let (front, back) = all.split_at(at.min(all.len()));
     match dice.below(4) {
         0 => Ok(List::copied(alloc, front)?),
-        1 => spoiled(alloc, front, dice.below(256) as u8, back),
+        1 => spoiled(alloc, front, (dice.below(256) & 0xff) as u8, back),
         _ => Ok(bytes),
     }
 }
@@ -118,7 +118,7 @@ fn spoiled(alloc: Global, front: &[u8], byte: u8, back: &[u8]) -> Result<ByteLis
 fn any_manner<'a>(dice: &mut Dice) -> Manner<'a> {
     let busy = match dice.below(4) {
         0 => 0,
-        every => every + 1,
+        every => every.saturating_add(1),
     };
     Manner {
         reads: any_steps(dice, 200),
@@ -130,5 +130,5 @@ fn any_manner<'a>(dice: &mut Dice) -> Manner<'a> {
 /// Random steps.
 fn any_steps<'a>(dice: &mut Dice, most: u64) -> Steps<'a> {
     let seed = dice.below(u64::MAX);
-    Steps::Drawn(Dice::new(seed), 1 + dice.below(most))
+    Steps::Drawn(Dice::new(seed), dice.below(most).saturating_add(1))
 }

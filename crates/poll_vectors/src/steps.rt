@@ -67,7 +67,7 @@ fn step_of(word: &str) -> Step {
 fn drawn(dice: &mut Dice, most: u64) -> Step {
     match dice.below(2) {
         0 => Step::NotYet,
-        _ => Step::UpTo(1 + dice.below(most) as usize),
+        _ => Step::UpTo((dice.below(most) as usize).saturating_add(1)),
     }
 }
 
