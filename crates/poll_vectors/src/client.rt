@@ -57,7 +57,7 @@ pub struct Line<'a> {
 
 impl<'a> Line<'a> {
     /// The same, but that the client sends other bytes, and in another manner.
-    pub fn with(self, bytes: &'a [u8], manner: Manner<'a>) -> Line<'a> {
+    pub fn with(&self, bytes: &'a [u8], manner: Manner<'a>) -> Line<'a> {
         Line {
             who: self.who,
             kind: self.kind,
