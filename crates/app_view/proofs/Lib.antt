@@ -3,3 +3,4 @@ pub mod SortedNames
 pub mod SeenFolders
 pub mod SeenPlaces
 pub mod ReachedRights
+pub mod AllowedNow

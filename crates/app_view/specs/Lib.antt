@@ -3,3 +3,4 @@ pub mod Places
 pub mod Entries
 pub mod Sights
 pub mod Reached
+pub mod Opened

@@ -16,8 +16,8 @@ use Rattle.portal_model.specs.Place.{Folder}
 use Rattle.portal_model.specs.Reach.{OpenFile, Reaching, may_write_now, reach_of, reaches}
 use Rattle.portal_model.specs.SetAttr.{SetsAttr, resize, set_attr_at, set_attr_of_folder, set_attr_of_open, set_attr_open, sets_size}
 use Rattle.portal_model.specs.Walk.{Walk}
-use Rattle.node_looks.specs.Opened.{IsAllowed}
-use Rattle.node_looks.specs.declared.opened.Allowed.{Allowed}
+use Rattle.app_view.specs.Opened.{IsAllowed}
+use Rattle.app_view.specs.declared.opened.Allowed.{Allowed}
 use Rattle.node_looks.specs.declared.served.NodeDone.{NodeDone}
 use Rattle.file_ops.specs.Sets.{denial_of, generation_of, set_subject}
 use Rattle.file_ops.specs.Tries.{Goes, GoesBehind, IsOfGeneration, done_of_ended}

@@ -43,12 +43,12 @@ use Rattle.portal_model.specs.State.{State, handle_of}
 use Rattle.portal_model.specs.Write.{write, write_content, write_open}
 use Rattle.app_view.specs.Books.{Lends}
 use Rattle.node_looks.specs.Walks.{ComesToBehind}
-use Rattle.node_looks.specs.declared.opened.Allowed.{Allowed}
-use Rattle.node_looks.specs.declared.opened.OpenFile.{OpenFile as FileLent}
+use Rattle.app_view.specs.declared.opened.Allowed.{Allowed}
+use Rattle.app_view.specs.declared.opened.OpenFile.{OpenFile as FileLent}
 use Rattle.node_looks.specs.declared.served.FileBook.{FileBook}
 use Rattle.node_looks.specs.declared.served.NodeCall.{NodeCall}
 use Rattle.node_looks.specs.Done.{Does, DoesAt, DoneBy, Wants, answer_of, file_change, handle_change}
-use Rattle.node_looks.specs.Opened.{IsAllowed, by_open_file, file_of}
+use Rattle.app_view.specs.Opened.{IsAllowed, by_open_file, file_of}
 use Rattle.node_looks.specs.OpenHandles.{Handled}
 use Rattle.node_looks.proofs.DoneLemmas.{IsExact, done-in, handle-is, handles-stay, same-answer, walk-is}
 use Rattle.node_looks.proofs.Follow.{seen-by-caller}

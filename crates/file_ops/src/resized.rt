@@ -14,7 +14,7 @@ ghost use Rattle.portal_model.specs.State.{State};
 ghost use Rattle.portal_model.specs.Walk.{AtPath, Looks};
 ghost use Rattle.app_view.specs.Books.{Lends};
 ghost use Rattle.node_looks.specs.Done.{DoesAt, MayRead, Reads};
-ghost use Rattle.node_looks.specs.Opened.{file_of};
+ghost use Rattle.app_view.specs.Opened.{file_of};
 ghost use Rattle.file_ops.specs.Sets.{denial_of, generation_of, set_subject, sets_file, sets_length, sets_of};
 ghost use Rattle.node_looks.specs.Sights.{naming_by, node_seen, sight_of, temp_by};
 ghost use Rattle.node_looks.specs.TreeCalls.{WasCalledUpTo};
@@ -22,11 +22,10 @@ ghost use Rattle.file_ops.specs.Tries.{Goes, GoesBehind, done_of_ended, done_of_
 
 use crate::opened::look_named;
 use crate::tried::{Ended, Tried, came_of, room_for_looks};
-use app_view::{SeenBelow, SeenTemp, ViewBook};
+use app_view::{OpenFile, SeenBelow, SeenTemp, ViewBook, allowed_now, open_file};
 use document_records::Document;
 use host_tree::{HostTree, LookAnswer};
 use node_looks::attributes::{attr_of_file, attr_of_folder};
-use node_looks::opened::{OpenFile, allowed_now, open_file};
 use node_looks::served::{ByNumber, FileBook, NodeCall, NodeDone};
 use node_looks::sight::{SeenPlace, seen_place};
 use portal_base::files::{FileName, Look};

@@ -10,13 +10,13 @@ ghost use Rattle.portal_model.specs.State.{State};
 ghost use Rattle.portal_model.specs.Write.{write, write_content, write_name, write_open};
 ghost use Rattle.app_view.specs.Books.{Lends};
 ghost use Rattle.node_looks.specs.Done.{Does, MayRead, Reads};
-ghost use Rattle.node_looks.specs.Opened.{file_of};
+ghost use Rattle.app_view.specs.Opened.{file_of};
 ghost use Rattle.node_looks.specs.TreeCalls.{WasCalledUpTo};
 ghost use Rattle.file_ops.specs.Tries.{Goes, done_of_ended, moment_of};
 
 use crate::tried::{Ended, Tried, came_of, room_for_looks};
+use app_view::{OpenFile, allowed_now, open_file};
 use host_tree::HostTree;
-use node_looks::opened::{OpenFile, allowed_now, open_file};
 use node_looks::served::{FileBook, NodeCall, NodeDone};
 use portal_base::files::FileName;
 use portal_base::memory::WantOfMemory;

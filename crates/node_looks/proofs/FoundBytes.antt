@@ -21,12 +21,12 @@ use Rattle.portal_model.specs.Walk.{Walk}
 use Rattle.node_looks.specs.ReadFiles.{AreBytes, Finds, FindsAny, IsReadAnswer}
 use Rattle.node_looks.specs.Done.{Does, DoneBy, IsAnswer}
 use Rattle.app_view.specs.Books.{Lends}
-use Rattle.node_looks.specs.Opened.{IsAllowed}
+use Rattle.app_view.specs.Opened.{IsAllowed}
 use Rattle.node_looks.specs.OpenHandles.{Handled}
 use Rattle.node_looks.specs.TreeCalls.{Calling, calls_of}
 use Rattle.node_looks.specs.Walks.{fault_of, taken}
 use Rattle.node_looks.specs.declared.asked.Asked.{Asked}
-use Rattle.node_looks.specs.declared.opened.Allowed.{Allowed}
+use Rattle.app_view.specs.declared.opened.Allowed.{Allowed}
 use Rattle.node_looks.specs.declared.served.FileBook.{FileBook}
 use Rattle.node_looks.specs.declared.served.NodeCall.{NodeCall}
 use Rattle.node_looks.specs.declared.served.NodeDone.{NodeDone}

@@ -5,5 +5,4 @@ pub mod OpenTable
 pub mod DoneLemmas
 pub mod OpenFiles
 pub mod FoundBytes
-pub mod AllowedNow
 pub mod LowKinds

@@ -33,12 +33,12 @@ use Rattle.portal_model.specs.Reach.{OpenFile, Reaching}
 use Rattle.portal_model.specs.State.{State, handle_of}
 use Rattle.portal_model.specs.Walk.{Answers, AtPath, Ends, Gives, GivesNames, IsShown, Lists, Looks, Named, Walk, generation_reached, look_of_file, reads_clock, walked}
 use Rattle.node_looks.specs.Done.{Does, DoesAt, IsCalled}
-use Rattle.node_looks.specs.Opened.{IsAllowed}
+use Rattle.app_view.specs.Opened.{IsAllowed}
 use Rattle.node_looks.specs.Served.{HasAt, Told}
 use Rattle.node_looks.specs.TreeCalls.{Call, Calling, calls_of, unfailed}
 use Rattle.node_looks.specs.Walks.{ComesTo, ComesToBehind, ComesToLook, Follows, look_of_attr}
 use Rattle.node_looks.specs.declared.asked.Asked.{Asked}
-use Rattle.node_looks.specs.declared.opened.Allowed.{Allowed}
+use Rattle.app_view.specs.declared.opened.Allowed.{Allowed}
 use Rattle.node_looks.specs.declared.served.FileBook.{FileBook}
 use Rattle.node_looks.specs.declared.served.NodeCall.{NodeCall}
 use Rattle.node_looks.specs.declared.served.NodeDone.{NodeDone}

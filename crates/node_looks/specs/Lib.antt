@@ -7,5 +7,4 @@ pub mod Rooms
 pub mod ReadFiles
 pub mod OpenHandles
 pub mod Done
-pub mod Opened
 pub mod OwnFiles

@@ -13,14 +13,13 @@ ghost use Rattle.portal_model.specs.State.{State};
 ghost use Rattle.app_view.specs.Books.{Lends};
 ghost use Rattle.node_looks.specs.ReadFiles.{FindsAny};
 ghost use Rattle.node_looks.specs.Done.{Does};
-ghost use Rattle.node_looks.specs.Opened.{file_of};
+ghost use Rattle.app_view.specs.Opened.{file_of};
 ghost use Rattle.node_looks.specs.TreeCalls.{Calling, WasCalledOnce, unfailed};
 
 use crate::asked::{Asked, done, no_such_file, refusal, room_for_look, tree_failed};
 use crate::listed::asks_too_much;
-use crate::opened::{OpenFile, allowed_now, open_file};
 use crate::served::{FileBook, NodeCall, NodeDone};
-use app_view::ViewBook;
+use app_view::{OpenFile, ViewBook, allowed_now, open_file};
 use host_tree::{HostTree, TreeRead};
 use open_handles::{Handle, Handles};
 use portal_base::files::FileName;

@@ -19,7 +19,6 @@
 //! | `entry` | [`lookup`]: a name in a folder, but for those at and below documents that are folders; [`OwnFile`]: a temporary of that name |
 //! | `checked` | [`access`]: what the caller may do at a node |
 //! | `described` | [`get_attr`]: the attributes of a node, or of an open file |
-//! | `opened` | [`OpenFile`]: an open file, and what it may do now |
 //! | `contents` | [`read`]: the bytes of an open file |
 //! | `synced` | [`flush`] and [`fsync`]: what was written to an open file is to be kept |
 //! | `listed` | [`read_dir`]: the entries of an open folder |
@@ -51,7 +50,6 @@ mod forgotten;
 pub mod handed;
 mod listed;
 mod names;
-pub mod opened;
 mod released;
 pub mod rooms;
 pub mod served;
@@ -64,7 +62,6 @@ pub use described::get_attr;
 pub use entry::{OwnFile, lookup};
 pub use forgotten::forget;
 pub use listed::read_dir;
-pub use opened::{Allowed, OpenFile};
 pub use released::{release, release_dir};
 pub use rooms::LookRooms;
 pub use served::{ByNumber, FileBook, NodeCall, NodeDone};

@@ -1,6 +1,6 @@
 use Rattle.std.proofs.lemmas.Result.{IfOk-weaker}
 use Rattle.portal_model.specs.Place.{reach_at}
-use Rattle.node_looks.specs.Opened.{file_of}
+use Rattle.app_view.specs.Opened.{file_of}
 use Rattle.file_ops.specs.Sets.{sets_of}
 use Rattle.file_ops.specs.Tries.{done_of_tried}
 use Rattle.file_ops.proofs.Sets.{open-goes}

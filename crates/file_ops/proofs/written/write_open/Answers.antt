@@ -1,6 +1,6 @@
 use Rattle.std.proofs.lemmas.Result.{IfOk-weaker}
 use Rattle.portal_model.specs.Place.{reach_at}
-use Rattle.node_looks.specs.Opened.{file_of}
+use Rattle.app_view.specs.Opened.{file_of}
 use Rattle.file_ops.specs.Tries.{done_of_ended}
 use Rattle.file_ops.proofs.Tries.{open-writes}
 use Rattle.file_ops.proofs.written.write_open.Goals as goal

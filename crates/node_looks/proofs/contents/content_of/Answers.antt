@@ -1,6 +1,6 @@
 use Rattle.std.proofs.lemmas.Result.{IfOk-weaker}
 use Rattle.portal_model.specs.Place.{reach_at}
-use Rattle.node_looks.specs.Opened.{file_of}
+use Rattle.app_view.specs.Opened.{file_of}
 use Rattle.node_looks.proofs.FoundBytes.{read-open}
 use Rattle.node_looks.proofs.contents.content_of.Goals as goal
 

@@ -1,5 +1,5 @@
 use Rattle.portal_model.specs.Place.{reach_at}
-use Rattle.node_looks.specs.Opened.{file_of}
+use Rattle.app_view.specs.Opened.{file_of}
 use Rattle.node_looks.proofs.OpenFiles.{open-follows}
 use Rattle.node_looks.proofs.described.of_open_file.Goals as goal
 

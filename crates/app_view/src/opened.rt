@@ -5,9 +5,10 @@ ghost use Rattle.portal_model.specs.NodeVerdict.{OnHandle, by_file_handle};
 ghost use Rattle.portal_model.specs.Place.{reach_at};
 ghost use Rattle.portal_model.specs.State.{State};
 ghost use Rattle.app_view.specs.Books.{Lends};
-ghost use Rattle.node_looks.specs.Opened.{IsAllowed, by_open_file, file_of};
+ghost use Rattle.app_view.specs.Opened.{IsAllowed, by_open_file, file_of};
 
-use app_view::{ViewBook, reach_at};
+use crate::book::ViewBook;
+use crate::rights_now::reach_at;
 use portal_base::files::FileName;
 use portal_base::names::DocId;
 use portal_base::who::Who;

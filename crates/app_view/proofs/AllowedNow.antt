@@ -3,7 +3,7 @@ use Rattle.std.proofs.Common.{◌≡◌, Bool, true, false, not, ◌&&◌, ◌||
 use Rattle.portal_model.specs.Reach.{OpenFile, Reach, Reaching, reach_of, reaches}
 use Rattle.app_view.specs.Reached.{reach_told}
 use Rattle.app_view.specs.declared.rights_now.Reach.{Reach as ReachTold}
-use Rattle.node_looks.specs.Opened.{IsAllowed}
+use Rattle.app_view.specs.Opened.{IsAllowed}
 
 all : (b : Bool) → b ≡ (b && true)
 all true = refl

@@ -4,8 +4,8 @@ use Rattle.portal_model.specs.Errno.{ebadf}
 use Rattle.portal_model.specs.NodeVerdict.{NodeVerdict, OnHandle, errs}
 use Rattle.portal_model.specs.Reach.{OpenFile, Reaching, may_read_now, may_write_now, open_file_of, reaches}
 use Rattle.portal_model.specs.Walk.{Walk}
-use Rattle.node_looks.specs.declared.opened.Allowed.{Allowed}
-use Rattle.node_looks.specs.declared.opened.OpenFile.{OpenFile as FileLent}
+use Rattle.app_view.specs.declared.opened.Allowed.{Allowed}
+use Rattle.app_view.specs.declared.opened.OpenFile.{OpenFile as FileLent}
 
 -- the open file of the model
 abbrev pub file_of : FileLent → OpenFile
