@@ -9,10 +9,10 @@ use std::fs;
 const STANDARD_FILES: u64 = 3;
 
 /// The most files that are counted.
-pub(crate) const MOST_FILES: u64 = 1_000_000;
+pub const MOST_FILES: u64 = 1_000_000;
 
 /// How many files the process may have open (getrlimit(2)), where the system tells it.
-pub(crate) fn files_allowed() -> Option<u64> {
+pub fn files_allowed() -> Option<u64> {
     let mut limit = rlimit {
         rlim_cur: 0,
         rlim_max: 0,
@@ -25,7 +25,7 @@ pub(crate) fn files_allowed() -> Option<u64> {
 
 /// How many files the process has open now, at most a million; three where `/proc` isn't
 /// mounted.
-pub(crate) fn files_open(system: &HostRuntime) -> u64
+pub fn files_open(system: &HostRuntime) -> u64
     ensures { result ≤ 1000000 }
 {
     let Ok(entries) = fs::read_dir(system, "/proc/self/fd") else {

@@ -25,7 +25,7 @@
 #![tactic(auto)]
 
 pub mod answer;
-mod descriptors;
+pub mod descriptors;
 mod line;
 mod root;
 mod rounds;
