@@ -43,7 +43,7 @@ pub fn names(alloc: Global, word: &str) -> Result<List<Text>, LineError>
 }
 
 /// Rows as `APP=NAMES`, with a `,` between them; `-` is none.
-pub fn rows(alloc: Global, word: &str) -> Result<List<Row>, VectorError>
+pub fn rows(alloc: Global, word: &str) -> Result<List<Row>, LineError>
     ensures { IfOk result (λ rows. have_texts rows ≡ true) }
 {
     let mut rows = List::new(alloc);
@@ -56,11 +56,11 @@ pub fn rows(alloc: Global, word: &str) -> Result<List<Row>, VectorError>
     Ok(rows)
 }
 
-fn row_of(alloc: Global, word: &str) -> Result<Row, VectorError>
+fn row_of(alloc: Global, word: &str) -> Result<Row, LineError>
     ensures { IfOk result (λ row. has_texts row ≡ true) }
 {
     let Some((app, written)) = word.split_once('=') else {
-        return Err(VectorError::Line(LineError::BadLine));
+        return Err(LineError::BadLine);
     };
     Ok(Row {
         app: text(alloc, app)?,

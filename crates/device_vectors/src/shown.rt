@@ -1,117 +1,91 @@
 //! How answers of the tables are printed.
 
-use crate::lists::{put_between, put_shown, put_word};
+use crate::lists::put_between;
 use permission_table::{StoreAnswer, StoreError};
 use portal_base::list::List;
 use portal_base::text::Text;
 use portal_model::datum::Datum;
 use portal_model::records::Row;
 use portal_model::reply::Change;
-use std::alloc::Global;
-use std::fmt::Write;
-use vector_lines::error::VectorError;
-use vector_lines::values;
+use vector_lines::output::Output;
+use vector_lines::values::put_value;
 
 /// A text of more bytes is told by its length alone.
 const LONGEST_SHOWN: usize = 64;
 
 /// The answer, which is let go here alone, or the error that it comes to.
-pub fn put_told(
-    alloc: Global,
-    out: &mut String,
-    told: Result<StoreAnswer, StoreError>,
-) -> Result<(), VectorError> {
-    match told {
-        Ok(answer) => {
-            let put = put_answer(alloc, out, &answer);
-            drop(answer);
-            put
-        }
-        Err(error) => put_shown(out, &error),
+pub fn put_told(out: &mut Output, told: Result<StoreAnswer, StoreError>) {
+    match &told {
+        Ok(answer) => put_answer(out, answer),
+        Err(error) => out.debug(error),
     }
 }
 
 /// `done` or `gone` with the entry, `kept`, `entry` with rows and data, or
 /// `names`.
-fn put_answer(alloc: Global, out: &mut String, answer: &StoreAnswer) -> Result<(), VectorError> {
+fn put_answer(out: &mut Output, answer: &StoreAnswer) {
     match answer {
-        StoreAnswer::Done(change) => put_change(alloc, out, change),
-        StoreAnswer::Kept => put_word(out, "kept"),
-        StoreAnswer::Entry { rows, datum } => put_entry(alloc, out, rows, datum),
-        StoreAnswer::Names(names) => put_names(out, names),
+        StoreAnswer::Done(change) => put_change(out, change),
+        StoreAnswer::Kept => out.text("kept"),
+        StoreAnswer::Entry { rows, datum } => {
+            out.text("entry");
+            put_content(out, rows, datum);
+        }
+        StoreAnswer::Names(names) => {
+            out.text("names ");
+            put_texts(out, names);
+        }
     }
 }
 
-fn put_change(alloc: Global, out: &mut String, change: &Change) -> Result<(), VectorError> {
-    out.push_str(if change.deleted { "gone " } else { "done " })?;
-    put_text(out, &change.table)?;
-    out.push(' ')?;
-    put_text(out, &change.id)?;
-    put_content(alloc, out, &change.rows, &change.datum)
-}
-
-fn put_entry(
-    alloc: Global,
-    out: &mut String,
-    rows: &List<Row>,
-    datum: &Datum,
-) -> Result<(), VectorError> {
-    out.push_str("entry")?;
-    put_content(alloc, out, rows, datum)
-}
-
-fn put_names(out: &mut String, names: &List<Text>) -> Result<(), VectorError> {
-    out.push_str("names ")?;
-    put_texts(out, names)
+fn put_change(out: &mut Output, change: &Change) {
+    out.text(if change.deleted { "gone " } else { "done " });
+    put_text(out, &change.table);
+    out.text(" ");
+    put_text(out, &change.id);
+    put_content(out, &change.rows, &change.datum);
 }
 
 /// Rows, as they are written, and data.
-fn put_content(
-    alloc: Global,
-    out: &mut String,
-    rows: &List<Row>,
-    datum: &Datum,
-) -> Result<(), VectorError> {
-    out.push(' ')?;
-    put_rows(out, rows)?;
-    out.push(' ')?;
-    out.push_str(values::value(alloc, datum.value())?.as_str())?;
-    Ok(())
+fn put_content(out: &mut Output, rows: &List<Row>, datum: &Datum) {
+    out.text(" ");
+    put_rows(out, rows);
+    out.text(" ");
+    put_value(out, datum.value());
 }
 
 /// Rows with a `,` between them, `-` for none.
-fn put_rows(out: &mut String, rows: &List<Row>) -> Result<(), VectorError> {
+fn put_rows(out: &mut Output, rows: &List<Row>) {
     if rows.is_empty() {
-        return put_word(out, "-");
+        out.text("-");
     }
     for (index, row) in rows.iter().enumerate() {
-        put_between(out, index, ",")?;
-        put_text(out, &row.app)?;
-        out.push('=')?;
-        put_texts(out, &row.names)?;
+        put_between(out, index, ",");
+        put_text(out, &row.app);
+        out.text("=");
+        put_texts(out, &row.names);
     }
-    Ok(())
 }
 
 /// Texts with a `+` between them, `-` for none.
-fn put_texts(out: &mut String, texts: &List<Text>) -> Result<(), VectorError> {
+fn put_texts(out: &mut Output, texts: &List<Text>) {
     if texts.is_empty() {
-        return put_word(out, "-");
+        out.text("-");
     }
     for (index, text) in texts.iter().enumerate() {
-        put_between(out, index, "+")?;
-        put_text(out, text)?;
+        put_between(out, index, "+");
+        put_text(out, text);
     }
-    Ok(())
 }
 
 /// A text, `""` for the empty one, or the number of its bytes.
-fn put_text(out: &mut String, text: &Text) -> Result<(), VectorError> {
+fn put_text(out: &mut Output, text: &Text) {
     let bytes = text.len();
     if bytes > LONGEST_SHOWN {
-        write!(out, "({bytes} bytes)")?;
-        return Ok(());
+        out.text("(");
+        out.shown(&bytes);
+        out.text(" bytes)");
+    } else {
+        out.text(if bytes == 0 { "\"\"" } else { text.as_str() });
     }
-    out.push_str(if bytes == 0 { "\"\"" } else { text.as_str() })?;
-    Ok(())
 }

@@ -14,83 +14,65 @@ use portal_model::records::Row;
 use std::alloc::Global;
 use vector_lines::error::{VectorError, bad};
 use vector_lines::notation::cut;
+use vector_lines::output::Output;
 
 /// `store CALL, CALL ..`: what each call answers. TABLE, ID and APP are texts,
 /// where `""` is the empty one. A call that ends in `+` makes the entry where
 /// there is none.
-pub fn store(alloc: Global, out: &mut String, calls: &str) -> Result<(), VectorError> {
+pub fn store(alloc: Global, out: &mut Output, calls: &str) -> Result<(), VectorError> {
     let mut tables = Tables::new(alloc);
-    let put = put_calls(alloc, out, &mut tables, calls);
-    drop(tables);
-    put
+    put_calls(alloc, out, &mut tables, calls)
 }
 
 fn put_calls(
     alloc: Global,
-    out: &mut String,
+    out: &mut Output,
     tables: &mut Tables,
     calls: &str,
 ) -> Result<(), VectorError> {
     for (index, call) in calls.split(", ").enumerate() {
-        put_between(out, index, "; ")?;
-        put_one(alloc, out, tables, call)?;
+        put_between(out, index, "; ");
+        put_call(alloc, out, tables, call)?;
     }
     Ok(())
 }
 
-fn put_one(
-    alloc: Global,
-    out: &mut String,
-    tables: &mut Tables,
-    call: &str,
-) -> Result<(), VectorError> {
-    let (word, rest) = cut(call);
-    match word {
-        "try" => put_attempt(alloc, out, tables, rest),
-        _ => put_call(alloc, out, tables, word, rest),
-    }
-}
-
-/// `try CALL`: what the call answers, which is then taken back.
-fn put_attempt(
-    alloc: Global,
-    out: &mut String,
-    tables: &mut Tables,
-    call: &str,
-) -> Result<(), VectorError> {
-    let (word, words) = cut(call);
-    let (table, rest) = cut(words);
-    let (id, _) = cut(rest);
-    let table = text(alloc, table)?;
-    let id = text(alloc, id)?;
-    let put = match tables.former(&table, &id) {
-        Ok(former) => {
-            let put = put_call(alloc, out, tables, word, words);
-            tables.put_back(&table, &id, former);
-            put
-        }
-        Err(error) => Err(VectorError::from(error)),
-    };
-    drop(table);
-    drop(id);
-    put
-}
-
-/// What a call on an entry answers, whose texts are let go here alone.
+/// `CALL TABLE ID ..`, or `try CALL TABLE ID ..` of a call that is then taken back. What is made
+/// to name the entry is let go here alone.
 fn put_call(
     alloc: Global,
-    out: &mut String,
+    out: &mut Output,
     tables: &mut Tables,
-    word: &str,
-    rest: &str,
+    call: &str,
 ) -> Result<(), VectorError> {
+    let attempt = call.strip_prefix("try ");
+    let (word, rest) = cut(attempt.unwrap_or(call));
     let (table, rest) = cut(rest);
     let (id, rest) = cut(rest);
     let table = text(alloc, table)?;
     let id = text(alloc, id)?;
-    let put = put_call_of(alloc, out, tables, word, &table, &id, rest);
-    drop(table);
-    drop(id);
+    match attempt {
+        Some(_) => put_attempt(alloc, out, tables, word, &table, &id, rest),
+        None => put_answer(alloc, out, tables, word, &table, &id, rest),
+    }
+}
+
+/// What a call answers, which is then taken back.
+fn put_attempt(
+    alloc: Global,
+    out: &mut Output,
+    tables: &mut Tables,
+    word: &str,
+    table: &Text,
+    id: &Text,
+    rest: &str,
+) -> Result<(), VectorError>
+    requires table { is_text table.now ≡ true }
+    requires id { is_text id.now ≡ true }
+{
+    let former = tables.former(table, id)?;
+    let put = put_answer(alloc, out, tables, word, table, id, rest);
+    tables.put_back(table, id, former);
     put
 }
 
@@ -104,9 +86,9 @@ fn put_call(
 /// - `get TABLE ID APP`: the permissions of an application.
 /// - `delete TABLE ID`: the entry goes.
 /// - `list TABLE`: the identifiers of a table.
-fn put_call_of(
+fn put_answer(
     alloc: Global,
-    out: &mut String,
+    out: &mut Output,
     tables: &mut Tables,
     word: &str,
     table: &Text,
@@ -118,21 +100,22 @@ fn put_call_of(
 {
     let create = word.ends_with('+');
     match word.strip_suffix("+").unwrap_or(word) {
-        "lookup" => put_told(alloc, out, tables.lookup(table, id)),
-        "delete" => put_told(alloc, out, tables.delete(table, id)),
-        "list" => put_told(alloc, out, tables.list(table)),
-        "set" => set(alloc, out, tables, create, table, id, rest),
-        "value" => set_value(alloc, out, tables, create, table, id, rest),
-        "permit" => permit(alloc, out, tables, create, table, id, rest),
-        "forbid" | "get" => put_row(alloc, out, tables, word, table, id, rest),
-        _ => bad(),
+        "lookup" => put_told(out, tables.lookup(table, id)),
+        "delete" => put_told(out, tables.delete(table, id)),
+        "list" => put_told(out, tables.list(table)),
+        "set" => return set(alloc, out, tables, create, table, id, rest),
+        "value" => return set_value(alloc, out, tables, create, table, id, rest),
+        "permit" => return permit(alloc, out, tables, create, table, id, rest),
+        "forbid" | "get" => return put_row(alloc, out, tables, word, table, id, rest),
+        _ => return bad(),
     }
+    Ok(())
 }
 
 /// What a call on the row of an application answers.
 fn put_row(
     alloc: Global,
-    out: &mut String,
+    out: &mut Output,
     tables: &mut Tables,
     word: &str,
     table: &Text,
@@ -143,18 +126,17 @@ fn put_row(
     requires id { is_text id.now ≡ true }
 {
     let app = text(alloc, app)?;
-    let told = if word == "forbid" {
-        tables.delete_permission(table, id, &app)
+    if word == "forbid" {
+        put_told(out, tables.delete_permission(table, id, &app));
     } else {
-        tables.get_permission(table, id, &app)
-    };
-    drop(app);
-    put_told(alloc, out, told)
+        put_told(out, tables.get_permission(table, id, &app));
+    }
+    Ok(())
 }
 
 fn set(
     alloc: Global,
-    out: &mut String,
+    out: &mut Output,
     tables: &mut Tables,
     create: bool,
     table: &Text,
@@ -166,14 +148,12 @@ fn set(
 {
     let (written, data) = cut(rest);
     let rows = rows(alloc, written)?;
-    let put = set_rows(alloc, out, tables, create, table, id, &rows, data);
-    drop(rows);
-    put
+    set_rows(alloc, out, tables, create, table, id, &rows, data)
 }
 
 fn set_rows(
     alloc: Global,
-    out: &mut String,
+    out: &mut Output,
     tables: &mut Tables,
     create: bool,
     table: &Text,
@@ -186,14 +166,13 @@ fn set_rows(
     requires rows { have_texts rows.now ≡ true }
 {
     let datum = datum(alloc, data)?;
-    let told = tables.set(table, create, id, rows, &datum);
-    drop(datum);
-    put_told(alloc, out, told)
+    put_told(out, tables.set(table, create, id, rows, &datum));
+    Ok(())
 }
 
 fn set_value(
     alloc: Global,
-    out: &mut String,
+    out: &mut Output,
     tables: &mut Tables,
     create: bool,
     table: &Text,
@@ -204,14 +183,13 @@ fn set_value(
     requires id { is_text id.now ≡ true }
 {
     let datum = datum(alloc, data)?;
-    let told = tables.set_value(table, create, id, &datum);
-    drop(datum);
-    put_told(alloc, out, told)
+    put_told(out, tables.set_value(table, create, id, &datum));
+    Ok(())
 }
 
 fn permit(
     alloc: Global,
-    out: &mut String,
+    out: &mut Output,
     tables: &mut Tables,
     create: bool,
     table: &Text,
@@ -224,8 +202,6 @@ fn permit(
     let (app, written) = cut(rest);
     let app = text(alloc, app)?;
     let names = names(alloc, written)?;
-    let told = tables.set_permission(table, create, id, &app, &names);
-    drop(app);
-    drop(names);
-    put_told(alloc, out, told)
+    put_told(out, tables.set_permission(table, create, id, &app, &names));
+    Ok(())
 }

@@ -1,8 +1,8 @@
 //! The clock and the words of the system.
 
+use crate::links::put_refusal;
 use portal_base::list::List;
 use portal_base::outside::{Clock, Words};
-use std::alloc::Global;
 use std::cell::Cell;
 use std::io::ErrorKind;
 use std::random::RandomSource;
@@ -10,7 +10,8 @@ use std::time::{Duration, SystemTime, UNIX_EPOCH};
 use std::{io, time};
 use system_devices::{SystemClock, SystemWords};
 use vector_lines::error::{VectorError, given};
-use vector_lines::notation::{debug, numbers};
+use vector_lines::notation::numbers;
+use vector_lines::output::Output;
 
 /// A clock that shows these seconds one after another, and fails at 0 and behind
 /// the last.
@@ -47,54 +48,53 @@ impl RandomSource for NoBytes {
 
 /// `clock SECONDS ..`: what the clock of the system shows at four looks and counts,
 /// over a clock that shows these seconds, and fails at 0 and behind the last.
-pub fn clock(alloc: Global, rest: &str) -> Result<String, VectorError> {
+pub fn clock(system: &HostRuntime, out: &mut Output, rest: &str) -> Result<(), VectorError> {
     let mut clock = SystemClock::new(ListClock {
-        seconds: numbers(alloc, rest)?,
+        seconds: numbers(system.alloc(), rest)?,
         at: Cell::new(0),
     });
-    let (first, second) = (clock.now(), clock.now());
-    let (third, fourth) = (clock.now(), clock.now());
-    let faults = clock.faults();
-    drop(clock);
-    Ok(format!(in alloc; "{first} {second} {third} {fourth}, faults {faults}")?)
+    out.number(clock.now());
+    out.text(" ");
+    out.number(clock.now());
+    out.text(" ");
+    out.number(clock.now());
+    out.text(" ");
+    out.number(clock.now());
+    out.text(", faults ");
+    out.number(clock.faults());
+    Ok(())
 }
 
 /// `now`: whether the clock of the system shows the seconds between two looks at
 /// the time.
-pub fn now<R: time::Clock>(rt: &R, alloc: Global) -> Result<String, VectorError> {
-    let before = seconds(alloc, rt)?;
-    let mut clock = SystemClock::new(rt);
-    let shown = clock.now();
-    let after = seconds(alloc, rt)?;
-    Ok(debug(alloc, &(before <= shown && shown <= after))?)
+pub fn now(system: &HostRuntime, out: &mut Output) -> Result<(), VectorError> {
+    let before = seconds(system)?;
+    let shown = SystemClock::new(system).now();
+    let after = seconds(system)?;
+    out.debug(&(before <= shown && shown <= after));
+    Ok(())
 }
 
-fn seconds<R: time::Clock>(alloc: Global, rt: &R) -> Result<u64, VectorError> {
-    let now = given(alloc, SystemTime::now(rt))?;
-    let since = given(alloc, now.duration_since(UNIX_EPOCH))?;
+fn seconds(system: &HostRuntime) -> Result<u64, VectorError> {
+    let now = given(system.alloc(), SystemTime::now(system))?;
+    let since = given(system.alloc(), now.duration_since(UNIX_EPOCH))?;
     Ok(since.as_secs())
 }
 
 /// `words`: whether four words of one seed are those of another.
-pub fn words<R: RandomSource>(rt: &R, alloc: Global) -> Result<String, VectorError> {
-    let words = drawn(rt, alloc)?;
-    let others = drawn(rt, alloc)?;
-    Ok(debug(alloc, &(words == others))?)
+pub fn words(system: &HostRuntime, out: &mut Output) -> Result<(), VectorError> {
+    let words = drawn(system)?;
+    let others = drawn(system)?;
+    out.debug(&(words == others));
+    Ok(())
 }
 
-fn drawn<R: RandomSource>(rt: &R, alloc: Global) -> Result<[u32; 4], VectorError> {
-    let mut words = given(alloc, SystemWords::open(rt))?;
+fn drawn(system: &HostRuntime) -> Result<[u32; 4], VectorError> {
+    let mut words = given(system.alloc(), SystemWords::open(system))?;
     Ok([words.next(), words.next(), words.next(), words.next()])
 }
 
 /// `no-words`: what is said where there are no random bytes.
-pub fn no_words(alloc: Global) -> Result<String, VectorError> {
-    match SystemWords::open(&NoBytes) {
-        Ok(_) => Ok(String::from_str(alloc, "words")?),
-        Err(error) => {
-            let told = format!(in alloc; "{error}");
-            drop(error);
-            Ok(told?)
-        }
-    }
+pub fn no_words(out: &mut Output) {
+    put_refusal(out, SystemWords::open(&NoBytes));
 }

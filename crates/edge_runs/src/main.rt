@@ -6,19 +6,19 @@
 //! The modules say which lines there are.
 #![tactic(auto)]
 
-mod answers;
-mod beside;
 mod devices;
 mod folder;
 mod links;
 mod replaced;
+mod talks;
 mod trees;
 
 use host_real::System;
 use std::alloc::Global;
 use std::io;
-use vector_lines::error::{VectorError, bad};
+use vector_lines::error::VectorError;
 use vector_lines::notation::cut;
+use vector_lines::output::Output;
 use vector_lines::program::run;
 
 fn main(rt: HostRuntime) -> io::Result<()> {
@@ -32,34 +32,40 @@ fn answer<R: System>(
     alloc: Global,
     line: &str,
 ) -> Result<String, VectorError> {
+    let mut out = Output::new(alloc);
+    match put_answer(rt, system, &mut out, line) {
+        Ok(()) => Ok(out.into_text()?),
+        Err(error) => Err(error),
+    }
+}
+
+fn put_answer<R: System>(
+    rt: &R,
+    system: &HostRuntime,
+    out: &mut Output,
+    line: &str,
+) -> Result<(), VectorError> {
     let (kind, rest) = cut(line);
     match kind {
-        "tree" => trees::tree(rt, system, alloc, rest),
-        "gone" => trees::gone(rt, system, alloc, rest),
-        "saved" => replaced::saved(rt, system, alloc, rest),
-        "became" => replaced::became(rt, system, alloc, rest),
-        "given-up" => replaced::given_up(rt, system, alloc, rest),
-        "mode" => replaced::mode(rt, system, alloc, rest),
-        "beside" => beside::beside(rt, system, alloc, rest),
-        "kept" => beside::kept(system, alloc, rest),
-        "mode-of" => beside::mode_of(system, alloc, rest),
-        "link" => folder::link(system, alloc, rest),
-        "file" => folder::file(system, alloc, rest),
-        "bind" => links::bind(system, alloc, rest),
-        "live" => links::live(system, alloc, rest),
-        "take" => links::take(system, alloc, rest),
-        "hidden" => links::hidden(system, alloc, rest),
-        "open" => links::open(system, alloc, rest),
-        "talk" => links::talk(system, alloc, rest),
-        "leave" => links::leave(system, alloc, rest),
-        "shut" => links::shut(system, alloc, rest),
-        "keep" => answers::keep(system, alloc, rest),
-        "ring" => answers::ring(system, alloc, rest),
-        "patient" => links::patient(alloc),
-        "clock" => devices::clock(alloc, rest),
-        "now" => devices::now(system, alloc),
-        "words" => devices::words(system, alloc),
-        "no-words" => devices::no_words(alloc),
-        _ => bad(),
+        "link" => folder::link(system, out, rest),
+        "file" => return folder::file(system, out, rest),
+        "kept" => return folder::kept(system, out, rest),
+        "mode-of" => folder::mode_of(system, out, rest),
+        "bind" => links::bind(system, out, rest),
+        "live" => links::live(system, out, rest),
+        "take" => links::take(system, out, rest),
+        "hidden" => links::hidden(system, out, rest),
+        "open" => return links::open(system, out, rest),
+        "patient" => links::patient(out),
+        "talk" | "leave" | "keep" | "ring" | "shut" => {
+            return talks::over_socket(system, out, kind, rest);
+        }
+        "clock" => return devices::clock(system, out, rest),
+        "now" => return devices::now(system, out),
+        "words" => return devices::words(system, out),
+        "no-words" => devices::no_words(out),
+        "beside" => return trees::beside(rt, system, out, rest),
+        _ => return trees::over_tree(rt, system, out, kind, rest),
     }
+    Ok(())
 }

@@ -1,108 +1,158 @@
 //! The real tree of files.
 
+use crate::replaced;
 use host_real::{RealTree, System};
-use host_tree::{HostTree, ListAnswer, LookAnswer, TreeDone, TreeRead};
-use portal_base::files::{FileName, Look};
+use host_tree::{HostTree, ListAnswer, LookAnswer, TreeRead};
+use portal_base::files::{ChildName, FileName, Look};
 use portal_base::names::HostPath;
 use std::alloc::Global;
 use std::fs;
-use vector_lines::error::{VectorError, bad, given};
-use vector_lines::notation::{bytes, cut, debug, digits, number, small_number};
+use vector_lines::error::{LineError, VectorError, given};
+use vector_lines::notation::{bytes, cut, number, small_number};
+use vector_lines::output::Output;
 
 /// How many files each tree keeps open.
 const KEPT: usize = 2;
 
-/// `tree ROOT STEP, STEP ..`: what each step answers over the files below a root.
-pub fn tree<R: System>(
+/// `KIND ROOT ..`: what a line of a kind tells of the files below a root.
+pub fn over_tree<R: System>(
     rt: &R,
     system: &HostRuntime,
-    alloc: Global,
+    out: &mut Output,
+    kind: &str,
     rest: &str,
-) -> Result<String, VectorError> {
-    let (root, steps) = cut(rest);
+) -> Result<(), VectorError> {
+    let alloc = system.alloc();
+    let (root, rest) = cut(rest);
     let mut tree = given(alloc, RealTree::open(*rt, *system, alloc, root, KEPT))?;
-    let told = answers(alloc, &mut tree, steps);
+    let outcome = match kind {
+        "tree" => put_steps(alloc, out, &mut tree, rest),
+        "gone" => put_gone(system, out, &mut tree, root, rest),
+        "mode" => replaced::mode(system, out, &mut tree, root, rest),
+        _ => replaced::over_file(system, out, &mut tree, kind, root, rest),
+    };
     drop(tree);
-    told
+    outcome
 }
 
-fn answers<T: HostTree>(alloc: Global, tree: &mut T, steps: &str) -> Result<String, VectorError> {
-    let mut out = String::new(alloc);
-    for step in steps.split(',') {
-        out.push_str(answer(alloc, tree, step.trim())?.as_str())?;
-        out.push_str("; ")?;
+/// `beside ROOT STEP, STEP ..`: what each step answers over two trees of one root, in turn.
+pub fn beside<R: System>(
+    rt: &R,
+    system: &HostRuntime,
+    out: &mut Output,
+    rest: &str,
+) -> Result<(), VectorError> {
+    let alloc = system.alloc();
+    let (root, steps) = cut(rest);
+    let mut one = given(alloc, RealTree::open(*rt, *system, alloc, root, KEPT))?;
+    let mut other = given(alloc, RealTree::open(*rt, *system, alloc, root, KEPT))?;
+    let outcome = put_turns(alloc, out, &mut one, &mut other, steps);
+    drop(one);
+    drop(other);
+    outcome
+}
+
+fn put_turns<T: HostTree>(
+    alloc: Global,
+    out: &mut Output,
+    one: &mut T,
+    other: &mut T,
+    steps: &str,
+) -> Result<(), VectorError> {
+    for (index, step) in steps.split(',').enumerate() {
+        if index % 2 == 0 {
+            put_step(alloc, out, one, step)?;
+        } else {
+            put_step(alloc, out, other, step)?;
+        }
+        out.text("; ");
     }
-    Ok(out)
+    Ok(())
+}
+
+/// `tree ROOT STEP, STEP ..`: what each step answers over the files below a root.
+fn put_steps<T: HostTree>(
+    alloc: Global,
+    out: &mut Output,
+    tree: &mut T,
+    steps: &str,
+) -> Result<(), VectorError> {
+    for step in steps.split(',') {
+        put_step(alloc, out, tree, step)?;
+        out.text("; ");
+    }
+    Ok(())
 }
 
 /// `gone ROOT AWAY`: what a tree shows of its root while that is moved away, and once
 /// it is back.
-pub fn gone<R: System>(
-    rt: &R,
+fn put_gone<T: HostTree>(
     system: &HostRuntime,
-    alloc: Global,
-    rest: &str,
-) -> Result<String, VectorError> {
-    let (root, away) = cut(rest);
-    let mut tree = given(alloc, RealTree::open(*rt, *system, alloc, root, KEPT))?;
-    let told = answer_away(system, alloc, &mut tree, root, away);
-    drop(tree);
-    told
-}
-
-fn answer_away<T: HostTree>(
-    system: &HostRuntime,
-    alloc: Global,
+    out: &mut Output,
     tree: &mut T,
     root: &str,
     away: &str,
-) -> Result<String, VectorError> {
+) -> Result<(), VectorError> {
+    let alloc = system.alloc();
     given(alloc, fs::rename(system, root, away))?;
-    let mut out = answer(alloc, tree, "look /")?;
+    put_step(alloc, out, tree, "look /")?;
     given(alloc, fs::rename(system, away, root))?;
-    out.push_str("; ")?;
-    out.push_str(answer(alloc, tree, "look /")?.as_str())?;
-    Ok(out)
+    out.text("; ");
+    Ok(put_step(alloc, out, tree, "look /")?)
 }
 
 /// `look PATH`, `list PATH`, `create PATH NOW`; and of the file of a path `attr PATH`, `later
-/// PATH`, which asks for its generation 1, `read PATH OFFSET SIZE`, and a change. Behind a
-/// path `#` and a number name a generation.
-pub fn answer<T: HostTree>(alloc: Global, tree: &mut T, step: &str) -> Result<String, VectorError> {
-    let (kind, rest) = cut(step);
+/// PATH`, which asks for its generation 1, `read PATH OFFSET SIZE`, `sync PATH`, `fresh PATH NOW`,
+/// `turn PATH`, `write PATH OFFSET NOW BYTES` and `len PATH SIZE NOW`. Behind a path `#` and a
+/// number name a generation.
+fn put_step<T: HostTree>(
+    alloc: Global,
+    out: &mut Output,
+    tree: &mut T,
+    step: &str,
+) -> Result<(), LineError> {
+    let (kind, rest) = cut(step.trim());
     let (path, rest) = cut(rest);
     let (path, generation) = match path.split_once('#') {
         Some((path, generation)) => (path, number(generation)?),
         None => (path, u64::from(kind == "later")),
     };
     let file = FileName {
-        path: given(alloc, HostPath::read(alloc, path.as_bytes()))?,
+        path: HostPath::read(alloc, path.as_bytes())?,
         generation,
     };
-    let told = answer_of(alloc, tree, kind, &file, rest);
+    let outcome = put_call(alloc, out, tree, kind, &file, rest);
     drop(file);
-    told
+    outcome
 }
 
-fn answer_of<T: HostTree>(
+fn put_call<T: HostTree>(
     alloc: Global,
+    out: &mut Output,
     tree: &mut T,
     kind: &str,
     file: &FileName,
     rest: &str,
-) -> Result<String, VectorError> {
+) -> Result<(), LineError> {
     match kind {
-        "look" => Ok(debug(alloc, &shown(tree.look(&file.path)))?),
-        "list" => listed(alloc, tree, &file.path),
-        "create" => Ok(debug(alloc, &tree.create(&file.path, number(rest)?))?),
-        "attr" | "later" => Ok(debug(alloc, &tree.attr(file))?),
-        "read" => read(alloc, tree, file, rest),
-        _ => Ok(debug(alloc, &change(alloc, tree, kind, file, rest)?)?),
+        "look" => put_look(out, tree.look(&file.path)),
+        "list" => put_list(out, tree.list(&file.path)),
+        "create" => out.debug(&tree.create(&file.path, number(rest)?)),
+        "attr" | "later" => out.debug(&tree.attr(file)),
+        "read" => {
+            let (offset, size) = cut(rest);
+            put_read(out, tree.read(file, number(offset)?, small_number(size)?));
+        }
+        "sync" => out.debug(&tree.sync(file)),
+        "turn" => out.debug(&tree.turn(file)),
+        "fresh" => out.debug(&tree.fresh(file, number(rest)?)),
+        _ => return put_change(alloc, out, tree, kind, file, rest),
     }
+    Ok(())
 }
 
 /// A look, of whose generation the highest bit alone is shown: the others are of the file.
-fn shown(look: LookAnswer) -> LookAnswer {
+fn put_look(out: &mut Output, look: LookAnswer) {
     match look {
         LookAnswer::Is(
             Look::File {
@@ -110,86 +160,74 @@ fn shown(look: LookAnswer) -> LookAnswer {
                 size,
                 moment,
             },
-        ) => LookAnswer::Is(Look::File {
-            generation: generation & 1 << 63,
-            size,
-            moment,
-        }),
-        other => other,
+        ) => {
+            let generation = generation & 1 << 63;
+            out.debug(&LookAnswer::Is(Look::File {
+                generation,
+                size,
+                moment,
+            }));
+        }
+        other => out.debug(&other),
     }
 }
 
-/// The names in a folder, those of folders with a slash behind them, or why none came.
-fn listed<T: HostTree>(
-    alloc: Global,
-    tree: &mut T,
-    path: &HostPath,
-) -> Result<String, VectorError> {
-    let names = match tree.list(path) {
-        ListAnswer::Names(names) => names,
-        ListAnswer::NotFolder => return Ok(String::from_str(alloc, "NotFolder")?),
-        ListAnswer::Failed => return Ok(String::from_str(alloc, "Failed")?),
-        ListAnswer::Memory => return Ok(String::from_str(alloc, "Memory")?),
-    };
-    let mut out = String::from_str(alloc, "Names(")?;
+/// The names in a folder, or why none came.
+fn put_list(out: &mut Output, answer: ListAnswer) {
+    match answer {
+        ListAnswer::Names(names) => put_names(out, names.as_slice()),
+        ListAnswer::NotFolder => out.text("NotFolder"),
+        ListAnswer::Failed => out.text("Failed"),
+        ListAnswer::Memory => out.text("Memory"),
+    }
+}
+
+/// Names, those of folders with a slash behind them.
+fn put_names(out: &mut Output, names: &[ChildName]) {
+    out.text("Names(");
     for (index, child) in names.iter().enumerate() {
         if index > 0 {
-            out.push(' ')?;
+            out.text(" ");
         }
-        out.push_str(String::from_utf8_lossy(alloc, child.name.as_slice())?.as_str())?;
+        out.lossy(child.name.as_slice());
         if child.folder {
-            out.push('/')?;
+            out.text("/");
         }
     }
-    out.push(')')?;
-    Ok(out)
+    out.text(")");
 }
 
 /// The bytes that are read, as digits, or why none came.
-fn read<T: HostTree>(
-    alloc: Global,
-    tree: &mut T,
-    file: &FileName,
-    rest: &str,
-) -> Result<String, VectorError> {
-    let (offset, size) = cut(rest);
-    let answer = tree.read(file, number(offset)?, small_number(size)?);
-    let told = read_told(alloc, &answer);
-    drop(answer);
-    told
-}
-
-fn read_told(alloc: Global, answer: &TreeRead) -> Result<String, VectorError> {
+fn put_read(out: &mut Output, answer: TreeRead) {
     match answer {
         TreeRead::Got(bytes) => {
-            let text = digits(alloc, bytes.as_slice())?;
-            Ok(format!(in alloc; "Got({text})")?)
+            out.text("Got(");
+            out.digits(bytes.as_slice());
+            out.text(")");
         }
-        _ => Ok(debug(alloc, answer)?),
+        other => out.debug(&other),
     }
 }
 
-/// `write PATH OFFSET NOW BYTES`, `len PATH SIZE NOW`, `sync PATH`, `fresh PATH NOW`, `turn
-/// PATH`.
-fn change<T: HostTree>(
+/// `write PATH OFFSET NOW BYTES` and `len PATH SIZE NOW`.
+fn put_change<T: HostTree>(
     alloc: Global,
+    out: &mut Output,
     tree: &mut T,
     kind: &str,
     file: &FileName,
     rest: &str,
-) -> Result<TreeDone, VectorError> {
+) -> Result<(), LineError> {
     let (place, rest) = cut(rest);
-    match kind {
-        "sync" => return Ok(tree.sync(file)),
-        "turn" => return Ok(tree.turn(file)),
-        "fresh" => return Ok(tree.fresh(file, number(place)?)),
-        _ => {}
-    }
     let (now, content) = cut(rest);
     let (place, now) = (number(place)?, number(now)?);
     match kind {
-        "write" => Ok(tree.write(file, place, bytes(alloc, content)?.as_slice(), now)),
-        "len" => Ok(tree.set_len(file, place, now)),
-        _ => bad(),
+        "write" => {
+            let content = bytes(alloc, content)?;
+            out.debug(&tree.write(file, place, content.as_slice(), now));
+        }
+        "len" => out.debug(&tree.set_len(file, place, now)),
+        _ => return Err(LineError::BadLine),
     }
+    Ok(())
 }

@@ -3,101 +3,90 @@
 use portal_base::text::Text;
 use portal_model::records::Row;
 use portal_model::reply::{Answer, DirName, ListedDocument, NodeAnswer, Refused, Reply};
-use std::alloc::Global;
-use vector_lines::error::{VectorError, bad};
-use vector_lines::notation::debug;
+use vector_lines::output::Output;
 
 /// What a request is answered.
-pub fn shown(alloc: Global, reply: &Result<Reply, Refused>) -> Result<String, VectorError> {
+pub fn put_reply(out: &mut Output, reply: &Result<Reply, Refused>) {
     match reply {
-        Ok(reply) => answer(alloc, &reply.answer),
-        Err(refused) => Ok(debug(alloc, refused)?),
+        Ok(reply) => put_answer(out, &reply.answer),
+        Err(refused) => out.debug(refused),
     }
 }
 
 /// An answer.
-pub fn answer(alloc: Global, answer: &Answer) -> Result<String, VectorError> {
+pub fn put_answer(out: &mut Output, answer: &Answer) {
     match answer {
-        Answer::Done => Ok(String::from_str(alloc, "Done")?),
-        Answer::Refused(code) => Ok(format!(in alloc; "Refused({code:?})")?),
-        Answer::Place(place) => Ok(format!(in alloc; "Place({place})")?),
-        Answer::Ids(ids) => identifiers(alloc, ids.as_slice()),
-        Answer::Info { path, rights } => information(alloc, path.as_slice(), rights.as_slice()),
-        Answer::Listed(documents) => listed(alloc, documents.as_slice()),
-        Answer::Node(answer) => of_node(alloc, answer),
-        Answer::Entry { .. } | Answer::Names(_) => bad(),
-    }
-}
-
-/// The answer of a request on a node.
-fn of_node(alloc: Global, answer: &NodeAnswer) -> Result<String, VectorError> {
-    match answer {
-        NodeAnswer::Content(content) => {
-            let content = String::from_utf8_lossy(alloc, content.as_slice())?;
-            Ok(format!(in alloc; "Content {content}")?)
+        Answer::Ids(ids) => put_identifiers(out, ids.as_slice()),
+        Answer::Info { path, rights } => put_information(out, path.as_slice(), rights.as_slice()),
+        Answer::Listed(documents) => put_listed(out, documents.as_slice()),
+        Answer::Node(NodeAnswer::Content(content)) => {
+            out.text("Content ");
+            out.lossy(content.as_slice());
         }
-        NodeAnswer::Names {
-            names,
-            offset,
-            size,
-        } => entries(alloc, names.as_slice(), *offset, *size),
-        _ => Ok(format!(in alloc; "Node({answer:?})")?),
+        Answer::Node(
+            NodeAnswer::Names {
+                names,
+                offset,
+                size,
+            },
+        ) => put_entries(out, names.as_slice(), *offset, *size),
+        _ => out.debug(answer),
     }
 }
 
 /// Entries, each by its number and its name, with a `/` behind that of a folder; and which part
 /// of them is asked for.
-fn entries(
-    alloc: Global,
-    names: &[DirName],
-    offset: u64,
-    size: u32,
-) -> Result<String, VectorError> {
-    let mut out = format!(in alloc; "Names {offset} {size} ")?;
+fn put_entries(out: &mut Output, names: &[DirName], offset: u64, size: u32) {
+    out.text("Names ");
+    out.number(offset);
+    out.text(" ");
+    out.number(u64::from(size));
+    out.text(" ");
     for entry in names {
-        let node = entry.node;
-        let name = String::from_utf8_lossy(alloc, entry.name.as_slice())?;
-        let mark = if entry.folder { "/" } else { "" };
-        out.push_str(format!(in alloc; "[{node} {name}{mark}]")?.as_str())?;
+        put_entry(out, entry);
     }
-    Ok(out)
 }
 
-fn identifiers(alloc: Global, ids: &[Text]) -> Result<String, VectorError> {
-    let mut out = String::from_str(alloc, "Ids")?;
+fn put_entry(out: &mut Output, entry: &DirName) {
+    out.text("[");
+    out.number(entry.node);
+    out.text(" ");
+    out.lossy(entry.name.as_slice());
+    out.text(if entry.folder { "/]" } else { "]" });
+}
+
+fn put_identifiers(out: &mut Output, ids: &[Text]) {
+    out.text("Ids");
     for id in ids {
-        out.push_str(if id.as_str().is_empty() { " -" } else { " " })?;
-        out.push_str(id.as_str())?;
+        out.text(if id.as_str().is_empty() { " -" } else { " " });
+        out.text(id.as_str());
     }
-    Ok(out)
 }
 
-fn listed(alloc: Global, documents: &[ListedDocument]) -> Result<String, VectorError> {
-    let mut out = String::from_str(alloc, "Listed")?;
+fn put_listed(out: &mut Output, documents: &[ListedDocument]) {
+    out.text("Listed");
     for document in documents {
-        let id = document.id.number;
-        let path = String::from_utf8_lossy(alloc, document.path.as_slice())?;
-        out.push_str(format!(in alloc; " {id:08x} {path}")?.as_str())?;
+        out.text(" ");
+        out.id(document.id.number);
+        out.text(" ");
+        out.lossy(document.path.as_slice());
     }
-    Ok(out)
 }
 
 /// A path, and rows as `APP=NAME,NAME`.
-fn information(alloc: Global, path: &[u8], rows: &[Row]) -> Result<String, VectorError> {
-    let path = String::from_utf8_lossy(alloc, path)?;
-    let mut out = format!(in alloc; "Info {path}")?;
+fn put_information(out: &mut Output, path: &[u8], rows: &[Row]) {
+    out.text("Info ");
+    out.lossy(path);
     for row in rows {
-        out.push(' ')?;
-        out.push_str(row.app.as_str())?;
-        put_names(row.names.as_slice(), &mut out)?;
+        out.text(" ");
+        out.text(row.app.as_str());
+        put_names(out, row.names.as_slice());
     }
-    Ok(out)
 }
 
-fn put_names(names: &[Text], out: &mut String) -> Result<(), VectorError> {
+fn put_names(out: &mut Output, names: &[Text]) {
     for (index, name) in names.iter().enumerate() {
-        out.push(if index == 0 { '=' } else { ',' })?;
-        out.push_str(name.as_str())?;
+        out.text(if index == 0 { "=" } else { "," });
+        out.text(name.as_str());
     }
-    Ok(())
 }

@@ -1,59 +1,52 @@
 //! What the outside gave to a request.
 
 use portal_model::entry::{Fault, Given};
-use std::alloc::Global;
-use vector_lines::error::VectorError;
+use vector_lines::output::Output;
 
 /// How many looks the tree showed, the moment of the clock, the generation of the file that was
 /// made to be renamed, each word with the number that it gave, whether a limit was met, and the
 /// device that failed; nothing of what there isn't.
-pub fn put_given(alloc: Global, given: &Given, out: &mut String) -> Result<(), VectorError> {
-    put_seen(alloc, given.looks.len(), given.now, out)?;
-    put_generation(alloc, given.generation, out)?;
+pub fn put_given(out: &mut Output, given: &Given) {
+    put_seen(out, given.looks.len(), given.now);
+    put_where_some(out, ", generation ", given.generation);
     for (word, id) in given.words.iter().zip(given.numbers.iter()) {
-        let number = id.number;
-        out.push_str(format!(in alloc; ", {word:08x} gave {number:08x}")?.as_str())?;
+        put_drawn(out, *word, id.number);
     }
-    if given.full {
-        out.push_str(", full")?;
-    }
-    put_fault(given.fault, out)
+    out.text(if given.full { ", full" } else { "" });
+    put_fault(out, given.fault);
+}
+
+/// A word, and the number that it gave.
+fn put_drawn(out: &mut Output, word: u32, number: u32) {
+    out.text(", ");
+    out.id(word);
+    out.text(" gave ");
+    out.id(number);
 }
 
 /// How many looks there were, and the moment.
-pub fn put_seen(
-    alloc: Global,
-    looks: usize,
-    now: Option<u64>,
-    out: &mut String,
-) -> Result<(), VectorError> {
+pub fn put_seen(out: &mut Output, looks: usize, now: Option<u64>) {
     if looks > 0 {
-        out.push_str(format!(in alloc; ", {looks} looks")?.as_str())?;
+        out.text(", ");
+        out.number(looks as u64);
+        out.text(" looks");
     }
-    if let Some(moment) = now {
-        out.push_str(format!(in alloc; ", at {moment}")?.as_str())?;
-    }
-    Ok(())
+    put_where_some(out, ", at ", now);
 }
 
-/// The generation of the file that was made to be renamed.
-fn put_generation(
-    alloc: Global,
-    generation: Option<u64>,
-    out: &mut String,
-) -> Result<(), VectorError> {
-    if let Some(generation) = generation {
-        out.push_str(format!(in alloc; ", generation {generation}")?.as_str())?;
+/// A number behind its name, where there is one.
+fn put_where_some(out: &mut Output, name: &str, number: Option<u64>) {
+    if let Some(number) = number {
+        out.text(name);
+        out.number(number);
     }
-    Ok(())
 }
 
 /// The device that failed.
-pub fn put_fault(fault: Fault, out: &mut String) -> Result<(), VectorError> {
-    match fault {
-        Fault::None => {}
-        Fault::Tree => out.push_str(", tree failed")?,
-        Fault::Keeper => out.push_str(", keeper failed")?,
-    }
-    Ok(())
+pub fn put_fault(out: &mut Output, fault: Fault) {
+    out.text(match fault {
+        Fault::None => "",
+        Fault::Tree => ", tree failed",
+        Fault::Keeper => ", keeper failed",
+    });
 }

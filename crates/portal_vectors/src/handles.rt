@@ -4,36 +4,39 @@ use open_handles::{Handle, Handles};
 use portal_base::limits::Limits;
 use portal_base::list::List;
 use std::alloc::Global;
-use vector_lines::error::{VectorError, bad};
-use vector_lines::notation::{cut, debug, number};
+use vector_lines::error::LineError;
+use vector_lines::notation::{cut, number};
+use vector_lines::output::Output;
 
 /// The seat of the one connection.
 const SEAT: u32 = 1;
 
 /// `handles LIMIT STEP STEP ..`: what each step is answered on a connection that may have so
 /// many handles open.
-pub fn handles(alloc: Global, rest: &str) -> Result<String, VectorError> {
+pub fn handles(alloc: Global, out: &mut Output, rest: &str) -> Result<(), LineError> {
     let (limit, steps) = cut(rest);
     let mut handles = Handles::new(alloc, &limits(number(limit)?));
-    let answers = answers(alloc, &mut handles, steps);
+    let answered = put_steps(alloc, out, &mut handles, steps);
     drop(handles);
-    answers
+    answered
 }
 
 /// What each step is answered, on a connection that is entered first.
-fn answers(alloc: Global, handles: &mut Handles, steps: &str) -> Result<String, VectorError> {
+fn put_steps(
+    alloc: Global,
+    out: &mut Output,
+    handles: &mut Handles,
+    steps: &str,
+) -> Result<(), LineError> {
     if handles.is_entered(SEAT) {
-        return bad();
+        return Err(LineError::BadLine);
     }
     handles.enter(SEAT)?;
-    let mut out = String::new(alloc);
     for (index, step) in steps.split(' ').enumerate() {
-        if index > 0 {
-            out.push(' ')?;
-        }
-        out.push_str(answer(alloc, handles, step)?.as_str())?;
+        out.text(if index > 0 { " " } else { "" });
+        put_step(alloc, out, handles, step)?;
     }
-    Ok(out)
+    Ok(())
 }
 
 /// Limits of which that of handles counts.
@@ -49,15 +52,21 @@ fn limits(handles: u64) -> Limits {
 }
 
 /// `reserve`, for room for the next handle; and `add`, for a folder's.
-fn answer(alloc: Global, handles: &mut Handles, step: &str) -> Result<String, VectorError> {
+fn put_step(
+    alloc: Global,
+    out: &mut Output,
+    handles: &mut Handles,
+    step: &str,
+) -> Result<(), LineError> {
     if !handles.is_entered(SEAT) {
-        return bad();
+        return Err(LineError::BadLine);
     }
     match step {
-        "reserve" => Ok(debug(alloc, &handles.reserve(SEAT))?),
-        "add" => Ok(debug(alloc, &handles.add(SEAT, folder(alloc)))?),
-        _ => bad(),
+        "reserve" => out.debug(&handles.reserve(SEAT)),
+        "add" => out.debug(&handles.add(SEAT, folder(alloc))),
+        _ => return Err(LineError::BadLine),
     }
+    Ok(())
 }
 
 /// A folder without entries.

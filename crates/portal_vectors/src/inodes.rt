@@ -2,49 +2,60 @@
 
 use inode_table::InodeTable;
 use std::alloc::Global;
-use vector_lines::error::{VectorError, bad};
-use vector_lines::notation::{cut, number, small_number};
+use std::str::SplitWhitespace;
+use vector_lines::error::LineError;
+use vector_lines::notation::{next, next_number, next_small};
+use vector_lines::output::Output;
 
 /// `inodes STEP, STEP ..`: what each step that looks answers, over no counts at
 /// first.
-pub fn inodes(alloc: Global, rest: &str) -> Result<String, VectorError> {
+pub fn inodes(alloc: Global, out: &mut Output, rest: &str) -> Result<(), LineError> {
     let mut inodes = InodeTable::new(alloc);
-    let answers = answers(alloc, &mut inodes, rest);
+    let answered = put_steps(out, &mut inodes, rest);
     drop(inodes);
-    answers
+    answered
 }
 
-fn answers(alloc: Global, inodes: &mut InodeTable, rest: &str) -> Result<String, VectorError> {
-    let mut out = String::new(alloc);
+fn put_steps(out: &mut Output, inodes: &mut InodeTable, rest: &str) -> Result<(), LineError> {
     for step in rest.split(", ") {
-        let (word, rest) = cut(step);
-        out.push_str(answer(alloc, inodes, word, rest)?.as_str())?;
+        put_step(out, inodes, step)?;
     }
-    Ok(out)
+    Ok(())
 }
 
 /// `reserve COUNT`, `remember SEAT NODE`, `forget SEAT NODE COUNT`, `leave SEAT`; and
 /// `get SEAT NODE` and `len`, which look.
-fn answer(
-    alloc: Global,
-    inodes: &mut InodeTable,
-    word: &str,
-    rest: &str,
-) -> Result<String, VectorError> {
-    let (first, rest) = cut(rest);
-    let (second, third) = cut(rest);
-    match word {
-        "reserve" => inodes.reserve(small_number(first)?)?,
-        "remember" => inodes.remember(small_number(first)?, number(second)?)?,
-        "forget" => inodes.forget(small_number(first)?, number(second)?, number(third)?),
-        "leave" => inodes.leave(small_number(first)?),
-        "get" => return told(alloc, inodes.get(small_number(first)?, number(second)?)),
-        "len" => return told(alloc, inodes.len() as u64),
-        _ => return bad(),
+fn put_step(out: &mut Output, inodes: &mut InodeTable, step: &str) -> Result<(), LineError> {
+    let mut words = step.split_whitespace();
+    match next(&mut words) {
+        "len" => put_count(out, inodes.len() as u64),
+        "reserve" => inodes.reserve(next_small(&mut words)?)?,
+        "leave" => inodes.leave(next_small(&mut words)?),
+        word => return put_step_on_node(out, inodes, word, words),
     }
-    Ok(String::new(alloc))
+    Ok(())
 }
 
-fn told(alloc: Global, number: u64) -> Result<String, VectorError> {
-    Ok(format!(in alloc; "[{number}]")?)
+/// A step on the count of a seat at a node.
+fn put_step_on_node(
+    out: &mut Output,
+    inodes: &mut InodeTable,
+    word: &str,
+    mut words: SplitWhitespace<'_>,
+) -> Result<(), LineError> {
+    let seat = next_small(&mut words)?;
+    let node = next_number(&mut words)?;
+    match word {
+        "remember" => inodes.remember(seat, node)?,
+        "forget" => inodes.forget(seat, node, next_number(&mut words)?),
+        "get" => put_count(out, inodes.get(seat, node)),
+        _ => return Err(LineError::BadLine),
+    }
+    Ok(())
+}
+
+fn put_count(out: &mut Output, count: u64) {
+    out.text("[");
+    out.number(count);
+    out.text("]");
 }

@@ -2,9 +2,9 @@
 
 ghost use Rattle.std.specs.Prelude.{◌<◌, ◌^◌, IfOk};
 
+use crate::words::number_or;
 use portal_base::limits::Limits;
 use vector_lines::error::LineError;
-use vector_lines::notation::small_number;
 
 /// `-`, or words with commas between: `history=N`, `documents=N`, `made=N`, `handles=N`,
 /// `queued=N` and `bytes=N`.
@@ -26,10 +26,5 @@ pub fn limits_of(words: &str) -> Result<Limits, LineError>
 fn limit(words: &str, key: &str, other: u32) -> Result<u64, LineError>
     ensures { IfOk result (λ limit. limit < 2 ^ 32) }
 {
-    for word in words.split(',') {
-        if let Some(number) = word.strip_prefix(key) {
-            return Ok(u64::from(small_number(number)?));
-        }
-    }
-    Ok(u64::from(other))
+    Ok(u64::from(number_or(words, ',', key, other)?))
 }

@@ -1,26 +1,26 @@
 //! Requests by a handle whose file is gone.
 
-use crate::answers::answer;
+use crate::answers::put_answer;
 use crate::given::{put_fault, put_seen};
 use crate::nodes::node_request;
 use app_view::ViewBook;
 use document_records::{Applications, Documents, Grants};
-use file_ops::{FileBook, LookRooms, NodeCall, NodeDone, serve_node};
+use file_ops::{FileBook, LookRooms, NodeCall, serve_node};
 use folder_documents::Namings;
 use host_tree::MemoryTree;
 use open_handles::{Handle, Handles};
 use portal_base::files::FileName;
 use portal_base::limits::Limits;
 use portal_base::list::List;
-use portal_base::memory::WantOfMemory;
 use portal_base::names::{DocId, HostPath};
 use portal_base::outside::SetClock;
 use portal_base::who::Who;
 use portal_model::request::NodeRequest;
 use save_files::Temps;
 use std::alloc::Global;
-use vector_lines::error::{VectorError, bad, given};
+use vector_lines::error::LineError;
 use vector_lines::notation::cut;
+use vector_lines::output::Output;
 
 /// The seat of the one connection.
 const SEAT: u32 = 1;
@@ -38,26 +38,26 @@ const LIMITS: Limits = Limits {
 /// `lost REQUEST`: what a request on a node is answered, and what the outside gave to it, on a
 /// connection of the host that has the file of node 8589934602 open by the number 1, to read and
 /// to write, where the tree has no file. A file may have 100 bytes.
-pub fn lost(alloc: Global, rest: &str) -> Result<String, VectorError> {
+pub fn lost(alloc: Global, out: &mut Output, rest: &str) -> Result<(), LineError> {
     let (word, rest) = cut(rest);
     let request = node_request(alloc, word, rest)?;
-    let shown = asked(alloc, &request);
+    let asked = put_asked(alloc, out, &request);
     drop(request);
-    shown
+    asked
 }
 
-fn asked(alloc: Global, request: &NodeRequest) -> Result<String, VectorError> {
+fn put_asked(alloc: Global, out: &mut Output, request: &NodeRequest) -> Result<(), LineError> {
     let mut handles = Handles::new(alloc, &LIMITS);
     let mut namings = Namings::new(alloc);
     let mut temps = Temps::new(alloc);
-    let shown = match put_file(alloc, &mut handles, &mut namings, &mut temps) {
-        Ok(()) => asked_by(alloc, &mut handles, &mut namings, &mut temps, request),
+    let asked = match put_file(alloc, &mut handles, &mut namings, &mut temps) {
+        Ok(()) => put_asked_by(alloc, out, &mut handles, &mut namings, &mut temps, request),
         Err(error) => Err(error),
     };
     drop(temps);
     drop(namings);
     drop(handles);
-    shown
+    asked
 }
 
 /// A connection that has a file open which the tree has not.
@@ -66,29 +66,33 @@ fn put_file(
     handles: &mut Handles,
     namings: &mut Namings,
     temps: &mut Temps,
-) -> Result<(), VectorError> {
+) -> Result<(), LineError> {
     if handles.is_entered(SEAT) || namings.is_entered(SEAT) || temps.is_entered(SEAT) {
-        return bad();
+        return Err(LineError::BadLine);
     }
     handles.enter(SEAT)?;
     namings.enter(SEAT)?;
     temps.enter(SEAT)?;
     let file = file(alloc)?;
     if !handles.is_entered(SEAT) {
-        return bad();
+        drop(file);
+        return Err(LineError::BadLine);
     }
-    given(alloc, handles.add(SEAT, file))?;
-    Ok(())
+    match handles.add(SEAT, file) {
+        Ok(_) => Ok(()),
+        Err(_) => Err(LineError::Memory),
+    }
 }
 
 /// What is answered on that connection.
-fn asked_by(
+fn put_asked_by(
     alloc: Global,
+    out: &mut Output,
     handles: &mut Handles,
     namings: &mut Namings,
     temps: &mut Temps,
     request: &NodeRequest,
-) -> Result<String, VectorError> {
+) -> Result<(), LineError> {
     let documents = Documents::new(alloc, &LIMITS);
     let grants = Grants::new(alloc);
     let applications = Applications::new(alloc);
@@ -100,19 +104,20 @@ fn asked_by(
         },
         file_limit: LIMITS.file_bytes,
     };
-    served(alloc, &book, handles, namings, temps, request)
+    put_served(alloc, out, &book, handles, namings, temps, request)
 }
 
-fn served(
+fn put_served(
     alloc: Global,
+    out: &mut Output,
     book: &FileBook,
     handles: &mut Handles,
     namings: &mut Namings,
     temps: &mut Temps,
     request: &NodeRequest,
-) -> Result<String, VectorError> {
+) -> Result<(), LineError> {
     if !handles.is_entered(SEAT) || !namings.is_entered(SEAT) || !temps.is_entered(SEAT) {
-        return bad();
+        return Err(LineError::BadLine);
     }
     let call = NodeCall {
         seat: SEAT,
@@ -127,22 +132,19 @@ fn served(
     );
     drop(rooms);
     drop(tree);
-    told(alloc, done)
-}
-
-/// What was done, where there was memory.
-fn told(alloc: Global, done: Result<NodeDone, WantOfMemory>) -> Result<String, VectorError> {
     let done = done?;
-    let shown = shown(alloc, &done);
+    put_answer(out, &done.answer);
+    put_seen(out, done.looks.len(), done.now);
+    put_fault(out, done.fault);
     drop(done);
-    shown
+    Ok(())
 }
 
 /// A handle that reads and writes a file.
-fn file(alloc: Global) -> Result<Handle, VectorError> {
+fn file(alloc: Global) -> Result<Handle, LineError> {
     Ok(Handle::File {
         name: FileName {
-            path: given(alloc, HostPath::read(alloc, b"/home/b.txt".as_slice()))?,
+            path: HostPath::read(alloc, b"/home/b.txt".as_slice())?,
             generation: 0,
         },
         node: 8_589_934_602,
@@ -151,11 +153,4 @@ fn file(alloc: Global) -> Result<Handle, VectorError> {
         read: true,
         write: true,
     })
-}
-
-fn shown(alloc: Global, done: &NodeDone) -> Result<String, VectorError> {
-    let mut out = answer(alloc, &done.answer)?;
-    put_seen(alloc, done.looks.len(), done.now, &mut out)?;
-    put_fault(done.fault, &mut out)?;
-    Ok(out)
 }

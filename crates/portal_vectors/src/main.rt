@@ -25,8 +25,9 @@ mod words;
 
 use std::alloc::Global;
 use std::io;
-use vector_lines::error::{VectorError, bad};
+use vector_lines::error::{LineError, VectorError};
 use vector_lines::notation::cut;
+use vector_lines::output::Output;
 use vector_lines::program::run;
 
 fn main(rt: HostRuntime) -> io::Result<()> {
@@ -35,15 +36,31 @@ fn main(rt: HostRuntime) -> io::Result<()> {
 
 /// The answer of a line.
 fn answer(alloc: Global, line: &str) -> Result<String, VectorError> {
+    let mut out = Output::new(alloc);
+    match put_answer(alloc, &mut out, line) {
+        Ok(()) => Ok(out.into_text()?),
+        Err(error) => Err(error),
+    }
+}
+
+/// What a line is answered.
+fn put_answer(alloc: Global, out: &mut Output, line: &str) -> Result<(), VectorError> {
     let (kind, rest) = cut(line);
     match kind {
-        "portal" => portal::portal(alloc, rest, false),
-        "given" => portal::portal(alloc, rest, true),
-        "start" => start::start(alloc, rest),
-        "inodes" => inodes::inodes(alloc, rest),
-        "handles" => handles::handles(alloc, rest),
-        "lost" => lost::lost(alloc, rest),
-        "place" => places::place(alloc, rest),
-        _ => bad(),
+        "portal" => portal::portal(alloc, out, rest, false),
+        "given" => portal::portal(alloc, out, rest, true),
+        _ => Ok(put_part(alloc, out, kind, rest)?),
+    }
+}
+
+/// What a line is answered that asks no portal.
+fn put_part(alloc: Global, out: &mut Output, kind: &str, rest: &str) -> Result<(), LineError> {
+    match kind {
+        "start" => start::start(alloc, out, rest),
+        "inodes" => inodes::inodes(alloc, out, rest),
+        "handles" => handles::handles(alloc, out, rest),
+        "lost" => lost::lost(alloc, out, rest),
+        "place" => places::place(out, rest),
+        _ => Err(LineError::BadLine),
     }
 }

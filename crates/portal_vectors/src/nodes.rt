@@ -2,8 +2,9 @@
 
 use portal_model::request::{NodeOp, NodeRequest};
 use std::alloc::Global;
-use vector_lines::error::{VectorError, bad};
-use vector_lines::notation::{cut, number, small_number, text};
+use std::str::SplitWhitespace;
+use vector_lines::error::LineError;
+use vector_lines::notation::{cut, next_number, next_small, number, small_number, text};
 
 /// The request of a word, of the node ahead of what else it is given: `named NODE NAME` for a
 /// LOOKUP, `forget NODE COUNT`, `getattr NODE FLAGS FH`, `setattr NODE VALID FH SIZE`, `open
@@ -11,46 +12,50 @@ use vector_lines::notation::{cut, number, small_number, text};
 /// TEXT`, `flush NODE FH`, `fsync NODE FH`, `release NODE FH`, `opendir NODE`, `readdir NODE FH
 /// OFFSET SIZE`, `releasedir NODE FH`, `access NODE MASK`, `rename NODE NEW_NODE FLAGS OLD NEW`
 /// and `unlink NODE NAME`.
-pub fn node_request(alloc: Global, word: &str, rest: &str) -> Result<NodeRequest, VectorError> {
+pub fn node_request(alloc: Global, word: &str, rest: &str) -> Result<NodeRequest, LineError> {
     let (node, rest) = cut(rest);
+    let node = number(node)?;
     Ok(NodeRequest {
-        node: number(node)?,
+        node,
         uid: 1000,
         gid: 1001,
         op: op(alloc, word, rest)?,
     })
 }
 
-fn op(alloc: Global, word: &str, rest: &str) -> Result<NodeOp, VectorError> {
-    let (first, more) = cut(rest);
+fn op(alloc: Global, word: &str, rest: &str) -> Result<NodeOp, LineError> {
     match word {
         "named" => Ok(NodeOp::Lookup {
             name: text(alloc, rest)?,
         }),
-        "create" => Ok(NodeOp::Create {
-            name: text(alloc, more)?,
-            flags: small_number(first)?,
-        }),
         "unlink" => Ok(NodeOp::Unlink {
             name: text(alloc, rest)?,
         }),
-        "rename" => renamed(alloc, number(first)?, more),
+        "create" => created(alloc, rest),
+        "rename" => renamed(alloc, rest),
+        "write" => written(alloc, rest),
         "opendir" => Ok(NodeOp::OpenDir),
-        "write" => written(alloc, number(first)?, more),
-        "open" | "access" => flagged(word, small_number(first)?),
-        "getattr" => Ok(NodeOp::GetAttr {
-            flags: small_number(first)?,
-            fh: number(more)?,
-        }),
-        "setattr" => resized(small_number(first)?, more),
-        _ => numbered(word, number(first)?, more),
+        "open" | "access" | "getattr" | "setattr" => flagged(word, rest),
+        _ => numbered(word, rest),
     }
 }
 
+/// A CREATE, by its flags and a name.
+fn created(alloc: Global, rest: &str) -> Result<NodeOp, LineError> {
+    let (flags, name) = cut(rest);
+    let flags = small_number(flags)?;
+    Ok(NodeOp::Create {
+        name: text(alloc, name)?,
+        flags,
+    })
+}
+
 /// A RENAME into a folder, by its flags and both names.
-fn renamed(alloc: Global, new_parent: u64, rest: &str) -> Result<NodeOp, VectorError> {
+fn renamed(alloc: Global, rest: &str) -> Result<NodeOp, LineError> {
+    let (new_parent, rest) = cut(rest);
     let (flags, names) = cut(rest);
     let (old_name, new_name) = cut(names);
+    let new_parent = number(new_parent)?;
     let flags = small_number(flags)?;
     Ok(NodeOp::Rename {
         new_parent,
@@ -61,8 +66,10 @@ fn renamed(alloc: Global, new_parent: u64, rest: &str) -> Result<NodeOp, VectorE
 }
 
 /// A WRITE by the number of a handle.
-fn written(alloc: Global, fh: u64, rest: &str) -> Result<NodeOp, VectorError> {
+fn written(alloc: Global, rest: &str) -> Result<NodeOp, LineError> {
+    let (fh, rest) = cut(rest);
     let (offset, content) = cut(rest);
+    let fh = number(fh)?;
     let offset = number(offset)?;
     Ok(NodeOp::Write {
         fh,
@@ -71,44 +78,46 @@ fn written(alloc: Global, fh: u64, rest: &str) -> Result<NodeOp, VectorError> {
     })
 }
 
-/// An OPEN or an ACCESS.
-fn flagged(word: &str, flags: u32) -> Result<NodeOp, VectorError> {
+/// An OPEN or an ACCESS by its flags; a GETATTR or a SETATTR, by the number of a handle too.
+fn flagged(word: &str, rest: &str) -> Result<NodeOp, LineError> {
+    let mut words = rest.split_whitespace();
+    let flags = next_small(&mut words)?;
     match word {
         "open" => Ok(NodeOp::Open { flags }),
-        _ => Ok(NodeOp::Access { mask: flags }),
+        "access" => Ok(NodeOp::Access { mask: flags }),
+        "getattr" => Ok(NodeOp::GetAttr {
+            flags,
+            fh: next_number(&mut words)?,
+        }),
+        _ => Ok(NodeOp::SetAttr {
+            valid: flags,
+            fh: next_number(&mut words)?,
+            size: next_number(&mut words)?,
+        }),
     }
 }
 
-/// A SETATTR.
-fn resized(valid: u32, rest: &str) -> Result<NodeOp, VectorError> {
-    let (fh, size) = cut(rest);
-    Ok(NodeOp::SetAttr {
-        valid,
-        fh: number(fh)?,
-        size: number(size)?,
-    })
-}
-
 /// A request by the number of a handle; or a FORGET, by its count.
-fn numbered(word: &str, fh: u64, rest: &str) -> Result<NodeOp, VectorError> {
+fn numbered(word: &str, rest: &str) -> Result<NodeOp, LineError> {
+    let mut words = rest.split_whitespace();
+    let fh = next_number(&mut words)?;
     match word {
         "forget" => Ok(NodeOp::Forget { count: fh }),
         "flush" => Ok(NodeOp::Flush { fh }),
         "fsync" => Ok(NodeOp::Fsync { fh }),
         "release" => Ok(NodeOp::Release { fh }),
         "releasedir" => Ok(NodeOp::ReleaseDir { fh }),
-        _ => part(word, fh, rest),
+        _ => part(word, fh, words),
     }
 }
 
 /// A READ or a READDIR.
-fn part(word: &str, fh: u64, rest: &str) -> Result<NodeOp, VectorError> {
-    let (offset, size) = cut(rest);
-    let offset = number(offset)?;
-    let size = small_number(size)?;
+fn part(word: &str, fh: u64, mut words: SplitWhitespace<'_>) -> Result<NodeOp, LineError> {
+    let offset = next_number(&mut words)?;
+    let size = next_small(&mut words)?;
     match word {
         "read" => Ok(NodeOp::Read { fh, offset, size }),
         "readdir" => Ok(NodeOp::ReadDir { fh, offset, size }),
-        _ => bad(),
+        _ => Err(LineError::BadLine),
     }
 }

@@ -2,24 +2,24 @@
 
 use app_view::{node_of, place_of};
 use portal_model::place::Place;
-use std::alloc::Global;
-use vector_lines::error::VectorError;
-use vector_lines::notation::{debug, number};
+use vector_lines::error::LineError;
+use vector_lines::notation::number;
+use vector_lines::output::Output;
 
 /// More than any view.
 const VIEWS: u32 = 0x1000_0000;
 
 /// `place NODE`: the place that a number names, and the number of that place.
-pub fn place(alloc: Global, rest: &str) -> Result<String, VectorError> {
+pub fn place(out: &mut Output, rest: &str) -> Result<(), LineError> {
     match place_of(number(rest)?) {
-        Some(place) => there_and_back(alloc, place),
-        None => Ok(String::from_str(alloc, "none")?),
+        Some(place) => {
+            out.debug(&place);
+            out.text(" ");
+            out.debug(&numbered(place));
+        }
+        None => out.text("none"),
     }
-}
-
-fn there_and_back(alloc: Global, place: Place) -> Result<String, VectorError> {
-    let node = numbered(place);
-    Ok(format!(in alloc; "{place:?} {node:?}")?)
+    Ok(())
 }
 
 /// The number of a place, where there is such a view.

@@ -2,17 +2,18 @@
 
 ghost use Rattle.std.specs.Prelude.{◌<◌, ◌^◌};
 
-use crate::answers::shown;
-use crate::book::book;
-use crate::desk::asked_at_desk;
+use crate::answers::put_reply;
+use crate::book::put_book;
+use crate::desk::put_asked_at_desk;
 use crate::given::put_given;
 use crate::limits::limits_of;
 use crate::requests::request_of;
 use portal_base::limits::Limits;
-use portal_lines::{ScriptPortal, opened_by};
+use portal_lines::{ScriptPortal, let_go, opened_by};
 use std::alloc::Global;
 use vector_lines::error::{VectorError, bad};
-use vector_lines::notation::{cut, debug, number, small_number, text};
+use vector_lines::notation::{cut, number, small_number, text};
+use vector_lines::output::Output;
 
 /// `portal LIMITS SCRIPT | STEP | STEP ..`: what each step is answered by a portal that the
 /// script opens within these limits; and then how many entries the history has, and their
@@ -23,12 +24,17 @@ use vector_lines::notation::{cut, debug, number, small_number, text};
 /// which asks them of one desk of the seat; `now MOMENT`, which is what the clock shows from
 /// then on; `book`, which tells the live documents and the numbered applications; `renew`,
 /// which begins a new history; or `reserve COUNT BYTES`, which takes memory ahead.
-pub fn portal(alloc: Global, rest: &str, is_given: bool) -> Result<String, VectorError> {
+pub fn portal(
+    alloc: Global,
+    out: &mut Output,
+    rest: &str,
+    is_given: bool,
+) -> Result<(), VectorError> {
     let (words, rest) = cut(rest);
     let mut portal = opened_in(alloc, rest, limits_of(words)?)?;
-    let answer = answered(alloc, &mut portal, rest, is_given);
-    drop(portal);
-    answer
+    let answered = put_steps(alloc, out, &mut portal, rest, is_given);
+    let_go(portal);
+    answered
 }
 
 /// A portal that the script ahead of the steps opens.
@@ -41,48 +47,48 @@ fn opened_in(alloc: Global, rest: &str, limits: Limits) -> Result<ScriptPortal, 
 }
 
 /// What each step behind the script is answered, and the history then.
-fn answered(
+fn put_steps(
     alloc: Global,
+    out: &mut Output,
     portal: &mut ScriptPortal,
     rest: &str,
     is_given: bool,
-) -> Result<String, VectorError> {
-    let mut out = String::new(alloc);
+) -> Result<(), VectorError> {
     for step in rest.split(" | ").skip(1) {
-        put_step(alloc, portal, step, is_given, &mut out)?;
-        out.push_str(" | ")?;
+        put_step(alloc, out, portal, step, is_given)?;
+        out.text(" | ");
     }
-    put_history(alloc, portal, &mut out)?;
-    Ok(out)
+    put_history(out, portal);
+    Ok(())
 }
 
 /// How many entries the history has, and their cost.
-fn put_history(alloc: Global, portal: &ScriptPortal, out: &mut String) -> Result<(), VectorError> {
-    let entries = portal.history().len();
-    let cost = portal.history().cost();
-    out.push_str(format!(in alloc; "{entries} entries of {cost}")?.as_str())?;
-    Ok(())
+fn put_history(out: &mut Output, portal: &ScriptPortal) {
+    let history = portal.history();
+    out.number(history.len());
+    out.text(" entries of ");
+    out.number(history.cost());
 }
 
 /// What a step is answered.
 fn put_step(
     alloc: Global,
+    out: &mut Output,
     portal: &mut ScriptPortal,
     step: &str,
     is_given: bool,
-    out: &mut String,
 ) -> Result<(), VectorError> {
     let (word, rest) = cut(step);
     match word {
-        "desk" => out.push_str(asked_at_desk(alloc, portal, rest)?.as_str())?,
-        "now" => put_moment(portal, number(rest)?, out)?,
-        "book" => out.push_str(book(alloc, portal)?.as_str())?,
-        "renew" => put_renewed(alloc, portal, out)?,
-        "reserve" => put_reserved(alloc, portal, rest, out)?,
+        "desk" => return put_asked_at_desk(alloc, out, portal, rest),
+        "now" => put_moment(out, portal, number(rest)?),
+        "book" => put_book(out, &portal.book()),
+        "renew" => put_renewed(alloc, out, portal),
+        "reserve" => return put_reserved(alloc, out, portal, rest),
         _ => {
-            out.push_str(asked(alloc, portal, small_number(word)?, rest)?.as_str())?;
+            put_asked(alloc, out, portal, small_number(word)?, rest)?;
             if is_given {
-                put_last_given(alloc, portal, out)?;
+                put_last_given(out, portal);
             }
         }
     }
@@ -90,66 +96,56 @@ fn put_step(
 }
 
 /// Sets the clock of a portal.
-fn put_moment(portal: &mut ScriptPortal, moment: u64, out: &mut String) -> Result<(), VectorError> {
+fn put_moment(out: &mut Output, portal: &mut ScriptPortal, moment: u64) {
     portal.clock_mut().set(moment);
-    out.push_str("set")?;
-    Ok(())
+    out.text("set");
 }
 
 /// Whether a new history begins.
-fn put_renewed(
-    alloc: Global,
-    portal: &mut ScriptPortal,
-    out: &mut String,
-) -> Result<(), VectorError> {
+fn put_renewed(alloc: Global, out: &mut Output, portal: &mut ScriptPortal) {
     match portal.renew(alloc) {
-        Ok(()) => out.push_str("begun")?,
-        Err(error) => out.push_str(debug(alloc, &error)?.as_str())?,
+        Ok(()) => out.text("begun"),
+        Err(error) => out.debug(&error),
     }
-    Ok(())
 }
 
 /// Takes memory ahead for so many requests, and tells whether there is enough then.
 fn put_reserved(
     alloc: Global,
+    out: &mut Output,
     portal: &mut ScriptPortal,
     rest: &str,
-    out: &mut String,
 ) -> Result<(), VectorError> {
     let (count, bytes) = cut(rest);
     let count = small_number(count)?;
     portal.reserve(alloc, count, number(bytes)?)?;
     let is_enough = portal.spare() >= u64::from(count);
-    out.push_str(if is_enough { "reserved" } else { "too little" })?;
+    out.text(if is_enough { "reserved" } else { "too little" });
     Ok(())
 }
 
 /// What a request of a seat is answered.
-fn asked(
+fn put_asked(
     alloc: Global,
+    out: &mut Output,
     portal: &mut ScriptPortal,
     seat: u32,
     words: &str,
-) -> Result<String, VectorError> {
+) -> Result<(), VectorError> {
     if seat == 0 {
         return bad();
     }
     let request = request_of(alloc, words)?;
     let reply = portal.ask(alloc, seat, request);
-    let shown = shown(alloc, &reply);
+    put_reply(out, &reply);
     drop(reply);
-    shown
+    Ok(())
 }
 
 /// What the outside gave to the last entry.
-fn put_last_given(
-    alloc: Global,
-    portal: &ScriptPortal,
-    out: &mut String,
-) -> Result<(), VectorError> {
+fn put_last_given(out: &mut Output, portal: &ScriptPortal) {
     let history = portal.history();
-    match history.entry(history.len().saturating_sub(1)) {
-        Some(entry) => put_given(alloc, &entry.given, out),
-        None => Ok(()),
+    if let Some(entry) = history.entry(history.len().saturating_sub(1)) {
+        put_given(out, &entry.given);
     }
 }

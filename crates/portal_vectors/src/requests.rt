@@ -6,7 +6,7 @@ use portal_base::list::List;
 use portal_lines::{kind, who};
 use portal_model::request::{AddRequest, Request, RightsCall};
 use std::alloc::Global;
-use vector_lines::error::VectorError;
+use vector_lines::error::{LineError, VectorError};
 use vector_lines::notation::{cut, text};
 
 /// The request of a line's words: `enter WHO KIND`, `leave`, `collect`; on documents `present
@@ -19,6 +19,13 @@ pub fn request_of(alloc: Global, words: &str) -> Result<Request, VectorError> {
         "enter" => entry(alloc, rest),
         "leave" => Ok(Request::Leave),
         "collect" => Ok(Request::Collect),
+        _ => Ok(call(alloc, word, rest)?),
+    }
+}
+
+/// A request on documents, or on a node.
+fn call(alloc: Global, word: &str, rest: &str) -> Result<Request, LineError> {
+    match word {
         "add" => Ok(Request::Add(addition(alloc, rest, false)?)),
         "addfull" => Ok(Request::Add(addition(alloc, rest, true)?)),
         "grant" => Ok(Request::Grant(rights_call(alloc, rest)?)),
@@ -28,7 +35,7 @@ pub fn request_of(alloc: Global, words: &str) -> Result<Request, VectorError> {
 }
 
 /// A request of one text, or on a node.
-fn named_request(alloc: Global, word: &str, rest: &str) -> Result<Request, VectorError> {
+fn named_request(alloc: Global, word: &str, rest: &str) -> Result<Request, LineError> {
     match word {
         "present" => Ok(Request::Present {
             path: text(alloc, rest)?,
@@ -61,11 +68,11 @@ fn entry(alloc: Global, rest: &str) -> Result<Request, VectorError> {
 
 /// `fds=N handles=N,.. flags=N app=NAME names=NAME,.. name=BYTES`: an addition of so many
 /// presented files, or of the first, which is by name where there is a name.
-fn addition(alloc: Global, words: &str, full: bool) -> Result<AddRequest, VectorError> {
-    let fds = number_or(words, "fds=", 1)?;
-    let flags = number_or(words, "flags=", 0)?;
+fn addition(alloc: Global, words: &str, full: bool) -> Result<AddRequest, LineError> {
+    let fds = number_or(words, ' ', "fds=", 1)?;
+    let flags = number_or(words, ' ', "flags=", 0)?;
     let mut add = AddRequest {
-        named: value(words, "name=").is_some(),
+        named: value(words, ' ', "name=").is_some(),
         full,
         handles: List::new(alloc),
         fds,
@@ -84,7 +91,7 @@ fn addition(alloc: Global, words: &str, full: bool) -> Result<AddRequest, Vector
 }
 
 /// The arguments of an addition that are lists.
-fn put_lists(alloc: Global, add: &mut AddRequest, words: &str) -> Result<(), VectorError> {
+fn put_lists(alloc: Global, add: &mut AddRequest, words: &str) -> Result<(), LineError> {
     add.handles = numbers_of(alloc, words, "handles=")?;
     add.name = bytes_of(alloc, words, "name=")?;
     add.app = bytes_of(alloc, words, "app=")?;
@@ -93,9 +100,9 @@ fn put_lists(alloc: Global, add: &mut AddRequest, words: &str) -> Result<(), Vec
 }
 
 /// A document, an application and rights between commas; none where there is no word.
-fn rights_call(alloc: Global, rest: &str) -> Result<RightsCall, VectorError> {
+fn rights_call(alloc: Global, rest: &str) -> Result<RightsCall, LineError> {
     let (doc, rest) = cut(rest);
-    let (app, names) = rest.split_once(' ').unwrap_or((rest, ""));
+    let (app, names) = cut(rest);
     Ok(RightsCall {
         doc: text(alloc, doc)?,
         app: text(alloc, app)?,

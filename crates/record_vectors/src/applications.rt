@@ -1,35 +1,23 @@
 //! Applications that get numbers.
 
-use crate::names::{app_of, put_bytes};
+use crate::names::app_of;
+use crate::steps::put_steps;
 use document_records::Applications;
 use portal_model::state::APPLICATIONS_LIMIT;
 use std::alloc::Global;
-use std::fmt::Write;
 use vector_lines::error::{VectorError, bad};
 use vector_lines::notation::{cut, small_number};
+use vector_lines::output::Output;
 
 /// `applications STEP, STEP ..`: what each step answers, over none at first; and
 /// how many there are at last.
-pub fn applications(alloc: Global, out: &mut String, rest: &str) -> Result<(), VectorError> {
+pub fn applications(alloc: Global, out: &mut Output, rest: &str) -> Result<(), VectorError> {
     let mut applications = Applications::new(alloc);
-    let put = put_steps(alloc, out, &mut applications, rest);
+    let put = put_steps(alloc, out, &mut applications, rest, "; ", put_step);
+    out.text("; ");
+    out.shown(&applications.len());
     drop(applications);
     put
-}
-
-fn put_steps(
-    alloc: Global,
-    out: &mut String,
-    applications: &mut Applications,
-    steps: &str,
-) -> Result<(), VectorError> {
-    for step in steps.split(", ") {
-        put_step(alloc, out, applications, step)?;
-        out.push_str("; ")?;
-    }
-    let len = applications.len();
-    write!(out, "{len}")?;
-    Ok(())
 }
 
 /// `number APP`: the number that the application has or gets. `of APP`: the
@@ -37,7 +25,7 @@ fn put_steps(
 /// `back`: the last number is taken back.
 fn put_step(
     alloc: Global,
-    out: &mut String,
+    out: &mut Output,
     applications: &mut Applications,
     step: &str,
 ) -> Result<(), VectorError> {
@@ -45,20 +33,20 @@ fn put_step(
     let count = applications.len();
     match word {
         "number" if count < APPLICATIONS_LIMIT => {
-            let number = applications.number(&app_of(alloc, rest)?)?;
-            write!(out, "{number}")?;
+            let number = applications.number(&app_of(alloc, rest)?);
+            out.shown(&number?);
         }
         "of" => {
             let number = applications.of(&app_of(alloc, rest)?);
-            write!(out, "{number:?}")?;
+            out.debug(&number);
         }
         "name" => match applications.name(small_number(rest)?) {
-            Some(app) => put_bytes(alloc, out, app.as_bytes())?,
-            None => out.push_str("none")?,
+            Some(app) => out.lossy(app.as_bytes()),
+            None => out.text("none"),
         },
         "back" if count > 0 => {
             applications.take_back();
-            out.push_str("back")?;
+            out.text("back");
         }
         _ => return bad(),
     }

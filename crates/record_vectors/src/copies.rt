@@ -1,11 +1,12 @@
 //! Copies: a copy is its original by its contract; lines show that it is made.
 
+use crate::names::{app_of, path_of};
 use portal_base::boxed::Boxed;
 use portal_base::files::{File, FileName, Look};
 use portal_base::limits::{Limits, Settings};
-use portal_base::list::List;
+use portal_base::list::{ByteList, List};
 use portal_base::memory::Replica;
-use portal_base::names::{AppId, DocId, HostPath};
+use portal_base::names::DocId;
 use portal_base::text::Text;
 use portal_base::who::{Kind, Who};
 use portal_model::naming::Naming;
@@ -16,62 +17,95 @@ use portal_model::rights::Right;
 use portal_model::state::{Document, Triple};
 use portal_model::temporary::{OwnTemp, Temp};
 use std::alloc::Global;
-use vector_lines::error::{LineError, VectorError, bad, given};
+use vector_lines::error::{VectorError, bad};
+use vector_lines::output::Output;
+
+/// What stands before `copied` for each part or copy that there is no memory for.
+const NOT: &str = "not ";
 
 /// `copy KIND`: `copied`, once a value of each type of the kind was.
-pub fn copy(alloc: Global, out: &mut String, kind: &str) -> Result<(), VectorError> {
+pub fn copy(alloc: Global, out: &mut Output, kind: &str) -> Result<(), VectorError> {
     match kind {
-        "numbers" => numbers(alloc)?,
-        "texts" => texts(alloc)?,
-        "owners" => owners(alloc)?,
-        "names" => names(alloc)?,
-        "callers" => callers(alloc)?,
-        "files" => files(alloc)?,
-        "settings" => settings(alloc)?,
-        "records" => records(alloc)?,
-        "entries" => entries(alloc)?,
-        "documents" => documents(alloc)?,
-        "requests" => requests(alloc)?,
-        "namings" => namings(alloc)?,
-        "temps" => temps(alloc)?,
+        "numbers" => numbers(alloc, out),
+        "texts" => texts(alloc, out),
+        "owners" => owners(alloc, out)?,
+        "names" => names(alloc, out)?,
+        "callers" => callers(alloc, out)?,
+        "files" => files(alloc, out)?,
+        "settings" => settings(alloc, out)?,
+        "records" => records(alloc, out),
+        "entries" => entries(alloc, out),
+        "documents" => documents(alloc, out)?,
+        "requests" => requests(alloc, out)?,
+        "namings" => namings(alloc, out)?,
+        "temps" => temps(alloc, out)?,
         _ => return bad(),
     }
-    out.push_str("copied")?;
+    out.text("copied");
     Ok(())
 }
 
 /// Makes a copy, and lets it and its original go here alone.
-fn copied<T: Replica>(alloc: Global, value: T) -> Result<(), VectorError> {
+fn copied<T: Replica>(alloc: Global, out: &mut Output, value: T) {
     let copy = value.replica(alloc);
     drop(value);
-    match copy {
-        Ok(copy) => {
-            drop(copy);
-            Ok(())
-        }
-        Err(_) => Err(VectorError::Line(LineError::Memory)),
+    if copy.is_err() {
+        out.text(NOT);
     }
 }
 
-fn numbers(alloc: Global) -> Result<(), VectorError> {
-    copied(alloc, true)?;
-    copied(alloc, 1u8)?;
-    copied(alloc, 2u16)?;
-    copied(alloc, 3u32)?;
-    copied(alloc, 4u64)?;
-    copied(alloc, 5usize)?;
-    copied(alloc, Some(6u8))
+/// A list of the bytes.
+fn bytes(alloc: Global, out: &mut Output, bytes: &[u8]) -> ByteList {
+    match List::copied(alloc, bytes) {
+        Ok(bytes) => bytes,
+        Err(_) => {
+            out.text(NOT);
+            List::new(alloc)
+        }
+    }
 }
 
-fn texts(alloc: Global) -> Result<(), VectorError> {
-    copied(alloc, Text::copied(alloc, "déjà vu")?)?;
-    copied(alloc, List::copied(alloc, &[7u8, 8])?)
+/// The text, made anew.
+fn text(alloc: Global, out: &mut Output, text: &str) -> Text {
+    match Text::copied(alloc, text) {
+        Ok(text) => text,
+        Err(_) => {
+            out.text(NOT);
+            Text::new(alloc)
+        }
+    }
 }
 
-fn owners(alloc: Global) -> Result<(), VectorError> {
+/// A list of one item.
+fn one<T: Drop>(alloc: Global, out: &mut Output, item: T) -> List<T> {
+    let mut items = List::new(alloc);
+    if items.push(item).is_err() {
+        out.text(NOT);
+    }
+    items
+}
+
+fn numbers(alloc: Global, out: &mut Output) {
+    copied(alloc, out, true);
+    copied(alloc, out, 1u8);
+    copied(alloc, out, 2u16);
+    copied(alloc, out, 3u32);
+    copied(alloc, out, 4u64);
+    copied(alloc, out, 5usize);
+    copied(alloc, out, Some(6u8));
+}
+
+fn texts(alloc: Global, out: &mut Output) {
+    let text = text(alloc, out, "déjà vu");
+    copied(alloc, out, text);
+    let bytes = bytes(alloc, out, &[7, 8]);
+    copied(alloc, out, bytes);
+}
+
+fn owners(alloc: Global, out: &mut Output) -> Result<(), VectorError> {
     let one = Boxed::new(alloc, 4u32)?;
     let again = one.clone()?;
-    copied(alloc, one)?;
+    copied(alloc, out, one);
     if again.into_inner() == 4 {
         Ok(())
     } else {
@@ -79,70 +113,65 @@ fn owners(alloc: Global) -> Result<(), VectorError> {
     }
 }
 
-fn names(alloc: Global) -> Result<(), VectorError> {
-    copied(alloc, given(alloc, AppId::read(alloc, b"org.a"))?)?;
-    copied(alloc, given(alloc, HostPath::read(alloc, b"/home/a.txt"))?)?;
-    copied(alloc, DocId { number: 10 })
+fn names(alloc: Global, out: &mut Output) -> Result<(), VectorError> {
+    copied(alloc, out, app_of(alloc, "org.a")?);
+    copied(alloc, out, path_of(alloc, "/home/a.txt")?);
+    copied(alloc, out, DocId { number: 10 });
+    Ok(())
 }
 
-fn callers(alloc: Global) -> Result<(), VectorError> {
-    copied(alloc, Kind::Bus)?;
-    copied(alloc, Who::Host)?;
-    copied(alloc, Who::App(given(alloc, AppId::read(alloc, b"a"))?))
+fn callers(alloc: Global, out: &mut Output) -> Result<(), VectorError> {
+    copied(alloc, out, Kind::Bus);
+    copied(alloc, out, Who::Host);
+    copied(alloc, out, Who::App(app_of(alloc, "a")?));
+    Ok(())
 }
 
-fn files(alloc: Global) -> Result<(), VectorError> {
-    let path = given(alloc, HostPath::read(alloc, b"/a"))?;
-    copied(alloc, Look::Folder)?;
-    copied(
-        alloc,
-        FileName {
-            path,
-            generation: 1,
-        },
-    )?;
-    let path = given(alloc, HostPath::read(alloc, b"/home/a.txt"))?;
-    let bytes = List::copied(alloc, b"hello")?;
-    copied(
-        alloc,
-        File {
-            path,
-            generation: 2,
-            bytes,
-            moment: 7,
-        },
-    )
+fn files(alloc: Global, out: &mut Output) -> Result<(), VectorError> {
+    copied(alloc, out, Look::Folder);
+    let name = FileName {
+        path: path_of(alloc, "/a")?,
+        generation: 1,
+    };
+    copied(alloc, out, name);
+    let file = File {
+        path: path_of(alloc, "/home/a.txt")?,
+        generation: 2,
+        bytes: bytes(alloc, out, b"hello"),
+        moment: 7,
+    };
+    copied(alloc, out, file);
+    Ok(())
 }
 
-fn namings(alloc: Global) -> Result<(), VectorError> {
-    let path = given(alloc, HostPath::read(alloc, b"/p/a"))?;
-    copied(
-        alloc,
-        Naming {
-            view: 1,
-            document: DocId { number: 10 },
-            path,
-        },
-    )
+fn namings(alloc: Global, out: &mut Output) -> Result<(), VectorError> {
+    let naming = Naming {
+        view: 1,
+        document: DocId { number: 10 },
+        path: path_of(alloc, "/p/a")?,
+    };
+    copied(alloc, out, naming);
+    Ok(())
 }
 
-fn temps(alloc: Global) -> Result<(), VectorError> {
-    let path = given(alloc, HostPath::read(alloc, b"/home/a.txt"))?;
+fn temps(alloc: Global, out: &mut Output) -> Result<(), VectorError> {
+    let file = FileName {
+        path: path_of(alloc, "/home/a.txt")?,
+        generation: 1,
+    };
     let temp = Temp {
         document: DocId { number: 10 },
         view: 0,
-        name: List::copied(alloc, b"a.tmp")?,
-        file: FileName {
-            path,
-            generation: 1,
-        },
+        name: bytes(alloc, out, b"a.tmp"),
+        file,
     };
-    copied(alloc, OwnTemp { k: 1, temp })?;
-    let path = List::copied(alloc, b"/home/a.txt")?;
-    copied(alloc, TakenGeneration { path, last: 1 })
+    copied(alloc, out, OwnTemp { k: 1, temp });
+    let path = bytes(alloc, out, b"/home/a.txt");
+    copied(alloc, out, TakenGeneration { path, last: 1 });
+    Ok(())
 }
 
-fn settings(alloc: Global) -> Result<(), VectorError> {
+fn settings(alloc: Global, out: &mut Output) -> Result<(), VectorError> {
     let settings = Settings {
         limits: Limits {
             documents: 1,
@@ -152,100 +181,85 @@ fn settings(alloc: Global) -> Result<(), VectorError> {
             queued: 5,
             file_bytes: 6,
         },
-        mountpoint: given(alloc, HostPath::read(alloc, b"/run/doc"))?,
+        mountpoint: path_of(alloc, "/run/doc")?,
         guid: [9; 16],
     };
-    copied(alloc, settings)
+    copied(alloc, out, settings);
+    Ok(())
 }
 
-fn records(alloc: Global) -> Result<(), VectorError> {
-    let mut grants = List::new(alloc);
-    grants.push(GrantRecord {
-        app: List::copied(alloc, b"org.ed")?,
+fn records(alloc: Global, out: &mut Output) {
+    let grant = GrantRecord {
+        app: bytes(alloc, out, b"org.ed"),
         rights: 3,
-    })?;
+    };
     let kept = DocRecord {
         number: 10,
-        path: List::copied(alloc, b"/home/a.txt")?,
+        path: bytes(alloc, out, b"/home/a.txt"),
         reusable: true,
         strict: true,
-        grants,
+        grants: one(alloc, out, grant),
     };
-    copied(
-        alloc,
-        OpeningDocument {
-            kept,
-            persistent: true,
-            folder: true,
-        },
-    )?;
-    let path = List::copied(alloc, b"/home/a.txt")?;
-    let content = List::copied(alloc, b"hello")?;
-    copied(
-        alloc,
-        FileItem {
-            path,
-            content,
-            moment: 7,
-            generation: 2,
-            present: false,
-        },
-    )
+    let document = OpeningDocument {
+        kept,
+        persistent: true,
+        folder: true,
+    };
+    copied(alloc, out, document);
+    let file = FileItem {
+        path: bytes(alloc, out, b"/home/a.txt"),
+        content: bytes(alloc, out, b"hello"),
+        moment: 7,
+        generation: 2,
+        present: false,
+    };
+    copied(alloc, out, file);
 }
 
-fn entries(alloc: Global) -> Result<(), VectorError> {
-    let mut rows = List::new(alloc);
-    rows.push(Row {
-        app: Text::copied(alloc, "app.x")?,
+fn entries(alloc: Global, out: &mut Output) {
+    let row = Row {
+        app: text(alloc, out, "app.x"),
         names: List::new(alloc),
-    })?;
-    let entry = EntryRecord {
-        table: Text::copied(alloc, "t")?,
-        id: Text::copied(alloc, "i")?,
-        datum: List::copied(alloc, b"\x01y\x00\x00")?,
-        rows,
     };
-    copied(alloc, entry)
+    let entry = EntryRecord {
+        table: text(alloc, out, "t"),
+        id: text(alloc, out, "i"),
+        datum: bytes(alloc, out, b"\x01y\x00\x00"),
+        rows: one(alloc, out, row),
+    };
+    copied(alloc, out, entry);
 }
 
-fn documents(alloc: Global) -> Result<(), VectorError> {
+fn documents(alloc: Global, out: &mut Output) -> Result<(), VectorError> {
     let id = DocId { number: 10 };
-    let path = given(alloc, HostPath::read(alloc, b"/home/a.txt"))?;
-    copied(
-        alloc,
-        Document {
-            id,
-            path,
-            persistent: true,
-            reusable: false,
-            strict: true,
-            folder: true,
-        },
-    )?;
-    let app = given(alloc, AppId::read(alloc, b"org.ed"))?;
+    let document = Document {
+        id,
+        path: path_of(alloc, "/home/a.txt")?,
+        persistent: true,
+        reusable: false,
+        strict: true,
+        folder: true,
+    };
+    copied(alloc, out, document);
+    let app = app_of(alloc, "org.ed")?;
     let right = Right::Write;
-    copied(alloc, Triple { app, id, right })
+    copied(alloc, out, Triple { app, id, right });
+    Ok(())
 }
 
-fn requests(alloc: Global) -> Result<(), VectorError> {
-    copied(alloc, entering(alloc)?)?;
-    copied(alloc, Request::Leave)?;
-    copied(alloc, Request::Collect)?;
-    copied(alloc, asking())
-}
-
-fn entering(alloc: Global) -> Result<Request, VectorError> {
-    let who = Who::App(given(alloc, AppId::read(alloc, b"org.ed"))?);
+fn requests(alloc: Global, out: &mut Output) -> Result<(), VectorError> {
+    let who = Who::App(app_of(alloc, "org.ed")?);
     let kind = Kind::Mount;
-    Ok(Request::Enter { who, kind })
-}
-
-fn asking() -> Request {
+    copied(alloc, out, Request::Enter { who, kind });
+    copied(alloc, out, Request::Leave);
+    copied(alloc, out, Request::Collect);
     let op = NodeOp::GetAttr { flags: 0, fh: 0 };
-    Request::Node(NodeRequest {
+    let request = NodeRequest {
         node: 8_589_934_602,
         uid: 1000,
         gid: 1000,
         op,
-    })
+    };
+    copied(alloc, out, Request::Node(request));
+    Ok(())
 }

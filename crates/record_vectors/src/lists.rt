@@ -1,73 +1,63 @@
 //! Lists of numbers, and texts.
 
+use crate::steps::put_steps;
 use portal_base::list::List;
 use portal_base::text::Text;
 use std::alloc::Global;
-use std::fmt::Write;
 use vector_lines::error::{LineError, VectorError, bad};
 use vector_lines::notation::{cut, number, numbers};
+use vector_lines::output::Output;
 
 /// `list STEP, STEP ..`: the list that the steps make of an empty one, and what
 /// `pop`, `remove` and the steps that look give. Each step of numbers has them
 /// behind its name.
-pub fn list(alloc: Global, out: &mut String, rest: &str) -> Result<(), VectorError> {
+pub fn list(alloc: Global, out: &mut Output, rest: &str) -> Result<(), VectorError> {
     let mut list = List::new(alloc);
-    for step in rest.split(", ") {
-        let (word, rest) = cut(step);
-        put_step(alloc, out, &mut list, word, rest)?;
-    }
-    let list = list.as_slice();
-    write!(out, "{list:?}")?;
-    Ok(())
+    let put = put_steps(alloc, out, &mut list, rest, "", put_step);
+    out.debug(&list.as_slice());
+    put
 }
 
 /// What a step gives, and a `;` behind that.
 fn put_step(
     alloc: Global,
-    out: &mut String,
+    out: &mut Output,
     list: &mut List<u64>,
-    word: &str,
-    rest: &str,
+    step: &str,
 ) -> Result<(), VectorError> {
-    let found = match word {
-        "first" => list.first().copied(),
-        "last" => list.last().copied(),
-        "get" => list.get(place(rest)?).copied(),
-        "greatest" => list.iter().copied().max(),
-        "pop" => list.pop(),
-        "length" => return put_length(out, list),
-        "copy" => return put_copies(out, list),
-        "remove" => return put_removed(out, list, place(rest)?),
+    let (word, rest) = cut(step);
+    match word {
+        "first" => out.debug(&list.first().copied()),
+        "last" => out.debug(&list.last().copied()),
+        "get" => out.debug(&list.get(place(rest)?).copied()),
+        "greatest" => out.debug(&list.iter().copied().max()),
+        "pop" => out.debug(&list.pop()),
+        "length" => {
+            out.shown(&list.len());
+            out.text(" ");
+            out.shown(&list.is_empty());
+        }
+        "copy" => out.shown(&is_copied(list)?),
+        "remove" => out.number(removed(list, place(rest)?)?),
         _ => return change(alloc, list, word, rest),
-    };
-    write!(out, "{found:?}; ")?;
-    Ok(())
-}
-
-fn put_length(out: &mut String, list: &List<u64>) -> Result<(), VectorError> {
-    let length = list.len();
-    let empty = list.is_empty();
-    write!(out, "{length} {empty}; ")?;
+    }
+    out.text("; ");
     Ok(())
 }
 
 /// Whether a clone is the same list, and the list of a vector.
-fn put_copies(out: &mut String, list: &List<u64>) -> Result<(), VectorError> {
+fn is_copied(list: &List<u64>) -> Result<bool, VectorError> {
     let copy = list.clone()?;
     let same = copy == *list;
     let again = List::from_vec(copy.into_vec());
-    let both = same && again == *list;
-    write!(out, "{both}; ")?;
-    Ok(())
+    Ok(same && again == *list)
 }
 
-fn put_removed(out: &mut String, list: &mut List<u64>, at: usize) -> Result<(), VectorError> {
+fn removed(list: &mut List<u64>, at: usize) -> Result<u64, VectorError> {
     if at >= list.len() {
         return bad();
     }
-    let item = list.remove(at);
-    write!(out, "{item}; ")?;
-    Ok(())
+    Ok(list.remove(at))
 }
 
 /// A change that gives nothing.
@@ -87,10 +77,11 @@ fn change(alloc: Global, list: &mut List<u64>, word: &str, rest: &str) -> Result
 fn set(list: &mut List<u64>, rest: &str) -> Result<(), VectorError> {
     let (at, item) = cut(rest);
     let at = place(at)?;
+    let item = number(item)?;
     if at >= list.len() {
         return bad();
     }
-    list.set(at, number(item)?);
+    list.set(at, item);
     Ok(())
 }
 
@@ -111,17 +102,31 @@ fn place(word: &str) -> Result<usize, LineError> {
 
 /// `text PART | PART ..`: the parts one after another, and how many bytes they
 /// are; and whether copies are the same.
-pub fn text(alloc: Global, out: &mut String, rest: &str) -> Result<(), VectorError> {
+pub fn text(alloc: Global, out: &mut Output, rest: &str) -> Result<(), VectorError> {
     let mut text = Text::new(alloc);
-    for part in rest.split('|') {
+    add_parts(&mut text, rest)?;
+    put_copy(out, &text)
+}
+
+/// Adds the parts to the text.
+fn add_parts(text: &mut Text, parts: &str) -> Result<(), LineError> {
+    for part in parts.split('|') {
         text.push_str(part)?;
     }
+    Ok(())
+}
+
+fn put_copy(out: &mut Output, text: &Text) -> Result<(), VectorError> {
     let copy = text.clone()?;
-    let same = copy == text;
-    let length = text.len();
-    let bytes = text.as_bytes().len();
+    let same = copy == *text;
     let again = Text::from_string(copy.into_string());
-    let again = again.as_str();
-    write!(out, "\"{again}\" {length} {bytes} {same}")?;
+    out.text("\"");
+    out.text(again.as_str());
+    out.text("\" ");
+    out.shown(&text.len());
+    out.text(" ");
+    out.shown(&text.as_bytes().len());
+    out.text(" ");
+    out.shown(&same);
     Ok(())
 }

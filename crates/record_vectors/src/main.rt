@@ -15,12 +15,14 @@ mod lists;
 mod names;
 mod namings;
 mod rights;
+mod steps;
 mod temps;
 
 use std::alloc::Global;
 use std::io;
 use vector_lines::error::{VectorError, bad};
 use vector_lines::notation::cut;
+use vector_lines::output::Output;
 use vector_lines::program::run;
 
 fn main(rt: HostRuntime) -> io::Result<()> {
@@ -29,20 +31,22 @@ fn main(rt: HostRuntime) -> io::Result<()> {
 
 /// The answer of a line.
 fn answer(alloc: Global, line: &str) -> Result<String, VectorError> {
-    let mut out = String::new(alloc);
+    let mut out = Output::new(alloc);
     match put_answer(alloc, &mut out, line) {
-        Ok(()) => Ok(out),
+        Ok(()) => Ok(out.into_text()?),
         Err(error) => Err(error),
     }
 }
 
 /// The answer by the first word of the line.
-fn put_answer(alloc: Global, out: &mut String, line: &str) -> Result<(), VectorError> {
+fn put_answer(alloc: Global, out: &mut Output, line: &str) -> Result<(), VectorError> {
     let (kind, rest) = cut(line);
     match kind {
         "application" => names::application(alloc, out, rest),
-        "path" | "parent" | "last" | "child" | "own" => names::path(alloc, out, kind, rest),
-        "document" => names::document(alloc, out, rest),
+        "path" | "parent" | "last" => names::path(alloc, out, kind, rest),
+        "child" => names::child(alloc, out, rest),
+        "own" => names::own(alloc, out, rest),
+        "document" => names::document(out, rest),
         "list" => lists::list(alloc, out, rest),
         "text" => lists::text(alloc, out, rest),
         "copy" => copies::copy(alloc, out, rest),

@@ -2,84 +2,89 @@
 
 use portal_base::names::{AppId, DocId, HostPath};
 use std::alloc::Global;
-use std::fmt::Write;
-use vector_lines::error::{VectorError, given};
+use vector_lines::error::{LineError, VectorError, given};
 use vector_lines::notation::{self, cut};
-
-/// Bytes that stand for a text.
-pub fn put_bytes(alloc: Global, out: &mut String, bytes: &[u8]) -> Result<(), VectorError> {
-    out.push_str(String::from_utf8_lossy(alloc, bytes)?.as_str())?;
-    Ok(())
-}
+use vector_lines::output::Output;
 
 /// The application of a name.
 pub fn app_of(alloc: Global, name: &str) -> Result<AppId, VectorError> {
-    given(alloc, AppId::read(alloc, name.as_bytes()))
+    let name = notation::text(alloc, name)?;
+    given(alloc, AppId::read(alloc, name.as_slice()))
+}
+
+/// The path of a file.
+pub fn path_of(alloc: Global, path: &str) -> Result<HostPath, VectorError> {
+    let path = notation::text(alloc, path)?;
+    given(alloc, HostPath::read(alloc, path.as_slice()))
+}
+
+/// A document's identifier.
+pub fn document_id(word: &str) -> Result<DocId, VectorError> {
+    DocId::read(word.as_bytes()).ok_or(VectorError::Line(LineError::BadLine))
+}
+
+/// The eight digits of an identifier, which may be missing.
+pub fn put_found(out: &mut Output, id: Option<DocId>) {
+    match id {
+        Some(id) => out.id(id.number),
+        None => out.text("none"),
+    }
+}
+
+/// Identifiers, each behind a space.
+pub fn put_ids(out: &mut Output, ids: &[DocId]) {
+    for id in ids {
+        out.text(" ");
+        out.id(id.number);
+    }
 }
 
 /// `application TEXT`: the name of an application, or where it breaks.
-pub fn application(alloc: Global, out: &mut String, rest: &str) -> Result<(), VectorError> {
-    let text = notation::text(alloc, rest)?;
-    let app = given(alloc, AppId::read(alloc, text.as_slice()))?;
-    put_bytes(alloc, out, app.as_bytes())
-}
-
-/// `document TEXT`: the number of a document's identifier, and its text again.
-pub fn document(alloc: Global, out: &mut String, rest: &str) -> Result<(), VectorError> {
-    match DocId::read(rest.as_bytes()) {
-        Some(id) => {
-            let number = id.number;
-            write!(out, "{number} ")?;
-            put_bytes(alloc, out, id.text().as_slice())
-        }
-        None => Ok(out.push_str("none")?),
-    }
-}
-
-/// The path of a file:
-///
-/// - `path TEXT`: the path, or where it breaks.
-/// - `parent PATH`: the path without its last part.
-/// - `last PATH`: the last part of the path, between quotes.
-/// - `child PATH NAME`: the path with the name behind it, or where that breaks.
-/// - `own APPLICATION PATH`: whether the path is the application's own folder, or below it.
-pub fn path(alloc: Global, out: &mut String, kind: &str, rest: &str) -> Result<(), VectorError> {
-    let (first, second) = cut(rest);
-    let text = match kind {
-        "child" => first,
-        "own" => second,
-        _ => rest,
-    };
-    let text = notation::text(alloc, text)?;
-    let path = given(alloc, HostPath::read(alloc, text.as_slice()))?;
-    match kind {
-        "path" => put_bytes(alloc, out, path.as_bytes()),
-        "parent" => put_bytes(alloc, out, path.parent(alloc)?.as_bytes()),
-        "last" => put_last(alloc, out, &path),
-        "child" => put_child(alloc, out, &path, second),
-        _ => put_own(alloc, out, &path, first),
-    }
-}
-
-fn put_last(alloc: Global, out: &mut String, path: &HostPath) -> Result<(), VectorError> {
-    out.push('"')?;
-    put_bytes(alloc, out, path.name())?;
-    out.push('"')?;
+pub fn application(alloc: Global, out: &mut Output, rest: &str) -> Result<(), VectorError> {
+    let app = app_of(alloc, rest)?;
+    out.lossy(app.as_bytes());
     Ok(())
 }
 
-fn put_child(
-    alloc: Global,
-    out: &mut String,
-    path: &HostPath,
-    name: &str,
-) -> Result<(), VectorError> {
-    let child = given(alloc, path.child(alloc, name.as_bytes()))?;
-    put_bytes(alloc, out, child.as_bytes())
+/// `document TEXT`: the number of a document's identifier, and its text again.
+pub fn document(out: &mut Output, rest: &str) -> Result<(), VectorError> {
+    match DocId::read(rest.as_bytes()) {
+        Some(id) => {
+            out.number(u64::from(id.number));
+            out.text(" ");
+            out.lossy(id.text().as_slice());
+        }
+        None => out.text("none"),
+    }
+    Ok(())
 }
 
-fn put_own(alloc: Global, out: &mut String, path: &HostPath, app: &str) -> Result<(), VectorError> {
-    let is_own = path.in_folder_of(&app_of(alloc, app)?);
-    write!(out, "{is_own}")?;
+/// `path TEXT`: the path of a file, or where it breaks; `parent PATH`: the path without its
+/// last part; `last PATH`: the last part of the path, between quotes.
+pub fn path(alloc: Global, out: &mut Output, kind: &str, rest: &str) -> Result<(), VectorError> {
+    let path = path_of(alloc, rest)?;
+    match kind {
+        "parent" => out.lossy(path.parent(alloc)?.as_bytes()),
+        "last" => out.quoted(path.name()),
+        _ => out.lossy(path.as_bytes()),
+    }
+    Ok(())
+}
+
+/// `child PATH NAME`: the path with the name behind it, or where that breaks.
+pub fn child(alloc: Global, out: &mut Output, rest: &str) -> Result<(), VectorError> {
+    let (path, name) = cut(rest);
+    let path = path_of(alloc, path)?;
+    let child = given(alloc, path.child(alloc, name.as_bytes()))?;
+    out.lossy(child.as_bytes());
+    Ok(())
+}
+
+/// `own APPLICATION PATH`: whether the path is the application's own folder, or below it.
+pub fn own(alloc: Global, out: &mut Output, rest: &str) -> Result<(), VectorError> {
+    let (app, path) = cut(rest);
+    let app = app_of(alloc, app)?;
+    let path = path_of(alloc, path)?;
+    out.shown(&path.in_folder_of(&app));
     Ok(())
 }

@@ -1,18 +1,17 @@
-//! Sets of rights; and how lines write identifiers and names of rights.
+//! Sets of rights; and how lines write names of rights.
 
-use crate::names::put_bytes;
 use portal_base::list::List;
-use portal_base::names::DocId;
 use portal_base::text::Text;
 use rights_rule::{Rights, read_names};
 use std::alloc::Global;
 use vector_lines::error::{LineError, VectorError, given};
+use vector_lines::output::Output;
 
 /// `rights NAME ..`: the names of the rights that are named, in their order;
 /// `all`, `none`: the names of every right, and of none.
 pub fn rights_named(
     alloc: Global,
-    out: &mut String,
+    out: &mut Output,
     kind: &str,
     rest: &str,
 ) -> Result<(), VectorError> {
@@ -24,35 +23,29 @@ pub fn rights_named(
     put_rights(alloc, out, rights)
 }
 
-/// A document's identifier.
-pub fn document_id(word: &str) -> Result<DocId, VectorError> {
-    DocId::read(word.as_bytes()).ok_or(VectorError::Line(LineError::BadLine))
-}
-
 /// The rights that words name.
 pub fn rights(alloc: Global, words: &str) -> Result<Rights, VectorError> {
     let mut names = List::new(alloc);
-    for word in words.split_whitespace() {
-        names.push(Text::copied(alloc, word)?)?;
-    }
+    add_names(alloc, &mut names, words)?;
     given(alloc, read_names(&names))
 }
 
-/// The names of rights, each behind a space, between brackets.
-pub fn put_rights(alloc: Global, out: &mut String, rights: Rights) -> Result<(), VectorError> {
-    out.push('[')?;
-    for name in rights.names(alloc)?.iter() {
-        out.push(' ')?;
-        out.push_str(name.as_str())?;
+/// Adds the words to the names.
+fn add_names(alloc: Global, names: &mut List<Text>, words: &str) -> Result<(), LineError> {
+    for word in words.split_whitespace() {
+        names.push(Text::copied(alloc, word)?)?;
     }
-    out.push_str(" ]")?;
     Ok(())
 }
 
-/// The eight digits of an identifier, which may be missing.
-pub fn put_found(alloc: Global, out: &mut String, id: Option<DocId>) -> Result<(), VectorError> {
-    match id {
-        Some(id) => put_bytes(alloc, out, id.text().as_slice()),
-        None => Ok(out.push_str("none")?),
+/// The names of rights, each behind a space, between brackets.
+pub fn put_rights(alloc: Global, out: &mut Output, rights: Rights) -> Result<(), VectorError> {
+    let names = rights.names(alloc)?;
+    out.text("[");
+    for name in names.iter() {
+        out.text(" ");
+        out.text(name.as_str());
     }
+    out.text(" ]");
+    Ok(())
 }

@@ -6,34 +6,28 @@ use portal_base::names::{DocId, HostPath};
 use portal_model::entry::Fault;
 use portal_model::request::Request;
 use std::alloc::Global;
-use vector_lines::error::{LineError, VectorError, bad, given};
-use vector_lines::notation::{cut, debug, number, small_number, text};
+use std::str::SplitWhitespace;
+use vector_lines::error::LineError;
+use vector_lines::notation::{cut, next, next_number, next_small, number, text};
+use vector_lines::output::Output;
 
 /// `items ITEMS || ITEMS`: how two traces compare that open with nothing, and in
 /// which these happen. Items are written with `, ` between them: `gone NUMBER`,
 /// `bytes PATH GENERATION GENERATION MOMENT TEXT` and `turned` with the same of a file, and
 /// `own SEAT leave` and `own SEAT collect`, which a generation may follow.
-pub fn items(alloc: Global, rest: &str) -> Result<String, VectorError> {
-    let Some((first, second)) = rest.split_once(" || ") else {
-        return bad();
-    };
-    let first = trace_of(alloc, first)?;
-    let answer = compared(alloc, &first, second);
-    drop(first);
-    answer
+pub fn put_compared(alloc: Global, out: &mut Output, rest: &str) -> Result<(), LineError> {
+    let mut first = empty_trace(alloc);
+    let mut second = empty_trace(alloc);
+    let read = put_both(alloc, &mut first.items, &mut second.items, rest);
+    if read.is_ok() {
+        out.debug(&same_trace(&first, &second));
+    }
+    read
 }
 
-/// How a trace compares with the one of these items.
-fn compared(alloc: Global, first: &Trace, words: &str) -> Result<String, VectorError> {
-    let second = trace_of(alloc, words)?;
-    let matched = same_trace(first, &second);
-    drop(second);
-    Ok(debug(alloc, &matched)?)
-}
-
-/// The trace that opens with nothing, and in which these happen.
-fn trace_of(alloc: Global, words: &str) -> Result<Trace, VectorError> {
-    let mut trace = Trace {
+/// The trace that opens with nothing, and in which nothing happens.
+fn empty_trace(alloc: Global) -> Trace {
+    Trace {
         opening: AppView {
             handles: 0,
             queued: 0,
@@ -45,87 +39,85 @@ fn trace_of(alloc: Global, words: &str) -> Result<Trace, VectorError> {
             files: List::new(alloc),
         },
         items: List::new(alloc),
-    };
-    match put_items(alloc, &mut trace.items, words) {
-        Ok(()) => Ok(trace),
-        Err(error) => {
-            drop(trace);
-            Err(error)
-        }
     }
 }
 
-fn put_items(alloc: Global, items: &mut List<TraceItem>, words: &str) -> Result<(), VectorError> {
-    for item in words.split(", ") {
-        let item = item_of(alloc, item)?;
-        items.push(item)?;
+/// Puts the items of both traces.
+fn put_both(
+    alloc: Global,
+    first: &mut List<TraceItem>,
+    second: &mut List<TraceItem>,
+    words: &str,
+) -> Result<(), LineError> {
+    let Some((of_first, of_second)) = words.split_once(" || ") else {
+        return Err(LineError::BadLine);
+    };
+    put_items(alloc, first, of_first)?;
+    put_items(alloc, second, of_second)
+}
+
+fn put_items(alloc: Global, items: &mut List<TraceItem>, words: &str) -> Result<(), LineError> {
+    for words in words.split(", ") {
+        put_item(alloc, items, words)?;
     }
     Ok(())
 }
 
-fn item_of(alloc: Global, words: &str) -> Result<TraceItem, VectorError> {
+fn put_item(alloc: Global, items: &mut List<TraceItem>, words: &str) -> Result<(), LineError> {
     let (kind, rest) = cut(words);
-    match kind {
-        "gone" => Ok(TraceItem::Gone {
+    let mut words = rest.split_whitespace();
+    let item = match kind {
+        "gone" => TraceItem::Gone {
             id: DocId {
-                number: small_number(rest)?,
+                number: next_small(&mut words)?,
             },
-        }),
-        "bytes" => bytes(alloc, rest),
-        "turned" => turned(alloc, rest),
-        "own" => Ok(own(alloc, rest)?),
-        _ => bad(),
-    }
+        },
+        "own" => own(alloc, &mut words)?,
+        "bytes" | "turned" => changed(alloc, kind, &mut words)?,
+        _ => return Err(LineError::BadLine),
+    };
+    Ok(items.push(item)?)
 }
 
-/// A file that is changed.
-fn bytes(alloc: Global, words: &str) -> Result<TraceItem, VectorError> {
-    let (path, rest) = cut(words);
-    let (of, rest) = cut(rest);
-    let generation = number(of)?;
-    let content = content(alloc, rest)?;
-    Ok(TraceItem::Bytes {
-        path: given(alloc, HostPath::read(alloc, path.as_bytes()))?,
-        generation,
-        content,
-    })
-}
-
-/// A file that was renamed to the path.
-fn turned(alloc: Global, words: &str) -> Result<TraceItem, VectorError> {
-    let (path, rest) = cut(words);
-    let (of, rest) = cut(rest);
-    let generation = number(of)?;
-    let content = content(alloc, rest)?;
-    Ok(TraceItem::Turned {
-        path: given(alloc, HostPath::read(alloc, path.as_bytes()))?,
-        generation,
-        content,
-    })
-}
-
-/// A file of this generation and moment.
-fn content(alloc: Global, words: &str) -> Result<Content, VectorError> {
-    let (generation, rest) = cut(words);
-    let (moment, content) = cut(rest);
-    let generation = number(generation)?;
-    let moment = number(moment)?;
-    Ok(Content::File {
-        generation,
-        bytes: text(alloc, content)?,
+/// A file that is changed, or that was renamed to the path.
+fn changed(
+    alloc: Global,
+    kind: &str,
+    words: &mut SplitWhitespace<'_>,
+) -> Result<TraceItem, LineError> {
+    let path = next(words);
+    let generation = next_number(words)?;
+    let of_content = next_number(words)?;
+    let moment = next_number(words)?;
+    let bytes = text(alloc, next(words))?;
+    let path = HostPath::read(alloc, path.as_bytes())?;
+    let content = Content::File {
+        generation: of_content,
+        bytes,
         moment,
+    };
+    Ok(if kind == "bytes" {
+        TraceItem::Bytes {
+            path,
+            generation,
+            content,
+        }
+    } else {
+        TraceItem::Turned {
+            path,
+            generation,
+            content,
+        }
     })
 }
 
 /// A request of the application, to which the outside gave nothing, or a generation.
-fn own(alloc: Global, words: &str) -> Result<TraceItem, LineError> {
-    let (seat, rest) = cut(words);
-    let (kind, generation) = cut(rest);
-    let seat = small_number(seat)?;
-    let generation = if generation.is_empty() {
-        None
-    } else {
-        Some(number(generation)?)
+fn own(alloc: Global, words: &mut SplitWhitespace<'_>) -> Result<TraceItem, LineError> {
+    let seat = next_small(words)?;
+    let kind = next(words);
+    let generation = match next(words) {
+        "" => None,
+        word => Some(number(word)?),
     };
     Ok(TraceItem::Own {
         seat,

@@ -10,27 +10,35 @@ mod devices;
 mod items;
 mod scripts;
 mod served;
+mod sizes;
 
 use std::alloc::Global;
 use std::io;
 use vector_lines::error::VectorError;
 use vector_lines::notation::cut;
+use vector_lines::output::Output;
 use vector_lines::program::run;
 
 fn main(rt: HostRuntime) -> io::Result<()> {
     run(&rt, answer)
 }
 
-/// The answer of a line. One that names no other call is run as the program's words.
 fn answer(alloc: Global, line: &str) -> Result<String, VectorError> {
+    let mut out = Output::new(alloc);
+    match put_answer(alloc, &mut out, line) {
+        Ok(()) => Ok(out.into_text()?),
+        Err(error) => Err(error),
+    }
+}
+
+/// Adds the answer of a line. One that names no other call is run as the program's words.
+fn put_answer(alloc: Global, out: &mut Output, line: &str) -> Result<(), VectorError> {
     let (kind, rest) = cut(line);
     match kind {
-        "read" => scripts::with_failing_read(alloc, rest),
-        "write" => scripts::with_failing_write(alloc, rest),
-        "last" => scripts::last(alloc, rest),
-        "written" => scripts::written(alloc, rest),
-        "serve" => served::serve(alloc, rest),
-        "items" => items::items(alloc, rest),
-        _ => scripts::script(alloc, line),
+        "read" | "write" | "last" => scripts::put_run_so(alloc, out, kind, rest),
+        "written" => Ok(scripts::put_written(alloc, out, rest)?),
+        "serve" => served::put_served(alloc, out, rest),
+        "items" => Ok(items::put_compared(alloc, out, rest)?),
+        _ => scripts::put_run(alloc, out, line),
     }
 }

@@ -4,7 +4,8 @@
 ghost use Rattle.std.specs.Prelude.{◌≡◌, []};
 
 use crate::devices::{Kept, Pieces};
-use portal_base::limits::{Limits, Settings};
+use crate::sizes::{Run, put_told};
+use portal_base::limits::Settings;
 use portal_base::list::ByteList;
 use portal_base::names::HostPath;
 use portal_base::outside::MemorySink;
@@ -16,7 +17,8 @@ use session::served::Served;
 use std::alloc::Global;
 use std::cell::Cell;
 use vector_lines::error::{LineError, VectorError, given};
-use vector_lines::notation::{bytes, cut, digits, number};
+use vector_lines::notation::{bytes, cut, number};
+use vector_lines::output::Output;
 
 /// A document that org.ed may read and write, and its file.
 const SCRIPT: &[u8] = b"file /home/a.txt 68656c6c6f\ndoc 0000000a r /home/a.txt org.ed=rw\n";
@@ -24,12 +26,27 @@ const SCRIPT: &[u8] = b"file /home/a.txt 68656c6c6f\ndoc 0000000a r /home/a.txt 
 /// More reads than there are.
 const ALWAYS: u64 = u64::MAX;
 
-/// A client, how its bytes come, and under which limits of the portal.
+/// Under which limits of the portal a client is served, and how its bytes come.
+#[derive(Clone, Copy)]
+struct Options {
+    /// The cost that the history may have.
+    history: u64,
+    /// How many documents may be live.
+    documents: u64,
+    /// The size of the pieces in which the bytes come; 0 where they come in several.
+    size: usize,
+    /// The read that fails; none where it is 0.
+    read: u64,
+    /// The last read that doesn't wait for a write.
+    eager: u64,
+}
+
+/// A client, and its bytes.
 #[derive(Drop)]
-struct Client<'a> {
+pub struct Client {
     who: Who,
     kind: Kind,
-    options: &'a str,
+    options: Options,
     input: ByteList,
 }
 
@@ -40,20 +57,34 @@ struct Client<'a> {
 /// `eager=N` for the last read that doesn't wait for a write, with commas between them,
 /// or `-`. Without a size the connection is served four times, by pieces of 262,144
 /// bytes, of 57, of 3 and of 1; the answer is then one where it is the same.
-pub fn serve(alloc: Global, rest: &str) -> Result<String, VectorError> {
+pub fn put_served(alloc: Global, out: &mut Output, rest: &str) -> Result<(), VectorError> {
     let (name, rest) = cut(rest);
     let (speaks, rest) = cut(rest);
     let (options, input) = cut(rest);
+    let options = options_of(options)?;
+    let kind = kind(speaks)?;
+    let input = bytes(alloc, input)?;
     let client = Client {
         who: who(alloc, name)?,
-        kind: kind(speaks)?,
+        kind,
         options,
-        input: bytes(alloc, input)?,
+        input,
     };
-    match option(options, "size=", 0)? {
-        0 => served_in_sizes(alloc, &client),
-        size => served(alloc, &client, size as usize),
+    let run = Run::Connection(&client);
+    match options.size {
+        0 => put_told(alloc, out, run, 262_144, true),
+        size => put_told(alloc, out, run, size, false),
     }
+}
+
+fn options_of(words: &str) -> Result<Options, LineError> {
+    Ok(Options {
+        history: option(words, "limit=", PLENTY)?,
+        documents: option(words, "documents=", DOCUMENTS)?,
+        size: option(words, "size=", 0)? as usize,
+        read: option(words, "read=", 0)?,
+        eager: option(words, "eager=", ALWAYS)?,
+    })
 }
 
 /// The number behind a key among the options, or another where it isn't there.
@@ -66,27 +97,44 @@ fn option(options: &str, key: &str, other: u64) -> Result<u64, LineError> {
     Ok(other)
 }
 
-fn served_in_sizes(alloc: Global, client: &Client) -> Result<String, VectorError> {
-    let whole = served(alloc, client, 262_144)?;
-    for size in [57, 3, 1] {
-        let told = served(alloc, client, size)?;
-        if told != whole {
-            return Ok(format!(in alloc; "{whole}; but by {size}: {told}")?);
-        }
-    }
-    Ok(whole)
+/// What is told of a client that is served by pieces of this size, over a portal of its own.
+pub fn served(alloc: Global, client: &Client, size: usize) -> Result<String, VectorError> {
+    let limits = limits(client.options.documents, client.options.history);
+    let settings = Settings {
+        limits,
+        mountpoint: given(alloc, HostPath::read(alloc, b"/run/doc"))?,
+        guid: [
+            0x01, 0x23, 0x45, 0x67, 0x89, 0xab, 0xcd, 0xef, 0x01, 0x23, 0x45, 0x67, 0x89, 0xab,
+            0xcd, 0xef,
+        ],
+    };
+    let mut portal = opened_by(alloc, SCRIPT, limits)?;
+    let mut out = Output::new(alloc);
+    put_connection(alloc, &mut out, &mut portal, client, &settings, size);
+    drop(portal);
+    Ok(out.into_text()?)
 }
 
-/// Serves a client by pieces of this size, over a portal of its own.
-fn served(alloc: Global, client: &Client, size: usize) -> Result<String, VectorError> {
+/// Serves a connection of a portal that has no connection yet, and tells how it ended, how many
+/// entries the history has then, and the pieces that were written.
+fn put_connection(
+    alloc: Global,
+    out: &mut Output,
+    portal: &mut ScriptPortal,
+    client: &Client,
+    settings: &Settings,
+    size: usize,
+)
+    requires { portal.old.story.history ≡ [] }
+{
     let written = Cell::new(0);
     let mut source = Pieces {
         bytes: client.input.as_slice(),
         at: 0,
         size,
         calls: 0,
-        fail_at: option(client.options, "read=", 0)?,
-        eager: option(client.options, "eager=", ALWAYS)?,
+        fail_at: client.options.read,
+        eager: client.options.eager,
         written: &written,
         faults: 0,
     };
@@ -94,48 +142,15 @@ fn served(alloc: Global, client: &Client, size: usize) -> Result<String, VectorE
         pieces: MemorySink::new(alloc, 0),
         written: &written,
     };
-    let (served, entries) = served_over(alloc, client, &mut source, &mut sink)?;
-    told(alloc, served, entries, sink.pieces.pieces().as_slice())
-}
-
-/// How a connection ended, how many entries the history has then, and the pieces
-/// that were written.
-fn told(
-    alloc: Global,
-    served: Served,
-    entries: u64,
-    pieces: &[ByteList],
-) -> Result<String, VectorError> {
-    let mut out = format!(in alloc; "{served:?}, {entries} entries")?;
-    for piece in pieces {
-        out.push_str(" | ")?;
-        out.push_str(digits(alloc, piece.as_slice())?.as_str())?;
+    let served = served_by(alloc, portal, client, settings, &mut source, &mut sink);
+    out.debug(&served);
+    out.text(", ");
+    out.number(portal.history().len());
+    out.text(" entries");
+    for piece in sink.pieces.pieces().as_slice() {
+        out.text(" | ");
+        out.digits(piece.as_slice());
     }
-    Ok(out)
-}
-
-/// How a connection ends, and how many entries the history has then.
-fn served_over(
-    alloc: Global,
-    client: &Client,
-    source: &mut Pieces,
-    sink: &mut Kept,
-) -> Result<(Served, u64), VectorError> {
-    let documents = option(client.options, "documents=", DOCUMENTS)?;
-    let history = option(client.options, "limit=", PLENTY)?;
-    let settings = Settings {
-        limits: limits(documents, history),
-        mountpoint: given(alloc, HostPath::read(alloc, b"/run/doc"))?,
-        guid: [
-            0x01, 0x23, 0x45, 0x67, 0x89, 0xab, 0xcd, 0xef, 0x01, 0x23, 0x45, 0x67, 0x89, 0xab,
-            0xcd, 0xef,
-        ],
-    };
-    let mut portal = opened_by(alloc, SCRIPT, limits(documents, history))?;
-    let served = served_by(alloc, &mut portal, client, &settings, source, sink);
-    let entries = portal.history().len();
-    drop(portal);
-    Ok((served, entries))
 }
 
 /// Serves a connection of a portal that has no connection yet.

@@ -11,6 +11,7 @@ use std::alloc::Global;
 use std::thread::{Threads, join};
 use turn_desk::seats::{Pass, Turn};
 use vector_lines::error::VectorError;
+use vector_lines::output::Output;
 
 /// How often each thread asks.
 const ROUNDS: u32 = 100_000;
@@ -79,8 +80,12 @@ fn crowd_told(
     busy: u64,
 ) -> Result<String, VectorError> {
     let same = entries == answered;
-    let asked = answered.saturating_add(busy);
-    Ok(format!(in alloc; "an entry for each answer: {same}\nasked {asked}")?)
+    let mut out = Output::new(alloc);
+    out.text("an entry for each answer: ");
+    out.shown(&same);
+    out.text("\nasked ");
+    out.number(answered.saturating_add(busy));
+    Ok(out.into_text()?)
 }
 
 /// Asks again and again.

@@ -9,12 +9,12 @@ use portal_base::who::{Kind, Who};
 use portal_core::storied::Storied;
 use portal_model::asked::Asked;
 use portal_model::request::{NodeOp, NodeRequest, Request};
-use std::alloc::{AllocError, Global};
+use std::alloc::Global;
 use std::thread::{Threads, join};
 use std::time::Clock;
-use turn_desk::seats::{Pass, Seat, Turn};
-use vector_lines::error::{VectorError, bad};
-use vector_lines::notation::debug;
+use turn_desk::seats::{Pass, Turn};
+use vector_lines::error::{LineError, VectorError};
+use vector_lines::output::Output;
 
 /// The node of the document's file, as the host sees it.
 const NODE: u64 = 8_589_934_602;
@@ -41,10 +41,10 @@ pub fn held_at<S: Storied + Send + Drop, R: Threads + Clock + Sync>(
     let second = enter(alloc, shared, second);
     let (one, two) = join(
         rt,
-        move || -> Result<String, AllocError>
+        move || -> Result<String, LineError>
             requires { first.table ≡ shared.now.table }
         { ask_held(alloc, meeting, shared, first) },
-        move || -> Result<String, VectorError>
+        move || -> Result<String, LineError>
             requires { second.table ≡ shared.now.table }
         { ask_meanwhile(rt, alloc, meeting, shared, second) },
     );
@@ -81,49 +81,40 @@ fn ask_held<S: Storied>(
     meeting: &Meeting,
     turn: &Turn<S>,
     pass: Pass<S>,
-) -> Result<String, AllocError>
+) -> Result<String, LineError>
     requires { pass.table ≡ turn.now.table }
 {
+    let mut out = Output::new(alloc);
     let mut seat = pass.sit(turn);
-    let told = told(alloc, seat.try_ask(alloc, attributes()));
+    put_asked(&mut out, "seat 1: ", &seat.try_ask(alloc, attributes()));
     meeting.done.step();
-    told
+    out.into_text()
 }
 
-/// What another seat is answered meanwhile, and then.
+/// What another seat is answered meanwhile, and then to what was handed back; and how long the
+/// history is.
 fn ask_meanwhile<S: Storied, R: Clock>(
     rt: &R,
     alloc: Global,
     meeting: &Meeting,
     turn: &Turn<S>,
     pass: Pass<S>,
-) -> Result<String, VectorError>
+) -> Result<String, LineError>
     requires { pass.table ≡ turn.now.table }
 {
+    let mut out = Output::new(alloc);
     let mut seat = pass.sit(turn);
     meeting.come.wait(rt);
     let asked = seat.try_ask(alloc, attributes());
     meeting.go.step();
     meeting.done.wait(rt);
-    let meanwhile = debug(alloc, &asked);
-    match handed_back(asked) {
-        Some(request) => ask_again(alloc, &mut seat, meanwhile, request),
-        None => bad(),
+    put_asked(&mut out, "seat 2: ", &asked);
+    if let Some(request) = handed_back(asked) {
+        put_asked(&mut out, "seat 2: ", &seat.try_ask(alloc, request));
     }
-}
-
-/// What is answered to what was handed back, and how long the history is.
-fn ask_again<S: Storied>(
-    alloc: Global,
-    seat: &mut Seat<'_, S>,
-    meanwhile: Result<String, AllocError>,
-    request: Request,
-) -> Result<String, VectorError> {
-    let then = told(alloc, seat.try_ask(alloc, request));
-    let front = seat.front();
-    let meanwhile = meanwhile?;
-    let then = then?;
-    Ok(format!(in alloc; "seat 2: {meanwhile}\nseat 2: {then}\nfront {front}")?)
+    out.text("front ");
+    out.number(seat.front());
+    out.into_text()
 }
 
 /// The request that a busy seat was handed back.
@@ -138,18 +129,23 @@ fn handed_back(asked: Asked) -> Option<Request> {
     }
 }
 
-fn told(alloc: Global, asked: Asked) -> Result<String, AllocError> {
-    let told = debug(alloc, &asked);
-    drop(asked);
-    told
+/// Adds a line with what a seat was answered.
+fn put_asked(out: &mut Output, seat: &str, asked: &Asked) {
+    out.text(seat);
+    out.debug(asked);
+    out.text("\n");
 }
 
+/// What one seat was told, and then the other.
 fn in_lines(
     alloc: Global,
-    one: Result<String, AllocError>,
-    two: Result<String, VectorError>,
+    one: Result<String, LineError>,
+    two: Result<String, LineError>,
 ) -> Result<String, VectorError> {
     let two = two?;
     let one = one?;
-    Ok(format!(in alloc; "seat 1: {one}\n{two}")?)
+    let mut out = Output::new(alloc);
+    out.text(one.as_str());
+    out.text(two.as_str());
+    Ok(out.into_text()?)
 }

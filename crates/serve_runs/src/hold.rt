@@ -1,9 +1,9 @@
 //! What holds threads until others have come so far.
 
-use std::fmt::{Display, Formatter, Write};
 use std::sync::atomic::{AtomicBool, AtomicU64, Ordering};
+use std::thread;
 use std::time::{Clock, Duration};
-use std::{fmt, thread};
+use vector_lines::output::Output;
 use worker_gate::gate::{Gate, Point};
 
 /// How often a held thread sleeps at most.
@@ -64,15 +64,16 @@ pub enum Hold {
     },
 }
 
-impl Display for Hold {
-    fn fmt<W: Write>(&self, f: &mut Formatter<W>) -> fmt::Result {
-        match self {
-            Hold::Nobody => f.write_str("a message that waits for the handshake's answer"),
-            Hold::NobodyInRounds => f.write_str("a history that has room for one connection"),
-            Hold::AtFirst => f.write_str("each is held at its first request"),
-            Hold::AtSecond { worker } => {
-                write!(f, "worker {worker} is held at its second request")
-            }
+/// Adds what a run is for.
+pub fn put_hold(out: &mut Output, hold: Hold) {
+    match hold {
+        Hold::Nobody => out.text("a message that waits for the handshake's answer"),
+        Hold::NobodyInRounds => out.text("a history that has room for one connection"),
+        Hold::AtFirst => out.text("each is held at its first request"),
+        Hold::AtSecond { worker } => {
+            out.text("worker ");
+            out.shown(&worker);
+            out.text(" is held at its second request");
         }
     }
 }

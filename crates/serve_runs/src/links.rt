@@ -7,7 +7,7 @@ use crate::hold::Steps;
 use portal_base::list::{ByteList, List};
 use portal_base::outside::{MemorySink, ReadAnswer, Sink, Source, WriteAnswer};
 use std::alloc::Global;
-use vector_lines::error::VectorError;
+use vector_lines::error::LineError;
 use vector_lines::notation::bytes;
 use worker_gate::in_memory::MemoryListener;
 use worker_gate::listener::Link;
@@ -99,7 +99,7 @@ pub fn links<'a>(
     count: u32,
     first: &str,
     second: &str,
-) -> Result<Links<'a>, VectorError> {
+) -> Result<Links<'a>, LineError> {
     let mut coming = List::new(alloc);
     let mut put = Ok(());
     for _ in 0..count {
@@ -125,12 +125,12 @@ fn put_link<'a>(
     answered: &'a Steps,
     first: &str,
     second: &str,
-) -> Result<(), VectorError> {
+) -> Result<(), LineError> {
     let first = bytes(alloc, first)?;
     let second = bytes(alloc, second)?;
     match coming.push(link(alloc, answered, first, second)) {
         Ok(()) => Ok(()),
-        Err(error) => Err(VectorError::from(error)),
+        Err(error) => Err(LineError::from(error)),
     }
 }
 

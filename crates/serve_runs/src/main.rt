@@ -55,8 +55,6 @@ fn main(rt: HostRuntime) -> io::Result<()> {
             Hold::Nobody,
             Hold::NobodyInRounds,
         ] {
-            let how = if polled { ", polled" } else { "" };
-            println!(rt; "{hold}{how}")?;
             let text = shown(rt.alloc(), served(&rt, rt.alloc(), hold, polled))?;
             println!(rt; "{text}")?;
         }

@@ -6,7 +6,7 @@ use portal_base::list::List;
 use portal_base::names::AppId;
 use portal_base::who::{Kind, Who};
 use std::alloc::Global;
-use vector_lines::error::{VectorError, given};
+use vector_lines::error::LineError;
 use worker_gate::worker::Post;
 
 /// The posts of a service.
@@ -36,7 +36,7 @@ pub fn put_posts<'a>(
     answered: &'a Steps,
     hold: Hold,
     polled: bool,
-) -> Result<(), VectorError> {
+) -> Result<(), LineError> {
     let (of_host, of_app) = match hold {
         Hold::Nobody => {
             let bus = links(alloc, answered, 1, HANDSHAKE, PING);
@@ -45,7 +45,6 @@ pub fn put_posts<'a>(
         Hold::NobodyInRounds => (3, 0),
         Hold::AtFirst | Hold::AtSecond { worker: _ } => (1, 1),
     };
-    let app = given(alloc, AppId::read(alloc, b"org.ed"))?;
     put(
         posts,
         links(alloc, answered, of_host, GETATTR, ""),
@@ -53,6 +52,7 @@ pub fn put_posts<'a>(
         Kind::Mount,
         polled,
     )?;
+    let app = AppId::read(alloc, b"org.ed")?;
     put(
         posts,
         links(alloc, answered, of_app, GETATTR, ""),
@@ -64,11 +64,11 @@ pub fn put_posts<'a>(
 
 fn put<'a>(
     posts: &mut Posts<'a>,
-    listener: Result<Links<'a>, VectorError>,
+    listener: Result<Links<'a>, LineError>,
     who: Who,
     kind: Kind,
     polled: bool,
-) -> Result<(), VectorError> {
+) -> Result<(), LineError> {
     match listener {
         Ok(listener) => match posts.push(Post {
             listener,
@@ -77,7 +77,7 @@ fn put<'a>(
             polled,
         }) {
             Ok(()) => Ok(()),
-            Err(error) => Err(VectorError::from(error)),
+            Err(error) => Err(LineError::from(error)),
         },
         Err(error) => {
             drop(who);

@@ -5,9 +5,9 @@ ghost use Rattle.portal_start.specs.Loading.{AreFirst};
 
 use crate::devices::{SCRIPT, devices, settings};
 use crate::held_tree::{HeldTree, Meeting};
-use crate::hold::{Hold, HoldGate, Steps};
+use crate::hold::{Hold, HoldGate, Steps, put_hold};
 use crate::posts::{Posts, put_posts};
-use crate::told::tell;
+use crate::told::put_status;
 use portal_base::limits::Settings;
 use portal_base::list::List;
 use portal_base::outside::SetClock;
@@ -20,9 +20,10 @@ use std::sync::Wait;
 use std::thread::Threads;
 use std::time::Clock;
 use vector_lines::error::{VectorError, bad};
+use vector_lines::output::Output;
 
-/// What the posts of a service are answered, whose workers are held so, and whose connections
-/// are polled or not.
+/// What a service is for whose workers are held so, and whose connections are polled or not; and
+/// what its posts are answered.
 pub fn served<R: Threads + Wait + Clock + RandomSource + AllocGlobal + Sync>(
     rt: &R,
     alloc: Global,
@@ -32,15 +33,22 @@ pub fn served<R: Threads + Wait + Clock + RandomSource + AllocGlobal + Sync>(
     let settings = settings(alloc, history_of(hold))?;
     let answered = Steps::new();
     let gate = HoldGate::new(rt, hold);
+    let mut out = Output::new(alloc);
+    put_hold(&mut out, hold);
+    out.text(if polled { ", polled\n" } else { "\n" });
     let mut posts = List::new(alloc);
     let told = match put_posts(alloc, &mut posts, &answered, hold, polled) {
-        Ok(()) => served_at(rt, alloc, posts, &settings, &gate),
+        Ok(()) => put_served(rt, alloc, &mut out, posts, &settings, &gate),
         Err(error) => {
             drop(posts);
-            Err(error)
+            Err(VectorError::from(error))
         }
     };
-    with_end(alloc, told, gate.ran_out())
+    if gate.ran_out() {
+        out.text("\na hold ran out");
+    }
+    told?;
+    Ok(out.into_text()?)
 }
 
 /// What the history of a service may cost: in rounds an Enter and a GETATTR of the host, and no
@@ -52,14 +60,15 @@ fn history_of(hold: Hold) -> u64 {
     }
 }
 
-/// The same of two posts, or of one.
-fn served_at<R: Threads + Wait + Clock + RandomSource + AllocGlobal + Sync>(
+/// Adds what two posts are answered, or one.
+fn put_served<R: Threads + Wait + Clock + RandomSource + AllocGlobal + Sync>(
     rt: &R,
     alloc: Global,
+    out: &mut Output,
     posts: Posts<'_>,
     settings: &Settings,
     gate: &HoldGate<'_, R>,
-) -> Result<String, VectorError>
+) -> Result<(), VectorError>
     requires made { settings.now.limits.made < 2 ^ 32 }
     requires queued { settings.now.limits.queued < 2 ^ 32 }
 {
@@ -69,7 +78,10 @@ fn served_at<R: Threads + Wait + Clock + RandomSource + AllocGlobal + Sync>(
         return bad();
     }
     match devices(alloc, SCRIPT) {
-        Ok(devices) => served_over(rt, alloc, posts, devices, settings, gate),
+        Ok(devices) => {
+            put_served_over(rt, alloc, out, posts, devices, settings, gate);
+            Ok(())
+        }
         Err(error) => {
             drop(posts);
             Err(error)
@@ -78,14 +90,15 @@ fn served_at<R: Threads + Wait + Clock + RandomSource + AllocGlobal + Sync>(
 }
 
 /// The same over devices.
-fn served_over<R: Threads + Wait + Clock + RandomSource + AllocGlobal + Sync>(
+fn put_served_over<R: Threads + Wait + Clock + RandomSource + AllocGlobal + Sync>(
     rt: &R,
     alloc: Global,
+    out: &mut Output,
     posts: Posts<'_>,
     devices: ScriptDevices,
     settings: &Settings,
     gate: &HoldGate<'_, R>,
-) -> Result<String, VectorError>
+)
     requires count { (1 ≤ length posts) × (length posts ≤ 65535) }
     requires made { settings.now.limits.made < 2 ^ 32 }
     requires queued { settings.now.limits.queued < 2 ^ 32 }
@@ -106,20 +119,6 @@ fn served_over<R: Threads + Wait + Clock + RandomSource + AllocGlobal + Sync>(
     };
     let clock = SetClock::new(0);
     let status = serve(alloc, rt, posts, tree, keeper, clock, words, settings, gate);
-    let told = tell(alloc, &status);
+    put_status(out, &status);
     drop(status);
-    told
-}
-
-/// What was told, and whether a hold ran out.
-fn with_end(
-    alloc: Global,
-    told: Result<String, VectorError>,
-    ran_out: bool,
-) -> Result<String, VectorError> {
-    let told = told?;
-    if ran_out {
-        return Ok(format!(in alloc; "a hold ran out\n{told}")?);
-    }
-    Ok(told)
 }

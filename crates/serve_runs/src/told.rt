@@ -7,76 +7,77 @@ use portal_base::outside::{Clock, Words};
 use portal_history::History;
 use record_keeper::Keeper;
 use serve_posts::status::ServeStatus;
-use std::alloc::Global;
-use std::fmt::Write;
-use vector_lines::error::{VectorError, bad};
-use vector_lines::notation::{debug, digits};
+use vector_lines::error::LineError;
+use vector_lines::output::Output;
 use worker_gate::worker::{Post, WorkEnd};
 
-/// How each worker ended, what its links were answered, and what its seat asked in the last
+/// Adds how each worker ended, what its links were answered, and what its seat asked in the last
 /// round.
-pub fn tell<T: HostTree, K: Keeper, C: Clock, W: Words>(
-    alloc: Global,
+pub fn put_status<T: HostTree, K: Keeper, C: Clock, W: Words>(
+    out: &mut Output,
     status: &ServeStatus<Links<'_>, T, K, C, W>,
-) -> Result<String, VectorError> {
+) {
     match status {
         ServeStatus::Ended {
             posts,
             ends,
             portal,
             rounds,
-        } => tell_all(
-            alloc,
+        } => put_ends(
+            out,
             posts.as_slice(),
             ends.as_slice(),
             portal.history(),
             *rounds,
         ),
-        ServeStatus::Refused(refusal) => Ok(debug(alloc, &refusal.error)?),
-        ServeStatus::Memory => bad(),
+        ServeStatus::Refused(refusal) => out.debug(&refusal.error),
+        ServeStatus::Memory => out.debug(&LineError::Memory),
     }
 }
 
-fn tell_all(
-    alloc: Global,
+fn put_ends(
+    out: &mut Output,
     posts: &[Post<Links<'_>>],
     ends: &[WorkEnd],
     history: &History,
     rounds: u64,
-) -> Result<String, VectorError> {
-    let mut text = String::new(alloc);
+) {
     let mut worker = 0u32;
     for (post, end) in posts.iter().zip(ends) {
         worker = worker.saturating_add(1);
-        writeln!(text, "worker {worker}: {end:?}")?;
+        out.text("worker ");
+        out.shown(&worker);
+        out.text(": ");
+        out.debug(end);
+        out.text("\n");
         for link in post.listener.back() {
-            tell_pieces(alloc, &mut text, link.sink.pieces())?;
+            put_pieces(out, link.sink.pieces());
         }
-        tell_entries(&mut text, worker, history)?;
+        put_entries(out, worker, history);
     }
-    let count = history.len();
-    write!(text, "{count} entries, round {rounds}")?;
-    Ok(text)
+    out.number(history.len());
+    out.text(" entries, round ");
+    out.number(rounds);
 }
 
-/// A line for each piece that was written.
-fn tell_pieces(alloc: Global, text: &mut String, pieces: &[ByteList]) -> Result<(), VectorError> {
+/// Adds a line for each piece that was written.
+fn put_pieces(out: &mut Output, pieces: &[ByteList]) {
     for piece in pieces {
-        let digits = digits(alloc, piece.as_slice())?;
-        writeln!(text, "wrote {digits}")?;
+        out.text("wrote ");
+        out.digits(piece.as_slice());
+        out.text("\n");
     }
-    Ok(())
 }
 
-/// A line for each request of a seat in the history.
-fn tell_entries(text: &mut String, seat: u32, history: &History) -> Result<(), VectorError> {
+/// Adds a line for each request of a seat in the history.
+fn put_entries(out: &mut Output, seat: u32, history: &History) {
     for place in 0..history.len() {
         if let Some(entry) = history.entry(place)
             && entry.seat == seat
         {
-            let request = &entry.request;
-            writeln!(text, "asked {request:?}")?;
+            out.text("asked ");
+            out.debug(&entry.request);
+            out.text("\n");
         }
     }
-    Ok(())
 }

@@ -9,7 +9,8 @@
 //! | Room | Holds |
 //! |---|---|
 //! | `notation` | words of a line, and numbers, texts and bytes in them |
-//! | `values` | values of D-Bus as texts |
+//! | `output` | [`Output`](output::Output): the answer, put together part by part |
+//! | `values` | values of D-Bus in an answer |
 //! | `error` | why a line is not understood, and why it has no other answer |
 //! | `program` | what a program does: lines are read, and their answers printed |
 //!
@@ -21,5 +22,6 @@
 
 pub mod error;
 pub mod notation;
+pub mod output;
 pub mod program;
 pub mod values;

@@ -4,6 +4,7 @@ use crate::error::LineError;
 use portal_base::list::{ByteList, List};
 use std::alloc::{AllocError, Global};
 use std::fmt::Debug;
+use std::str::SplitWhitespace;
 
 /// Says whether a line is printed as it is: an empty one, or a comment.
 pub fn is_comment(line: &str) -> bool {
@@ -13,6 +14,21 @@ pub fn is_comment(line: &str) -> bool {
 /// The first word, and what stands behind the space after it.
 pub fn cut(line: &str) -> (&str, &str) {
     line.split_once(' ').unwrap_or((line, ""))
+}
+
+/// The next word, which is empty behind the last one.
+pub fn next<'a>(words: &mut SplitWhitespace<'a>) -> &'a str {
+    words.next().unwrap_or("")
+}
+
+/// The next word as a number in decimal digits.
+pub fn next_number(words: &mut SplitWhitespace<'_>) -> Result<u64, LineError> {
+    number(next(words))
+}
+
+/// The next word as a number of 32 bits in decimal digits.
+pub fn next_small(words: &mut SplitWhitespace<'_>) -> Result<u32, LineError> {
+    small_number(next(words))
 }
 
 /// A value as a programmer sees it.

@@ -1,110 +1,92 @@
 //! How lines write values of D-Bus.
 
-use crate::error::LineError;
-use crate::notation::debug;
+use crate::output::Output;
 use dbus_types::types::Value;
 use portal_base::text::Text;
-use std::alloc::{AllocError, Global};
 
-/// A value as a text: a byte and a double by the digits of their bytes, texts
-/// between quotes, a variant as `<value>`, arrays as `[..]`, structs as
-/// `(..)` and dict entries as `{key: value}`.
-pub fn value(alloc: Global, value: &Value) -> Result<String, LineError> {
-    let mut out = String::new(alloc);
-    put(alloc, &mut out, value)?;
-    Ok(out)
-}
-
-/// Values with commas between them.
-pub fn values(alloc: Global, values: &[Value]) -> Result<String, LineError> {
-    let mut out = String::new(alloc);
-    put_all(alloc, &mut out, values)?;
-    Ok(out)
-}
-
+/// Adds a value: a byte and a double by the digits of their bytes, texts between quotes,
+/// a variant as `<value>`, arrays as `[..]`, structs as `(..)` and dict entries as
+/// `{key: value}`.
 #[cycle(put)]
-fn put(alloc: Global, out: &mut String, value: &Value) -> Result<(), LineError> {
+pub fn put_value(out: &mut Output, value: &Value) {
     match value {
         Value::Variant(inner) => {
-            out.push('<')?;
-            put(alloc, out, inner.get())?;
-            out.push('>')?;
+            out.text("<");
+            put_value(out, inner.get());
+            out.text(">");
         }
-        Value::Bytes(bytes) => {
-            out.push('[')?;
-            put_bytes(alloc, out, bytes.as_slice())?;
-            out.push(']')?;
-        }
+        Value::Bytes(bytes) => put_bytes(out, bytes.as_slice()),
         Value::Array { items, .. } => {
-            out.push('[')?;
-            put_all(alloc, out, items.as_slice())?;
-            out.push(']')?;
+            out.text("[");
+            put_values(out, items.as_slice());
+            out.text("]");
         }
         Value::Struct(members) => {
-            out.push('(')?;
-            put_all(alloc, out, members.as_slice())?;
-            out.push(')')?;
+            out.text("(");
+            put_values(out, members.as_slice());
+            out.text(")");
         }
         Value::DictEntry { key, value } => {
-            out.push('{')?;
-            put(alloc, out, key.get())?;
-            out.push_str(": ")?;
-            put(alloc, out, value.get())?;
-            out.push('}')?;
+            out.text("{");
+            put_value(out, key.get());
+            out.text(": ");
+            put_value(out, value.get());
+            out.text("}");
         }
-        _ => out.push_str(leaf(alloc, value)?.as_str())?,
+        _ => put_leaf(out, value),
     }
-    Ok(())
 }
 
+/// Adds values with commas between them.
 #[cycle(put)]
-fn put_all(alloc: Global, out: &mut String, values: &[Value]) -> Result<(), LineError> {
+pub fn put_values(out: &mut Output, values: &[Value]) {
     for (index, value) in values.iter().enumerate() {
         if index > 0 {
-            out.push_str(", ")?;
+            out.text(", ");
         }
-        put(alloc, out, value)?;
+        put_value(out, value);
     }
-    Ok(())
 }
 
-/// Bytes with commas between them.
-fn put_bytes(alloc: Global, out: &mut String, bytes: &[u8]) -> Result<(), LineError> {
+/// Adds bytes with commas between them.
+fn put_bytes(out: &mut Output, bytes: &[u8]) {
+    out.text("[");
     for (index, byte) in bytes.iter().enumerate() {
         if index > 0 {
-            out.push_str(", ")?;
+            out.text(", ");
         }
-        out.push_str(digits(alloc, *byte)?.as_str())?;
+        out.byte(*byte);
     }
-    Ok(())
+    out.text("]");
 }
 
-fn digits(alloc: Global, byte: u8) -> Result<String, AllocError> {
-    format!(in alloc; "0x{byte:02x}")
-}
-
-/// A value that holds no other.
-fn leaf(alloc: Global, value: &Value) -> Result<String, AllocError> {
+/// Adds a value that holds no other.
+fn put_leaf(out: &mut Output, value: &Value) {
     match value {
-        Value::Byte(byte) => digits(alloc, *byte),
-        Value::Bool(truth) => debug(alloc, truth),
-        Value::I16(number) => debug(alloc, number),
-        Value::U16(number) => debug(alloc, number),
-        Value::I32(number) => debug(alloc, number),
-        Value::U32(number) => debug(alloc, number),
-        Value::I64(number) => debug(alloc, number),
-        Value::U64(number) => debug(alloc, number),
-        Value::Double(bits) => format!(in alloc; "0x{bits:016x}"),
-        Value::Str(text) => quoted(alloc, "", text),
-        Value::ObjectPath(path) => quoted(alloc, "path ", path),
-        Value::Signature(text) => quoted(alloc, "signature ", text),
-        Value::Handle(index) => format!(in alloc; "handle {index}"),
-        _ => Ok(String::new(alloc)),
+        Value::Byte(byte) => out.byte(*byte),
+        Value::Bool(truth) => out.debug(truth),
+        Value::I16(number) => out.debug(number),
+        Value::U16(number) => out.debug(number),
+        Value::I32(number) => out.debug(number),
+        Value::U32(number) => out.debug(number),
+        Value::I64(number) => out.debug(number),
+        Value::U64(number) => out.debug(number),
+        Value::Double(bits) => out.bits(*bits),
+        Value::Str(text) => put_quoted(out, "", text),
+        Value::ObjectPath(path) => put_quoted(out, "path ", path),
+        Value::Signature(text) => put_quoted(out, "signature ", text),
+        Value::Handle(index) => {
+            out.text("handle ");
+            out.number(u64::from(*index));
+        }
+        _ => {}
     }
 }
 
-/// A text between quotes, behind the name of its type.
-fn quoted(alloc: Global, name: &str, text: &Text) -> Result<String, AllocError> {
-    let text = text.as_str();
-    format!(in alloc; "{name}\"{text}\"")
+/// Adds a text between quotes, behind the name of its type.
+fn put_quoted(out: &mut Output, name: &str, text: &Text) {
+    out.text(name);
+    out.text("\"");
+    out.text(text.as_str());
+    out.text("\"");
 }

@@ -1,21 +1,20 @@
 //! Answers of the portal, and the messages that tell of them.
 
-use crate::calls::put_made;
+use crate::parts::put_values;
 use dbus_dispatch::error_name::ErrorName;
 use dbus_dispatch::signal::signal_message;
 use dbus_types::message::OutMessage;
-use dbus_types::types::Value;
-use portal_base::list::{ByteList, List};
+use portal_base::list::List;
+use portal_base::memory::WantOfMemory;
 use portal_base::names::doc_id::DocId;
 use portal_base::text::Text;
 use portal_model::datum::Datum;
 use portal_model::records::Row;
 use portal_model::reply::{Answer, Change, Code, ListedDocument};
 use std::alloc::Global;
-use std::fmt::Write;
 use vector_lines::error::LineError;
-use vector_lines::notation::{cut, repeated, small_number};
-use vector_lines::values;
+use vector_lines::notation::{cut, small_number};
+use vector_lines::output::Output;
 
 /// `done`, `place N`, `ids TEXT ..` (`-` is the empty text),
 /// `info PATH APP=NAME+NAME ..`, `listed ID=PATH ..`, `entry APP=NAME+NAME ..`
@@ -51,7 +50,8 @@ fn code(word: &str) -> Result<Code, LineError> {
     }
 }
 
-fn text(alloc: Global, word: &str) -> Result<Text, LineError> {
+/// A text, which is empty for `-`.
+pub fn text(alloc: Global, word: &str) -> Result<Text, LineError> {
     let text = if word == "-" { "" } else { word };
     Ok(Text::copied(alloc, text)?)
 }
@@ -67,108 +67,110 @@ fn texts(alloc: Global, words: &str, between: char) -> Result<List<Text>, LineEr
     Ok(texts)
 }
 
-fn path_of(alloc: Global, path: &str) -> Result<ByteList, LineError> {
-    Ok(List::copied(alloc, path.as_bytes())?)
-}
-
 fn info(alloc: Global, words: &str) -> Result<Answer, LineError> {
-    let (path, rest) = cut(words);
-    Ok(Answer::Info {
-        path: path_of(alloc, path)?,
-        rights: rows(alloc, rest)?,
-    })
+    let (path, words) = cut(words);
+    let rights = rows(alloc, words)?;
+    let path = List::copied(alloc, path.as_bytes())?;
+    Ok(Answer::Info { path, rights })
 }
 
 fn rows(alloc: Global, words: &str) -> Result<List<Row>, LineError> {
     let mut rows = List::new(alloc);
     for word in words.split_whitespace() {
-        let (app, names) = word.split_once('=').ok_or(LineError::BadLine)?;
-        rows.push(Row {
-            app: text(alloc, app)?,
-            names: texts(alloc, names, '+')?,
-        })?;
+        rows.push(row(alloc, word)?)?;
     }
     Ok(rows)
+}
+
+fn row(alloc: Global, word: &str) -> Result<Row, LineError> {
+    let (app, names) = word.split_once('=').ok_or(LineError::BadLine)?;
+    let app = text(alloc, app)?;
+    let names = texts(alloc, names, '+')?;
+    Ok(Row { app, names })
 }
 
 fn listed(alloc: Global, words: &str) -> Result<Answer, LineError> {
     let mut documents = List::new(alloc);
     for word in words.split_whitespace() {
-        let (id, path) = word.split_once('=').ok_or(LineError::BadLine)?;
-        documents.push(ListedDocument {
-            id: DocId::read(id.as_bytes()).ok_or(LineError::BadLine)?,
-            path: path_of(alloc, path)?,
-        })?;
+        documents.push(document(alloc, word)?)?;
     }
     Ok(Answer::Listed(documents))
 }
 
-/// So many letters.
-pub fn letters(alloc: Global, count: u32) -> Result<String, LineError> {
-    let many = repeated(alloc, "<4096 a>")?;
-    let mut letters = String::new(alloc);
-    for _ in 0..count / 4096 {
-        letters.push_str(many.as_str())?;
-    }
-    for _ in 0..count % 4096 {
-        letters.push('a')?;
-    }
-    Ok(letters)
+fn document(alloc: Global, word: &str) -> Result<ListedDocument, LineError> {
+    let (id, path) = word.split_once('=').ok_or(LineError::BadLine)?;
+    let id = DocId::read(id.as_bytes()).ok_or(LineError::BadLine)?;
+    let path = List::copied(alloc, path.as_bytes())?;
+    Ok(ListedDocument { id, path })
+}
+
+/// An identifier of so many letters.
+pub fn letters(alloc: Global, count: u32) -> Result<Answer, LineError> {
+    let mut letters = List::new(alloc);
+    letters.resize(count as usize, b'a')?;
+    let letters = String::from_utf8_lossy(alloc, letters.as_slice())?;
+    let mut ids = List::new(alloc);
+    ids.push(Text::from_string(letters))?;
+    Ok(Answer::Ids(ids))
 }
 
 /// `signal TABLE ID GONE APP=NAME+NAME ..`: what a host is told of an entry with
 /// the byte 0 as data and these rows, which is gone where GONE is `true`.
-pub fn signal(alloc: Global, out: &mut String, rest: &str) -> Result<(), LineError> {
+pub fn signal(alloc: Global, out: &mut Output, rest: &str) -> Result<(), LineError> {
     let (table, rest) = cut(rest);
     let (id, rest) = cut(rest);
     let (gone, rest) = cut(rest);
+    let table = text(alloc, table)?;
+    let id = text(alloc, id)?;
+    let rows = rows(alloc, rest)?;
     let change = Change {
-        table: text(alloc, table)?,
-        id: text(alloc, id)?,
+        table,
+        id,
         deleted: gone == "true",
-        rows: rows(alloc, rest)?,
         datum: Datum::zero(),
+        rows,
     };
-    let put = put_made(alloc, out, signal_message(alloc, &change), false);
-    drop(change);
-    put
+    put_made(out, &signal_message(alloc, &change), false);
+    Ok(())
+}
+
+/// A message that was made; of a brief one no values.
+pub fn put_made(out: &mut Output, made: &Result<OutMessage, WantOfMemory>, is_brief: bool) {
+    match made {
+        Ok(OutMessage::Return { .. }) if is_brief => out.text("returns"),
+        Ok(message) => put_message(out, message),
+        Err(error) => out.debug(error),
+    }
 }
 
 /// A return with its values, or an error by its name, to the call of serial 7;
 /// a signal with its path, its name, and the values that it carries.
-pub fn put_message(alloc: Global, out: &mut String, message: &OutMessage) -> Result<(), LineError> {
+pub fn put_message(out: &mut Output, message: &OutMessage) {
     match message {
-        OutMessage::Return { to: 7, body } => put_values(alloc, out, "returns", body),
-        OutMessage::Error { to: 7, name } => Ok(out.push_str(name.as_str())?),
+        OutMessage::Return { to: 7, body } => {
+            out.text("returns");
+            put_values(out, body);
+        }
+        OutMessage::Error { to: 7, name } => out.text(name.as_str()),
         OutMessage::Signal {
             path,
             interface,
             member,
             body,
         } => {
-            let (path, interface) = (path.as_str(), interface.as_str());
-            let member = member.as_str();
-            write!(out, "{path} {interface} ")?;
-            put_values(alloc, out, member, body)
+            out.text(path.as_str());
+            out.text(" ");
+            out.text(interface.as_str());
+            out.text(" ");
+            out.text(member.as_str());
+            put_values(out, body);
         }
-        _ => Ok(out.push_str("another message")?),
+        _ => out.text("another message"),
     }
 }
 
-/// A word, and values behind it.
-fn put_values(
-    alloc: Global,
-    out: &mut String,
-    word: &str,
-    values: &List<Value>,
-) -> Result<(), LineError> {
-    let values = values::values(alloc, values.as_slice())?;
-    write!(out, "{word} ({values})")?;
-    Ok(())
-}
-
 /// `error NAME`: the name that the error has on the wire.
-pub fn error(out: &mut String, rest: &str) -> Result<(), LineError> {
+pub fn error(out: &mut Output, rest: &str) -> Result<(), LineError> {
     let error = match rest {
         "UnknownObject" => ErrorName::UnknownObject,
         "UnknownInterface" => ErrorName::UnknownInterface,
@@ -184,6 +186,6 @@ pub fn error(out: &mut String, rest: &str) -> Result<(), LineError> {
         "Failed" => ErrorName::Failed,
         _ => return Err(LineError::BadLine),
     };
-    out.push_str(error.name())?;
+    out.text(error.name());
     Ok(())
 }

@@ -3,7 +3,8 @@
 ghost use Rattle.std.specs.Prelude.{◌≢◌};
 ghost use Rattle.dbus_dispatch.specs.Writable.{CanBeAnswered};
 
-use crate::answers::{answer_of, letters, put_message};
+use crate::answers::{answer_of, letters, put_made, put_message, text};
+use crate::parts::{put_after, put_digits};
 use crate::requests::put_request;
 use crate::stack::byte;
 use dbus_dispatch::ask::{Ask, expects_reply, request_of};
@@ -11,21 +12,19 @@ use dbus_dispatch::refused::refused_message;
 use dbus_dispatch::reply::reply_message;
 use dbus_message::write::write_message;
 use dbus_types::equal::is_byte;
-use dbus_types::message::{Message, OutMessage};
-use dbus_types::shared::Shared;
+use dbus_types::message::Message;
 use dbus_types::signature::read_signature;
 use dbus_types::types::{Endian, Value, WireType};
 use portal_base::boxed::Boxed;
 use portal_base::limits::{Limits, Settings};
 use portal_base::list::List;
-use portal_base::memory::WantOfMemory;
 use portal_base::names::host_path::HostPath;
 use portal_base::text::Text;
 use portal_model::reply::{Answer, Refused};
 use std::alloc::Global;
-use std::fmt::Write;
 use vector_lines::error::LineError;
-use vector_lines::notation::{cut, digits, small_number};
+use vector_lines::notation::{cut, small_number};
+use vector_lines::output::Output;
 
 /// What a call with the serial 7 is answered:
 ///
@@ -39,11 +38,9 @@ use vector_lines::notation::{cut, digits, small_number};
 /// - `told PATH MEMBER ANSWER`: with this answer of the portal.
 /// - `long N`: with an identifier of N letters, `returns`, or the error in its place.
 /// - `refused memory` or `refused full`: where the request is no entry of the history.
-pub fn call(alloc: Global, out: &mut String, kind: &str, rest: &str) -> Result<(), LineError> {
+pub fn call(alloc: Global, out: &mut Output, kind: &str, rest: &str) -> Result<(), LineError> {
     let mut call = first_call(alloc);
-    let put = put_by_kind(alloc, out, kind, &mut call, rest);
-    drop(call);
-    put
+    put_by_kind(alloc, out, kind, &mut call, rest)
 }
 
 /// A call without a path, a name or arguments.
@@ -66,39 +63,26 @@ fn first_call(alloc: Global) -> Message {
 
 fn put_by_kind(
     alloc: Global,
-    out: &mut String,
+    out: &mut Output,
     kind: &str,
     call: &mut Message,
     rest: &str,
 ) -> Result<(), LineError> {
-    let (first, words) = cut(rest);
     match kind {
         "call" => {
             fill(alloc, call, rest)?;
             put_asked(alloc, out, call, None)
         }
         "reply" => {
-            fill(alloc, call, words)?;
-            put_asked(alloc, out, call, Some(small_number(first)?))
+            let (serial, rest) = cut(rest);
+            let serial = small_number(serial)?;
+            fill(alloc, call, rest)?;
+            put_asked(alloc, out, call, Some(serial))
         }
-        "ping" => {
-            fill(alloc, call, "/ org.freedesktop.DBus.Peer Ping -")?;
-            put_ping(alloc, out, call, byte(first)?, byte(words)?)
-        }
-        "told" => {
-            let (member, words) = cut(words);
-            call.path = field(alloc, first)?;
-            call.member = field(alloc, member)?;
-            put_told(alloc, out, call, words)
-        }
-        "long" => {
-            fill(alloc, call, "/org/freedesktop/portal/documents - Lookup -")?;
-            put_long(alloc, out, call, small_number(first)?)
-        }
-        _ => {
-            fill(alloc, call, "/ - Add hbb")?;
-            put_refused(alloc, out, call, rest)
-        }
+        "ping" => put_ping(alloc, out, call, rest),
+        "told" => put_told(alloc, out, call, rest),
+        "long" => put_long(alloc, out, call, rest),
+        _ => put_refused(alloc, out, call, rest),
     }
 }
 
@@ -112,8 +96,7 @@ fn fill(alloc: Global, call: &mut Message, words: &str) -> Result<(), LineError>
     call.interface = field(alloc, interface)?;
     call.member = field(alloc, member)?;
     if signature != "-" {
-        call.signature
-            .append(read_signature(alloc, signature.as_bytes())?)?;
+        call.signature = read_signature(alloc, signature.as_bytes())?;
     }
     if arguments == "*" {
         put_blanks(alloc, &mut call.body, call.signature.as_slice())
@@ -133,8 +116,7 @@ fn field(alloc: Global, word: &str) -> Result<Option<Text>, LineError> {
 /// Texts with spaces between them as values; `-` is the empty text.
 fn put_texts(alloc: Global, values: &mut List<Value>, words: &str) -> Result<(), LineError> {
     for word in words.split_whitespace() {
-        let text = if word == "-" { "" } else { word };
-        values.push(Value::Str(Text::copied(alloc, text)?))?;
+        values.push(Value::Str(text(alloc, word)?))?;
     }
     Ok(())
 }
@@ -159,19 +141,13 @@ fn blank(alloc: Global, kind: &WireType) -> Result<Value, LineError> {
         WireType::Handle => Ok(Value::Handle(0)),
         WireType::Str => Ok(Value::Str(Text::new(alloc))),
         WireType::Variant => Ok(Value::Variant(Boxed::new(alloc, Value::Byte(0))?)),
-        WireType::Array(element) => blank_array(alloc, element),
+        WireType::Array(element) if is_byte(element.get()) => Ok(Value::Bytes(List::new(alloc))),
+        WireType::Array(element) => Ok(Value::Array {
+            element: element.share()?,
+            items: List::new(alloc),
+        }),
         _ => Ok(Value::Byte(0)),
     }
-}
-
-fn blank_array(alloc: Global, element: &Shared<WireType>) -> Result<Value, LineError> {
-    if is_byte(element.get()) {
-        return Ok(Value::Bytes(List::new(alloc)));
-    }
-    Ok(Value::Array {
-        element: element.share()?,
-        items: List::new(alloc),
-    })
 }
 
 fn settings(alloc: Global) -> Result<Settings, LineError> {
@@ -192,112 +168,103 @@ fn settings(alloc: Global) -> Result<Settings, LineError> {
 /// What a message asks. With a serial what is answered without the portal is in bytes.
 pub fn put_asked(
     alloc: Global,
-    out: &mut String,
+    out: &mut Output,
     message: &Message,
     serial: Option<u32>,
 ) -> Result<(), LineError> {
     let settings = settings(alloc)?;
-    match request_of(alloc, message, &settings) {
-        Ok(ask) => {
-            let put = put_ask(alloc, out, &ask, serial);
-            drop(ask);
-            put
-        }
-        Err(_) => Err(LineError::Memory),
-    }
-}
-
-fn put_ask(alloc: Global, out: &mut String, ask: &Ask, serial: Option<u32>) -> Result<(), LineError>
-    requires { CanBeAnswered ask.now }
-{
+    let ask = request_of(alloc, message, &settings)?;
     match serial {
-        None => put_shown(alloc, out, ask),
-        Some(serial) => {
-            if serial == 0 {
-                return Err(LineError::BadLine);
-            }
-            put_answered(alloc, out, ask, serial)
-        }
+        Some(serial) if serial != 0 => put_answered(alloc, out, &ask, serial),
+        _ => put_shown(out, &ask),
     }
+    Ok(())
 }
 
 /// The bytes of what is answered without the portal, with this serial.
-fn put_answered(alloc: Global, out: &mut String, ask: &Ask, serial: u32) -> Result<(), LineError>
+fn put_answered(alloc: Global, out: &mut Output, ask: &Ask, serial: u32)
     requires answers { CanBeAnswered ask.now }
     requires serial { serial ≢ 0 }
 {
     match ask {
-        Ask::Local(message) => {
-            let bytes = write_message(alloc, message, serial)?;
-            Ok(out.push_str(digits(alloc, bytes.as_slice())?.as_str())?)
-        }
-        ask => put_shown(alloc, out, ask),
+        Ask::Local(message) => put_digits(out, write_message(alloc, message, serial)),
+        ask => put_shown(out, ask),
     }
 }
 
-fn put_shown(alloc: Global, out: &mut String, ask: &Ask) -> Result<(), LineError> {
+fn put_shown(out: &mut Output, ask: &Ask) {
     match ask {
-        Ask::Local(message) => put_message(alloc, out, message),
-        Ask::Ignore => Ok(out.push_str("ignored")?),
-        Ask::Portal(request) => put_request(alloc, out, request),
+        Ask::Local(message) => put_message(out, message),
+        Ask::Ignore => out.text("ignored"),
+        Ask::Portal(request) => put_request(out, request),
     }
 }
 
-/// What a message of a type and flags asks, and whether its answer is written.
+/// What a Ping of this type and these flags asks, and whether its answer is written.
 fn put_ping(
     alloc: Global,
-    out: &mut String,
-    message: &mut Message,
-    kind: u8,
-    flags: u8,
+    out: &mut Output,
+    ping: &mut Message,
+    words: &str,
 ) -> Result<(), LineError> {
-    message.kind = kind;
-    message.flags = flags;
-    put_asked(alloc, out, message, None)?;
-    let written = expects_reply(message);
-    write!(out, " {written}")?;
+    let (kind, flags) = cut(words);
+    ping.kind = byte(kind)?;
+    ping.flags = byte(flags)?;
+    fill(alloc, ping, "/ org.freedesktop.DBus.Peer Ping -")?;
+    put_asked(alloc, out, ping, None)?;
+    put_after(out, " ", &expects_reply(ping));
     Ok(())
 }
 
-/// What a call is told with this answer.
-fn put_told(alloc: Global, out: &mut String, call: &Message, words: &str) -> Result<(), LineError> {
+/// What a call of a method is told with an answer.
+fn put_told(
+    alloc: Global,
+    out: &mut Output,
+    call: &mut Message,
+    words: &str,
+) -> Result<(), LineError> {
+    let (path, words) = cut(words);
+    let (member, words) = cut(words);
+    call.path = field(alloc, path)?;
+    call.member = field(alloc, member)?;
     let answer = answer_of(alloc, words)?;
-    let put = put_reply(alloc, out, call, &answer, false);
-    drop(answer);
-    put
+    put_reply(alloc, out, call, &answer, false)
 }
 
 /// What a call is told with an identifier of so many letters.
-fn put_long(alloc: Global, out: &mut String, call: &Message, count: u32) -> Result<(), LineError> {
-    let mut ids = List::new(alloc);
-    ids.push(Text::from_string(letters(alloc, count)?))?;
-    let answer = Answer::Ids(ids);
-    let put = put_reply(alloc, out, call, &answer, true);
-    drop(answer);
-    put
+fn put_long(
+    alloc: Global,
+    out: &mut Output,
+    call: &mut Message,
+    count: &str,
+) -> Result<(), LineError> {
+    let count = small_number(count)?;
+    fill(alloc, call, "/org/freedesktop/portal/documents - Lookup -")?;
+    let answer = letters(alloc, count)?;
+    put_reply(alloc, out, call, &answer, true)
 }
 
 fn put_reply(
     alloc: Global,
-    out: &mut String,
+    out: &mut Output,
     call: &Message,
     answer: &Answer,
     is_brief: bool,
 ) -> Result<(), LineError> {
     let settings = settings(alloc)?;
     put_made(
-        alloc,
         out,
-        reply_message(alloc, answer, call, &settings),
+        &reply_message(alloc, answer, call, &settings),
         is_brief,
-    )
+    );
+    Ok(())
 }
 
 /// What a call is told that was refused.
 fn put_refused(
     alloc: Global,
-    out: &mut String,
-    call: &Message,
+    out: &mut Output,
+    call: &mut Message,
     word: &str,
 ) -> Result<(), LineError> {
     let refused = match word {
@@ -308,34 +275,7 @@ fn put_refused(
         },
         _ => return Err(LineError::BadLine),
     };
-    put_made(alloc, out, refused_message(alloc, &refused, call), false)
-}
-
-/// A message that was made, which is let go here alone; of a brief one no
-/// values.
-pub fn put_made(
-    alloc: Global,
-    out: &mut String,
-    made: Result<OutMessage, WantOfMemory>,
-    is_brief: bool,
-) -> Result<(), LineError> {
-    match made {
-        Ok(message) => {
-            let put = if is_brief {
-                put_briefly(alloc, out, &message)
-            } else {
-                put_message(alloc, out, &message)
-            };
-            drop(message);
-            put
-        }
-        Err(_) => Err(LineError::Memory),
-    }
-}
-
-fn put_briefly(alloc: Global, out: &mut String, message: &OutMessage) -> Result<(), LineError> {
-    match message {
-        OutMessage::Return { .. } => Ok(out.push_str("returns")?),
-        message => put_message(alloc, out, message),
-    }
+    fill(alloc, call, "/ - Add hbb")?;
+    put_made(out, &refused_message(alloc, &refused, call), false);
+    Ok(())
 }

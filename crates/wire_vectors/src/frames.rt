@@ -1,5 +1,6 @@
 //! Frames of FUSE, read and written.
 
+use crate::parts::{put_after, put_digits};
 use fuse_reply::dirent::fill_dirents;
 use fuse_reply::reply::write_reply;
 use fuse_wire::frame::{split, unique_of};
@@ -8,40 +9,34 @@ use portal_base::list::List;
 use portal_base::split::Split;
 use portal_model::reply::{Attr, DirName, NodeAnswer};
 use std::alloc::Global;
-use std::fmt::Write;
+use std::str::SplitWhitespace;
 use vector_lines::error::LineError;
-use vector_lines::notation::{bytes, cut, digits, number, small_number};
+use vector_lines::notation::{bytes, cut, next, next_number, next_small, number};
+use vector_lines::output::Output;
 
 /// `frame BYTES`: whether a frame stands at the front of the bytes; and where
 /// they are one, its number and what it asks. `local BYTES`: the frame that
 /// answers a request that is answered without the portal.
-pub fn frame(alloc: Global, out: &mut String, kind: &str, rest: &str) -> Result<(), LineError> {
+pub fn frame(alloc: Global, out: &mut Output, kind: &str, rest: &str) -> Result<(), LineError> {
     let bytes = bytes(alloc, rest)?;
     let bytes = bytes.as_slice();
     match split(bytes) {
-        Split::Whole { len } if len == bytes.len() => match read_request(alloc, bytes) {
-            Ok(ask) => {
-                let put = put_ask(alloc, out, kind, unique_of(bytes), &ask);
-                drop(ask);
-                put
-            }
-            Err(_) => Err(LineError::Memory),
-        },
-        found => Ok(write!(out, "{found:?}")?),
+        Split::Whole { len } if len == bytes.len() => {
+            let ask = read_request(alloc, bytes)?;
+            put_ask(alloc, out, kind, unique_of(bytes), &ask);
+        }
+        found => out.debug(&found),
     }
+    Ok(())
 }
 
-fn put_ask(
-    alloc: Global,
-    out: &mut String,
-    kind: &str,
-    unique: u64,
-    ask: &FuseAsk,
-) -> Result<(), LineError> {
+fn put_ask(alloc: Global, out: &mut Output, kind: &str, unique: u64, ask: &FuseAsk) {
     match ask {
-        ask if kind == "frame" => Ok(write!(out, "{unique}: {ask:?}")?),
-        FuseAsk::Local(answer) => put_reply(alloc, out, unique, answer),
-        _ => Err(LineError::BadLine),
+        FuseAsk::Local(answer) if kind == "local" => put_reply(alloc, out, unique, answer),
+        ask => {
+            out.number(unique);
+            put_after(out, ": ", ask);
+        }
     }
 }
 
@@ -56,46 +51,47 @@ fn put_ask(
 /// - `names UNIQUE OFFSET SIZE ENTRIES`: the entries of a folder.
 /// - `errno UNIQUE NUMBER`: an error.
 /// - `answer UNIQUE WORD`: an answer without a part: `empty`, `quiet` or `statfs`.
-pub fn answer(alloc: Global, out: &mut String, kind: &str, rest: &str) -> Result<(), LineError> {
+pub fn answer(alloc: Global, out: &mut Output, kind: &str, rest: &str) -> Result<(), LineError> {
     let (unique, rest) = cut(rest);
-    match answer_of(alloc, kind, rest) {
-        Ok(answer) => {
-            let put = match number(unique) {
-                Ok(unique) => put_reply(alloc, out, unique, &answer),
-                Err(error) => Err(error),
-            };
-            drop(answer);
-            put
-        }
-        Err(error) => Err(error),
-    }
+    let unique = number(unique)?;
+    let answer = answer_of(alloc, kind, rest)?;
+    put_reply(alloc, out, unique, &answer);
+    Ok(())
 }
 
 fn answer_of(alloc: Global, kind: &str, rest: &str) -> Result<NodeAnswer, LineError> {
-    let (first, behind) = cut(rest);
+    let mut words = rest.split_whitespace();
     match kind {
-        "attributes" => Ok(NodeAnswer::Attr(attr(rest)?)),
-        "entry" => Ok(NodeAnswer::Entry(attr(rest)?)),
-        "created" => Ok(NodeAnswer::Created {
-            attr: attr(behind)?,
-            fh: number(first)?,
-        }),
-        "opened" => Ok(NodeAnswer::Opened { fh: number(rest)? }),
+        "attributes" => Ok(NodeAnswer::Attr(attr(words)?)),
+        "entry" => Ok(NodeAnswer::Entry(attr(words)?)),
+        "created" => {
+            let fh = next_number(&mut words)?;
+            let attr = attr(words)?;
+            Ok(NodeAnswer::Created { attr, fh })
+        }
+        "opened" => {
+            let fh = next_number(&mut words)?;
+            Ok(NodeAnswer::Opened { fh })
+        }
         "content" => Ok(NodeAnswer::Content(bytes(alloc, rest)?)),
-        "written" => Ok(NodeAnswer::Written {
-            size: small_number(rest)?,
-        }),
+        "written" => {
+            let size = next_small(&mut words)?;
+            Ok(NodeAnswer::Written { size })
+        }
         "names" => {
-            let (size, entries) = cut(behind);
+            let offset = next_number(&mut words)?;
+            let size = next_small(&mut words)?;
+            let names = names(alloc, words)?;
             Ok(NodeAnswer::Names {
-                offset: number(first)?,
-                size: small_number(size)?,
-                names: names(alloc, entries)?,
+                names,
+                offset,
+                size,
             })
         }
-        "errno" => Ok(NodeAnswer::Error {
-            errno: small_number(rest)?,
-        }),
+        "errno" => {
+            let errno = next_small(&mut words)?;
+            Ok(NodeAnswer::Error { errno })
+        }
         "answer" => part(rest),
         _ => Err(LineError::BadLine),
     }
@@ -113,55 +109,50 @@ fn part(word: &str) -> Result<NodeAnswer, LineError> {
 
 /// `dirents OFFSET SIZE ENTRIES`: the entries of a folder from an offset that
 /// fit into a size.
-pub fn dirents(alloc: Global, out: &mut String, rest: &str) -> Result<(), LineError> {
-    let (offset, rest) = cut(rest);
-    let (size, entries) = cut(rest);
-    let names = names(alloc, entries)?;
-    let put = put_filled(alloc, out, &names, offset, size);
-    drop(names);
-    put
-}
-
-fn put_filled(
-    alloc: Global,
-    out: &mut String,
-    names: &List<DirName>,
-    offset: &str,
-    size: &str,
-) -> Result<(), LineError> {
-    let filled = fill_dirents(alloc, names, number(offset)?, small_number(size)?)?;
-    out.push_str(digits(alloc, filled.as_slice())?.as_str())?;
+pub fn dirents(alloc: Global, out: &mut Output, rest: &str) -> Result<(), LineError> {
+    let mut words = rest.split_whitespace();
+    let offset = next_number(&mut words)?;
+    let size = next_small(&mut words)?;
+    let names = names(alloc, words)?;
+    put_digits(out, fill_dirents(alloc, &names, offset, size));
     Ok(())
 }
 
-/// Entries of a folder: each is `NODE/d/NAME` of a folder, and `NODE/f/NAME` of
-/// a file.
-fn names(alloc: Global, entries: &str) -> Result<List<DirName>, LineError> {
+/// Entries of a folder.
+fn names(alloc: Global, entries: SplitWhitespace<'_>) -> Result<List<DirName>, LineError> {
     let mut names = List::new(alloc);
-    for entry in entries.split_whitespace() {
-        let mut parts = entry.split('/');
-        let node = number(parts.next().unwrap_or(""))?;
-        let folder = parts.next().unwrap_or("") == "d";
-        let name = List::copied(alloc, parts.next().unwrap_or("").as_bytes())?;
-        names.push(DirName { node, name, folder })?;
+    for entry in entries {
+        names.push(name(alloc, entry)?)?;
     }
     Ok(names)
 }
 
+/// `NODE/d/NAME` of a folder, and `NODE/f/NAME` of a file.
+fn name(alloc: Global, entry: &str) -> Result<DirName, LineError> {
+    let (node, rest) = entry.split_once('/').unwrap_or((entry, ""));
+    let (kind, name) = rest.split_once('/').unwrap_or((rest, ""));
+    let node = number(node)?;
+    let name = List::copied(alloc, name.as_bytes())?;
+    Ok(DirName {
+        node,
+        name,
+        folder: kind == "d",
+    })
+}
+
 /// `NODE SIZE BLOCKS MOMENT MODE LINKS UID GID BLOCK_SIZE`, with MODE in octal
 /// digits.
-fn attr(words: &str) -> Result<Attr, LineError> {
-    let mut words = words.split_whitespace();
+fn attr(mut words: SplitWhitespace<'_>) -> Result<Attr, LineError> {
     Ok(Attr {
-        node: number(words.next().unwrap_or(""))?,
-        size: number(words.next().unwrap_or(""))?,
-        blocks: number(words.next().unwrap_or(""))?,
-        moment: number(words.next().unwrap_or(""))?,
-        mode: octal(words.next().unwrap_or(""))?,
-        links: small_number(words.next().unwrap_or(""))?,
-        uid: small_number(words.next().unwrap_or(""))?,
-        gid: small_number(words.next().unwrap_or(""))?,
-        block_size: small_number(words.next().unwrap_or(""))?,
+        node: next_number(&mut words)?,
+        size: next_number(&mut words)?,
+        blocks: next_number(&mut words)?,
+        moment: next_number(&mut words)?,
+        mode: octal(next(&mut words))?,
+        links: next_small(&mut words)?,
+        uid: next_small(&mut words)?,
+        gid: next_small(&mut words)?,
+        block_size: next_small(&mut words)?,
     })
 }
 
@@ -169,15 +160,10 @@ fn octal(word: &str) -> Result<u32, LineError> {
     u32::from_str_radix(word, 8).map_err(|_| LineError::BadLine)
 }
 
-fn put_reply(
-    alloc: Global,
-    out: &mut String,
-    unique: u64,
-    answer: &NodeAnswer,
-) -> Result<(), LineError> {
-    match write_reply(alloc, unique, answer)? {
-        Some(frame) => out.push_str(digits(alloc, frame.as_slice())?.as_str())?,
-        None => out.push_str("quiet")?,
+fn put_reply(alloc: Global, out: &mut Output, unique: u64, answer: &NodeAnswer) {
+    match write_reply(alloc, unique, answer) {
+        Ok(Some(frame)) => out.digits(frame.as_slice()),
+        Ok(None) => out.text("quiet"),
+        Err(error) => out.debug(&error),
     }
-    Ok(())
 }

@@ -4,6 +4,7 @@ use dbus_auth::{Auth, AuthAnswer};
 use std::alloc::Global;
 use vector_lines::error::LineError;
 use vector_lines::notation;
+use vector_lines::output::Output;
 
 /// The server's GUID.
 const GUID: [u8; 16] = [
@@ -15,13 +16,13 @@ const LONGEST: usize = 1024;
 
 /// `cell LINE`: what the line is answered ahead of OK, during the wait for DATA
 /// and behind OK; and behind each answer the state that it leads to.
-pub fn cell(alloc: Global, out: &mut String, rest: &str) -> Result<(), LineError> {
+pub fn cell(alloc: Global, out: &mut Output, rest: &str) -> Result<(), LineError> {
     let line = notation::text(alloc, rest)?;
     let line = line.as_slice();
     put_cell(alloc, out, "", line)?;
-    out.push_str(" | ")?;
+    out.text(" | ");
     put_cell(alloc, out, "AUTH EXTERNAL", line)?;
-    out.push_str(" | ")?;
+    out.text(" | ");
     put_cell(alloc, out, "AUTH EXTERNAL 30", line)
 }
 
@@ -29,47 +30,55 @@ pub fn cell(alloc: Global, out: &mut String, rest: &str) -> Result<(), LineError
 /// state is told by two more lines: BEGIN, which leaves it as it is and isn't
 /// early behind OK alone, and then DATA, which is answered OK during the wait
 /// for it alone.
-fn put_cell(alloc: Global, out: &mut String, former: &str, line: &[u8]) -> Result<(), LineError> {
+fn put_cell(alloc: Global, out: &mut Output, former: &str, line: &[u8]) -> Result<(), LineError> {
     let mut auth = Auth::new(&GUID);
     if !former.is_empty() {
         said(alloc, &mut auth, former.as_bytes())?;
     }
-    out.push_str(said(alloc, &mut auth, line)?.as_str())?;
-    let begins = said(alloc, &mut auth, b"BEGIN")?.as_str() == "(messages follow)";
-    let waits = said(alloc, &mut auth, b"DATA")?.as_str().starts_with("OK");
-    let state = match (begins, waits) {
-        (true, _) => ", after",
-        (false, true) => ", wait",
-        (false, false) => ", before",
-    };
-    out.push_str(state)?;
+    put_said(out, &said(alloc, &mut auth, line)?);
+    let begin = said(alloc, &mut auth, b"BEGIN")?;
+    let data = said(alloc, &mut auth, b"DATA")?;
+    out.text(state_behind(&begin, &data));
     Ok(())
+}
+
+/// The state that the answers to BEGIN and then to DATA tell.
+fn state_behind(begin: &AuthAnswer, data: &AuthAnswer) -> &'static str {
+    match (begin, data) {
+        (AuthAnswer::Begin, _) => ", after",
+        (_, AuthAnswer::Say(reply)) if reply.as_slice().starts_with(b"OK") => ", wait",
+        _ => ", before",
+    }
 }
 
 /// `talk LINE | LINE ..`: what each line of a client is answered.
-pub fn talk(alloc: Global, out: &mut String, rest: &str) -> Result<(), LineError> {
+pub fn talk(alloc: Global, out: &mut Output, rest: &str) -> Result<(), LineError> {
     let mut auth = Auth::new(&GUID);
     for (index, line) in rest.split('|').enumerate() {
         if index > 0 {
-            out.push_str(" | ")?;
+            out.text(" | ");
         }
-        out.push_str(said(alloc, &mut auth, line.trim().as_bytes())?.as_str())?;
+        put_said(out, &said(alloc, &mut auth, line.trim().as_bytes())?);
     }
     Ok(())
 }
 
-/// What a line is answered, without its CR LF.
-fn said(alloc: Global, auth: &mut Auth, line: &[u8]) -> Result<String, LineError> {
+/// What a line is answered.
+fn said(alloc: Global, auth: &mut Auth, line: &[u8]) -> Result<AuthAnswer, LineError> {
     if line.len() > LONGEST {
         return Err(LineError::BadLine);
     }
-    match auth.step(alloc, line)? {
+    Ok(auth.step(alloc, line)?)
+}
+
+/// An answer, a line without its CR LF.
+fn put_said(out: &mut Output, answer: &AuthAnswer) {
+    match answer {
         AuthAnswer::Say(reply) => {
-            let reply = String::from_utf8_lossy(alloc, reply.as_slice())?;
-            let line = reply.as_str().strip_suffix("\r\n");
-            Ok(String::from_str(alloc, line.unwrap_or("(no line)"))?)
+            let line = reply.as_slice().strip_suffix(b"\r\n");
+            out.lossy(line.unwrap_or(b"(no line)"));
         }
-        AuthAnswer::Begin => Ok(String::from_str(alloc, "(messages follow)")?),
-        AuthAnswer::Early => Ok(String::from_str(alloc, "(too early)")?),
+        AuthAnswer::Begin => out.text("(messages follow)"),
+        AuthAnswer::Early => out.text("(too early)"),
     }
 }

@@ -13,6 +13,7 @@ mod frames;
 mod handshake;
 mod messages;
 mod names;
+mod parts;
 mod requests;
 mod rules;
 mod stack;
@@ -22,6 +23,7 @@ use std::alloc::Global;
 use std::io;
 use vector_lines::error::{LineError, VectorError};
 use vector_lines::notation::cut;
+use vector_lines::output::Output;
 use vector_lines::program::run;
 
 fn main(rt: HostRuntime) -> io::Result<()> {
@@ -30,34 +32,25 @@ fn main(rt: HostRuntime) -> io::Result<()> {
 
 /// The answer of a line.
 fn answer(alloc: Global, line: &str) -> Result<String, VectorError> {
-    let mut out = String::new(alloc);
+    let mut out = Output::new(alloc);
     match put_answer(alloc, &mut out, line) {
-        Ok(()) => Ok(out),
-        Err(error) => Err(error),
+        Ok(()) => Ok(out.into_text()?),
+        Err(error) => Err(VectorError::Line(error)),
     }
 }
 
 /// The answer by the first word of the line.
-fn put_answer(alloc: Global, out: &mut String, line: &str) -> Result<(), VectorError> {
+fn put_answer(alloc: Global, out: &mut Output, line: &str) -> Result<(), LineError> {
     let (kind, rest) = cut(line);
     match kind {
+        "name" => names::name(alloc, out, rest),
         "signature" => names::signature(alloc, out, rest),
         "type" => rules::kind(alloc, out, rest),
         "same" => rules::same(alloc, out, rest),
         "keeps" => rules::keeps(alloc, out, rest),
         "has" => rules::has(alloc, out, rest),
         "value" => values::value(alloc, out, rest),
-        "message" => messages::message(alloc, out, rest),
-        _ => Ok(put_unrefused(alloc, out, kind, rest)?),
-    }
-}
-
-/// The answers of calls that refuse nothing.
-fn put_unrefused(alloc: Global, out: &mut String, kind: &str, rest: &str) -> Result<(), LineError> {
-    match kind {
-        "name" => names::name(alloc, out, rest),
-        "split" => messages::split_bytes(alloc, out, rest),
-        "asks" => messages::asks(alloc, out, rest),
+        "split" | "message" | "asks" => messages::message(alloc, out, kind, rest),
         "cell" => handshake::cell(alloc, out, rest),
         "talk" => handshake::talk(alloc, out, rest),
         "call" | "reply" | "ping" | "told" | "long" | "refused" => {

@@ -4,7 +4,7 @@ ghost use Rattle.dbus_message.specs.Rules.{IsWhole};
 
 use crate::calls::put_asked;
 use crate::names::put_kinds;
-use dbus_message::error::MessageError;
+use crate::parts::{put_after, put_values};
 use dbus_message::read::read_message;
 use dbus_message::split::split;
 use dbus_types::message::Message;
@@ -12,108 +12,77 @@ use dbus_types::types::Endian;
 use portal_base::split::Split;
 use portal_base::text::Text;
 use std::alloc::Global;
-use std::fmt::Write;
-use vector_lines::error::{LineError, VectorError, given};
-use vector_lines::notation::{bytes, debug};
-use vector_lines::values;
+use vector_lines::error::LineError;
+use vector_lines::notation::bytes;
+use vector_lines::output::Output;
 
 /// `split BYTES`: whether a message stands at the front of the bytes.
-pub fn split_bytes(alloc: Global, out: &mut String, rest: &str) -> Result<(), LineError> {
-    let bytes = bytes(alloc, rest)?;
-    let found = split(bytes.as_slice());
-    write!(out, "{found:?}")?;
-    Ok(())
-}
-
 /// `message BYTES`: the message that the bytes are, or the rule that they break
 /// first; `More`, or `Whole` with its length, where they are not one message.
-pub fn message(alloc: Global, out: &mut String, rest: &str) -> Result<(), VectorError> {
-    let bytes = bytes(alloc, rest)?;
-    match split(bytes.as_slice()) {
-        Split::Whole { len } if len == bytes.len() => put_read(alloc, out, bytes.as_slice()),
-        Split::Bad { rule } => refused(alloc, rule),
-        found => Ok(write!(out, "{found:?}")?),
-    }
-}
-
-fn refused(alloc: Global, rule: u32) -> Result<(), VectorError> {
-    Err(VectorError::Refused(debug(alloc, &MessageError::Bad { rule })?))
-}
-
-fn put_read(alloc: Global, out: &mut String, bytes: &[u8]) -> Result<(), VectorError>
-    requires { IsWhole bytes.now }
-{
-    match given(alloc, read_message(alloc, bytes)) {
-        Ok(message) => {
-            let put = put_message(alloc, out, &message);
-            drop(message);
-            put
-        }
-        Err(error) => Err(error),
-    }
-}
-
 /// `asks BYTES`: what the message of these bytes asks.
-pub fn asks(alloc: Global, out: &mut String, rest: &str) -> Result<(), LineError> {
+pub fn message(alloc: Global, out: &mut Output, kind: &str, rest: &str) -> Result<(), LineError> {
     let bytes = bytes(alloc, rest)?;
-    match split(bytes.as_slice()) {
-        Split::Whole { len } if len == bytes.len() => put_asks(alloc, out, bytes.as_slice()),
-        _ => Err(LineError::BadLine),
+    let bytes = bytes.as_slice();
+    match split(bytes) {
+        Split::Whole { len } if len == bytes.len() && kind != "split" => {
+            put_read(alloc, out, kind, bytes)
+        }
+        found => {
+            out.debug(&found);
+            Ok(())
+        }
     }
 }
 
-fn put_asks(alloc: Global, out: &mut String, bytes: &[u8]) -> Result<(), LineError>
+fn put_read(alloc: Global, out: &mut Output, kind: &str, bytes: &[u8]) -> Result<(), LineError>
     requires { IsWhole bytes.now }
 {
     match read_message(alloc, bytes) {
         Ok(message) => {
-            let put = put_asked(alloc, out, &message, None);
-            drop(message);
-            put
+            if kind == "asks" {
+                put_asked(alloc, out, &message, None)
+            } else {
+                put_message(alloc, out, &message);
+                Ok(())
+            }
         }
-        Err(_) => Err(LineError::BadLine),
+        Err(error) => {
+            out.debug(&error);
+            Ok(())
+        }
     }
 }
 
 /// The parts of a message: the order of its bytes, its type, flags and serial,
 /// the fields that it has by their names, and its body.
-fn put_message(alloc: Global, out: &mut String, message: &Message) -> Result<(), VectorError> {
-    let order = match message.endian {
+fn put_message(alloc: Global, out: &mut Output, message: &Message) {
+    out.text(match message.endian {
         Endian::Little => "l",
         Endian::Big => "B",
-    };
-    let (kind, flags, serial) = (message.kind, message.flags, message.serial);
-    write!(out, "{order} type {kind} flags {flags} serial {serial}")?;
-    put_text(out, " path ", &message.path)?;
-    put_text(out, " interface ", &message.interface)?;
-    put_text(out, " member ", &message.member)?;
-    put_text(out, " error ", &message.error)?;
+    });
+    put_after(out, " type ", &message.kind);
+    put_after(out, " flags ", &message.flags);
+    put_after(out, " serial ", &message.serial);
+    put_text(out, " path ", &message.path);
+    put_text(out, " interface ", &message.interface);
+    put_text(out, " member ", &message.member);
+    put_text(out, " error ", &message.error);
     if let Some(serial) = message.reply_serial {
-        write!(out, " reply to {serial}")?;
+        put_after(out, " reply to ", &serial);
     }
-    let fds = message.fds;
-    if fds != 0 {
-        write!(out, " fds {fds}")?;
+    if message.fds != 0 {
+        put_after(out, " fds ", &message.fds);
     }
-    put_body(alloc, out, message)
+    if !message.signature.is_empty() {
+        out.text(" body ");
+        put_kinds(alloc, out, message.signature.as_slice());
+        put_values(out, &message.body);
+    }
 }
 
-fn put_text(out: &mut String, name: &str, field: &Option<Text>) -> Result<(), VectorError> {
+fn put_text(out: &mut Output, name: &str, field: &Option<Text>) {
     if let Some(text) = field {
-        out.push_str(name)?;
-        out.push_str(text.as_str())?;
+        out.text(name);
+        out.text(text.as_str());
     }
-    Ok(())
-}
-
-fn put_body(alloc: Global, out: &mut String, message: &Message) -> Result<(), VectorError> {
-    if message.signature.is_empty() {
-        return Ok(());
-    }
-    out.push_str(" body ")?;
-    put_kinds(alloc, out, message.signature.as_slice())?;
-    out.push_str(" (")?;
-    out.push_str(values::values(alloc, message.body.as_slice())?.as_str())?;
-    out.push(')')?;
-    Ok(())
 }

@@ -4,57 +4,57 @@ use dbus_types::names::{is_interface, is_member, is_object_path};
 use dbus_types::signature::{check_signature, read_signature};
 use dbus_types::types::WireType;
 use dbus_values::write::write_signature;
-use portal_base::list::List;
 use std::alloc::Global;
-use std::fmt::Write;
-use vector_lines::error::{LineError, VectorError, given};
+use vector_lines::error::LineError;
 use vector_lines::notation;
+use vector_lines::output::Output;
 
 /// `name TEXT`: of what the text is a name, each of which is told.
-pub fn name(alloc: Global, out: &mut String, rest: &str) -> Result<(), LineError> {
+pub fn name(alloc: Global, out: &mut Output, rest: &str) -> Result<(), LineError> {
     let text = notation::text(alloc, rest)?;
     let text = text.as_slice();
-    if is_object_path(text) {
-        out.push_str("path")?;
+    let (path, interface, member) = (is_object_path(text), is_interface(text), is_member(text));
+    if path {
+        out.text("path");
     }
-    if is_interface(text) {
-        out.push_str("interface")?;
+    if interface {
+        out.text("interface");
     }
-    if is_member(text) {
-        out.push_str("member")?;
+    if member {
+        out.text("member");
     }
-    if out.is_empty() {
-        out.push_str("nothing")?;
+    if !path && !interface && !member {
+        out.text("nothing");
     }
     Ok(())
 }
 
 /// `signature TEXT`: how many types it has, and their text; or where it breaks.
-pub fn signature(alloc: Global, out: &mut String, rest: &str) -> Result<(), VectorError> {
+pub fn signature(alloc: Global, out: &mut Output, rest: &str) -> Result<(), LineError> {
     let text = notation::text(alloc, rest)?;
-    given(alloc, check_signature(text.as_slice()))?;
-    let kinds = kinds_of(alloc, text.as_slice())?;
-    let put = put_counted(alloc, out, kinds.as_slice());
-    drop(kinds);
-    put
+    let text = text.as_slice();
+    match check_signature(text) {
+        Ok(()) => put_counted(alloc, out, text),
+        Err(error) => {
+            out.debug(&error);
+            Ok(())
+        }
+    }
 }
 
-/// How many types there are, and their signature.
-fn put_counted(alloc: Global, out: &mut String, kinds: &[WireType]) -> Result<(), VectorError> {
-    let count = kinds.len();
-    write!(out, "{count} ")?;
-    put_kinds(alloc, out, kinds)
-}
-
-/// The types of a signature.
-pub fn kinds_of(alloc: Global, text: &[u8]) -> Result<List<WireType>, VectorError> {
-    given(alloc, read_signature(alloc, text))
+/// How many types a text has, and their signature.
+fn put_counted(alloc: Global, out: &mut Output, text: &[u8]) -> Result<(), LineError> {
+    let kinds = read_signature(alloc, text)?;
+    out.number(kinds.len() as u64);
+    out.text(" ");
+    put_kinds(alloc, out, kinds.as_slice());
+    Ok(())
 }
 
 /// Types as a signature.
-pub fn put_kinds(alloc: Global, out: &mut String, kinds: &[WireType]) -> Result<(), VectorError> {
-    let text = write_signature(alloc, kinds)?;
-    let text = String::from_utf8_lossy(alloc, text.as_slice())?;
-    out.push_str(text.as_str())?;
-    Ok(())
+pub fn put_kinds(alloc: Global, out: &mut Output, kinds: &[WireType]) {
+    match write_signature(alloc, kinds) {
+        Ok(text) => out.lossy(text.as_slice()),
+        Err(error) => out.debug(&error),
+    }
 }
