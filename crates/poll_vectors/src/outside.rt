@@ -2,6 +2,7 @@
 
 ghost use Rattle.std.specs.Prelude.{◌≡◌, ◌<◌, ◌≤◌, length};
 
+use crate::steps::{Step, Steps};
 use futures::task::Context;
 use poll_ends::outside::{PollRead, PollSink, PollSource, PollWrote};
 use portal_base::list::ByteList;
@@ -10,40 +11,6 @@ use portal_model::asked::Asked;
 use portal_model::request::Request;
 use std::alloc::Global;
 use std::cell::Cell;
-
-/// What a call of a source or a sink comes to.
-#[derive(Clone, Copy, Debug, PartialEq, Eq)]
-pub enum Step {
-    /// So many bytes at most.
-    UpTo(usize),
-    /// Nothing yet.
-    NotYet,
-    /// It fails.
-    Failed,
-}
-
-/// The steps of a list, and then one again and again.
-#[derive(Drop)]
-pub struct Steps<'a> {
-    /// The list.
-    pub list: &'a [Step],
-    /// The one behind it.
-    pub then: Step,
-    /// How many steps were taken.
-    pub taken: usize,
-}
-
-impl<'a> Steps<'a> {
-    /// The next step.
-    fn next(&mut self) -> Step {
-        let step = match self.list.get(self.taken) {
-            Some(step) => *step,
-            None => self.then,
-        };
-        self.taken = self.taken.saturating_add(1);
-        step
-    }
-}
 
 /// A source that gives its bytes by steps.
 #[derive(Drop)]
@@ -112,7 +79,7 @@ pub struct StepSink<'a> {
     pub bytes: ByteList,
     /// What its writes come to.
     pub steps: Steps<'a>,
-    /// How many bytes it took.
+    /// How many bytes sinks took.
     pub written: &'a Cell<u64>,
     /// How many writes failed.
     pub faults: u64,

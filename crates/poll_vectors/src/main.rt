@@ -7,17 +7,23 @@
 #![tactic(auto)]
 
 mod alike;
+mod beside;
 mod client;
 mod cuts;
+mod dice;
+mod log;
 mod outside;
+mod poll;
 mod polled;
 mod served;
+mod steps;
 
 use futures::test::MockTask;
 use std::alloc::Global;
 use std::io;
 use vector_lines::error::{VectorError, bad};
 use vector_lines::notation::cut;
+use vector_lines::output::Output;
 use vector_lines::program::run;
 
 fn main(rt: HostRuntime) -> io::Result<()> {
@@ -30,9 +36,15 @@ fn main(rt: HostRuntime) -> io::Result<()> {
 
 /// The answer of a line.
 fn answer(task: &MockTask, alloc: Global, line: &str) -> Result<String, VectorError> {
+    Ok(output(task, alloc, line)?.into_text()?)
+}
+
+/// The answer by the first word of the line.
+fn output(task: &MockTask, alloc: Global, line: &str) -> Result<Output, VectorError> {
     let (kind, rest) = cut(line);
     match kind {
-        "poll" => polled::poll(task, alloc, rest),
+        "poll" => poll::poll(task, alloc, rest),
+        "beside" => beside::beside(task, alloc, rest),
         "cuts" => cuts::cuts(task, alloc, rest),
         "alike" => alike::alike(task, alloc, rest),
         _ => bad(),
