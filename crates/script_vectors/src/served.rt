@@ -11,7 +11,7 @@ use portal_base::names::HostPath;
 use portal_base::outside::MemorySink;
 use portal_base::who::{Kind, Who};
 use portal_core::local_desk::LocalDesk;
-use portal_lines::{DOCUMENTS, PLENTY, ScriptPortal, kind, limits, opened_by, who};
+use portal_lines::{DOCUMENTS, PLENTY, ScriptPortal, kind, let_go, limits, opened_by, who};
 use session::connection::serve_connection;
 use session::served::Served;
 use std::alloc::Global;
@@ -108,10 +108,13 @@ pub fn served(alloc: Global, client: &Client, size: usize) -> Result<String, Vec
             0xcd, 0xef,
         ],
     };
-    let mut portal = opened_by(alloc, SCRIPT, limits)?;
+    let mut portal = match opened_by(alloc, SCRIPT, limits) {
+        Ok(portal) => portal,
+        Err(error) => return Err(error),
+    };
     let mut out = Output::new(alloc);
     put_connection(alloc, &mut out, &mut portal, client, &settings, size);
-    drop(portal);
+    let_go(portal);
     Ok(out.into_text()?)
 }
 
