@@ -75,7 +75,7 @@ pub struct Allowed {
 /// its document is strict that alone which the subject of its node's view has the
 /// rights for.
 ///
-/// Of n documents it takes about n steps for a strict one, and for another none.
+/// Of n documents it takes about log n steps for a strict one, and for another none.
 pub fn allowed_now(book: &ViewBook, who: &Who, file: OpenFile) -> Allowed
     ensures { (s : State) → Lends book.now s
         → IsAllowed (reach_at s who.now) (file_of file.entry) result }
