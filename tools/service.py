@@ -17,6 +17,13 @@ from docportal_client import Bus, Mount, socket_path  # noqa: E402
 PROGRAM = os.environ.get("DOCPORTAL") or os.path.join(
     TOP, "crates", "docportal", "out", "docportal")
 
+# The program in its place that serves on one thread, where that is to be run.
+FRONT = os.environ.get("DOCPORTAL_FRONT")
+
+# The command of a service with posts, and that of the service.
+POSTS = [PROGRAM, "serve"]
+COMMAND = [FRONT] if FRONT else POSTS
+
 # Words that each service is given too, as `--polled`.
 WORDS = os.environ.get("DOCPORTAL_SERVE", "").split()
 
@@ -24,8 +31,21 @@ WORDS = os.environ.get("DOCPORTAL_SERVE", "").split()
 ENVIRONMENT = {"MALLOC_ARENA_MAX": "1"}
 
 
+def line_of(command, words):
+    """A command with these words, but for those of posts where it has none."""
+    kept, left = [], iter(words)
+    for word in left:
+        if command == POSTS or word not in ("--workers", "--polled"):
+            kept.append(word)
+        elif word == "--workers":
+            next(left)
+    return [*command, *kept]
+
+
 class Service:
     """`docportal serve` over three places in a folder: `files`, `store.db`, `sockets`."""
+
+    command = COMMAND
 
     def __init__(self, folder, apps, *options):
         self.root = os.path.join(folder, "files")
@@ -38,7 +58,8 @@ class Service:
 
     def start(self, seconds=60, limits=()):
         """Starts it under limits, and waits for the line that tells that its sockets stand."""
-        self.process = subprocess.Popen([PROGRAM, "serve", *self.words], stdin=subprocess.DEVNULL,
+        self.process = subprocess.Popen(line_of(self.command, self.words),
+                                        stdin=subprocess.DEVNULL,
                                         stdout=subprocess.PIPE, stderr=subprocess.PIPE,
                                         env={**ENVIRONMENT, **os.environ},
                                         preexec_fn=under(limits))
@@ -103,6 +124,6 @@ def under(limits, user=None):
 
 def run(*words, limits=(), user=None):
     """Runs the service to its end under limits: its status, and what it said on each stream."""
-    done = subprocess.run([PROGRAM, "serve", *words], stdin=subprocess.DEVNULL, capture_output=True,
+    done = subprocess.run(line_of(COMMAND, words), stdin=subprocess.DEVNULL, capture_output=True,
                           timeout=60, preexec_fn=under(limits, user))
     return done.returncode, done.stdout.decode(), done.stderr.decode()

@@ -11,7 +11,7 @@ import stat
 import tempfile
 import time
 
-from service import Service, run
+from service import FRONT, Service, run
 
 NOBODY = 65534
 APPS = ["org.e%d" % number for number in range(64)]
@@ -64,6 +64,11 @@ def few_descriptors(see, folder):
     with service.bus("org.ed") as bus:
         bus.ping()
     see("nothing told of it", service.kill(), "")
+    if FRONT:
+        see("64 applications with 256 descriptors",
+            refusal(run(*service.words[:6], *APPS, limits=[(resource.RLIMIT_NOFILE, 256)]),
+                    "docportal: no socket: "))
+        return
     see("8 workers with 64 descriptors",
         refusal(run(*service.words, "--workers", "8", limits=limits),
                 "docportal: no socket: "))
@@ -113,6 +118,8 @@ def idle_and_stopped(see, folder):
 
 
 def check(see):
-    for part in (folder_of_sockets, few_descriptors, few_threads, idle_and_stopped):
+    # push_front has no posts, and so no threads of posts.
+    threads = () if FRONT else (few_threads,)
+    for part in (folder_of_sockets, few_descriptors, *threads, idle_and_stopped):
         with tempfile.TemporaryDirectory(prefix="docportal-") as folder:
             part(see, folder)

@@ -1,0 +1,11 @@
+pub mod AskedAlone
+pub mod Calls
+pub mod Growing
+pub mod Hear
+pub mod LinkTable
+pub mod Agree
+pub mod Doing
+pub mod Begins
+pub mod Ending
+pub mod Telling
+pub mod WakesTell

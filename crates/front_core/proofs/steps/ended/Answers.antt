@@ -1,0 +1,55 @@
+use Rattle.std.proofs.Common.{◌≡◌, ◌∙◌, ◌++◌, ◌∷◌, ◌+◌, ◌-◌, ℕ, List, Option, Some, None, [], length, ap, sym, refl, subst, arith}
+use Rattle.session.specs.declared.served.Fed.{Fed}
+use Rattle.session.specs.declared.served.Served.{Served}
+use Rattle.session.specs.Sessions.{ending, ending_at}
+use Rattle.front_end.specs.declared.input.FrontEnding.TheVariants as because
+use Rattle.front_end.specs.declared.input.FrontOutput.{FrontOutput}
+use Rattle.front_end.specs.declared.input.FrontOutput.TheVariants.{Close}
+use Rattle.front_core.specs.declared.link.Link.{Link}
+use Rattle.front_core.specs.Cores.{front_in, hall}
+use Rattle.front_core.specs.Doing.{EndedDoes}
+use Rattle.front_core.specs.Fronts.{link_with, links_of, placed}
+use Rattle.front_core.proofs.Agree.{bound_of, sound_of}
+use Rattle.front_core.proofs.Doing.{ended_done, nothing_stopped}
+use Rattle.front_core.proofs.Ending.{from_one, given_none, given_one, link_is, nothing_open, stopped_ends}
+use Rattle.front_core.proofs.steps.ended.Goals as goal
+
+pub returns-in_default : goal.returns-in_default
+returns-in_default g c =
+    let none : links_of c.args.links.now c.args.link ≡ None = sym c.take.ensures.taken ∙ c.in_default.is in
+    given_none (EndedDoes (front_in (hall (g.S.Storied.opening c.args.portal.now) (g.S.Storied.entries c.args.portal.now) (g.S.Storied.refusals c.args.portal.now) c.args.links.now)) c.args.link (links_of c.args.links.now c.args.link)) (hall (g.S.Storied.opening c.args.portal.now) (g.S.Storied.entries c.args.portal.now) (g.S.Storied.refusals c.args.portal.now) c.args.links.now) c.new.result (hall (g.S.Storied.opening c.args.portal.now) (g.S.Storied.entries c.args.portal.now) (g.S.Storied.refusals c.args.portal.now) c.take.new.self) c.new.ensures
+    (nothing_open (EndedDoes (front_in (hall (g.S.Storied.opening c.args.portal.now) (g.S.Storied.entries c.args.portal.now) (g.S.Storied.refusals c.args.portal.now) c.args.links.now)) c.args.link) (hall (g.S.Storied.opening c.args.portal.now) (g.S.Storied.entries c.args.portal.now) (g.S.Storied.refusals c.args.portal.now) c.args.links.now) c.take.new.self c.args.link (λ os out b p. p) none c.take.ensures.left)
+
+pub leave-served-requires-clause-seat : goal.leave-served-requires-clause-seat
+leave-served-requires-clause-seat g c =
+    let v = (hall (g.S.Storied.opening c.args.portal.now) (g.S.Storied.entries c.args.portal.now) (g.S.Storied.refusals c.args.portal.now) c.args.links.now) in
+    let there : links_of c.args.links.now c.args.link ≡ Some c.in-Some.now = sym c.take.ensures.taken ∙ c.in-Some.is in
+    let sound = sound_of (front_in v) c.args.link c.in-Some.now c.requires there in
+    from_one (front_in v) c.args.link c.in-Some.now c.requires there
+
+pub leave-served-requires-clause-open_now : goal.leave-served-requires-clause-open_now
+leave-served-requires-clause-open_now g c =
+    let v = (hall (g.S.Storied.opening c.args.portal.now) (g.S.Storied.entries c.args.portal.now) (g.S.Storied.refusals c.args.portal.now) c.args.links.now) in
+    let there : links_of c.args.links.now c.args.link ≡ Some c.in-Some.now = sym c.take.ensures.taken ∙ c.in-Some.is in
+    let sound = sound_of (front_in v) c.args.link c.in-Some.now c.requires there in
+    bound_of (front_in v) c.args.link c.in-Some.now c.requires there
+
+pub close_reserved-requires : goal.close_reserved-requires
+close_reserved-requires g c = c.in_ok-outputs.ensures.room
+
+pub returns-in_err-outputs : goal.returns-in_err-outputs
+returns-in_err-outputs g c =
+    let v = (hall (g.S.Storied.opening c.args.portal.now) (g.S.Storied.entries c.args.portal.now) (g.S.Storied.refusals c.args.portal.now) c.args.links.now) in
+    let w = (hall (g.S.Storied.opening c.args.portal.now) (g.S.Storied.entries c.args.portal.now) (g.S.Storied.refusals c.args.portal.now) c.take.new.self) in
+    stopped_ends _ _ v c.from_residual.result w c.from_residual.ensures.0 (nothing_stopped v w c.args.link refl)
+
+pub returns : goal.returns
+returns g c =
+    let v = (hall (g.S.Storied.opening c.args.portal.now) (g.S.Storied.entries c.args.portal.now) (g.S.Storied.refusals c.args.portal.now) c.args.links.now) in
+    let there : links_of c.args.links.now c.args.link ≡ Some c.in-Some.now = sym c.take.ensures.taken ∙ c.in-Some.is in
+    let sound = sound_of (front_in v) c.args.link c.in-Some.now c.requires there in
+    let w = (hall (g.S.Storied.opening c.leave-served.new.portal) (g.S.Storied.entries c.leave-served.new.portal) (g.S.Storied.refusals c.leave-served.new.portal) c.take.new.self) in
+    let ends : c.leave-served.result ≡ ending_at c.in-Some.now.session.rest = c.leave-served.ensures.ended ∙ ap (λ (f : Fed). ending f c.in-Some.now.session.rest) sound.goes_on in
+    let out_is : c.from_vec.result ≡ Close c.args.link (because.Served (ending_at c.in-Some.now.session.rest)) ∷ [] = c.from_vec.ensures ∙ (c.close_reserved.ensures ∙ (ap (λ (z : List FrontOutput). z ++ Close c.args.link (because.Served c.leave-served.result) ∷ []) c.in_ok-outputs.ensures.empty ∙ ap (λ (z : Served). Close c.args.link (because.Served z) ∷ []) ends)) in
+    given_one (EndedDoes (front_in v) c.args.link (links_of c.args.links.now c.args.link)) v (Close c.args.link (because.Served (ending_at c.in-Some.now.session.rest))) c.from_vec.result w out_is
+    (ended_done v w c.args.link c.in-Some.now there c.take.ensures.left c.leave-served.ensures.left)

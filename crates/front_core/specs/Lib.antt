@@ -1,0 +1,10 @@
+pub mod Fronts
+pub mod Asking
+pub mod Hearing
+pub mod Closing
+pub mod Doing
+pub mod Waking
+pub mod FrontOuts
+pub mod Breaking
+pub mod Cores
+pub mod Seats
