@@ -14,7 +14,7 @@ use Rattle.portal_model.specs.State.{State}
 use Rattle.portal_model.proofs.SeatLaws.{begins-itself, begins-through}
 use Rattle.session.specs.declared.act.Client.{Client}
 use Rattle.session.specs.declared.served.Fed.{Fed}
-use Rattle.session.specs.Answers.{AreOf, Denied, Made, Outcome}
+use Rattle.session.specs.Answers.{AreOf, Denied, Made, Outcome, signals_for, spoken}
 use Rattle.session.specs.Connections.{served_by}
 use Rattle.session.specs.Items.{joined}
 use Rattle.session.specs.Sessions.{ending_at}
@@ -191,7 +191,7 @@ told_done c d m l link at due written came now out is_so there took h came_is se
     let told = answered c d m l link at (Request.Collect ∷ []) heard written came now out h.asked took settles came_is in
     let os = heard ++ settles.left in
     let by_bytes = subst (λ (z : List ℕ). Answered (front_in c) link at (Request.Collect ∷ []) heard z now os out (front_in d)) h.written_is told in
-    let by_session = subst (λ (z : Standing). Answered (front_in c) link at (Request.Collect ∷ []) heard _ z os out (front_in d)) h.now_is by_bytes in
+    let by_session = subst (λ (z : Standing). Answered (front_in c) link at (Request.Collect ∷ []) heard (joined (spoken at.session.stage.serial (signals_for h.outcome))) z os out (front_in d)) h.now_is by_bytes in
     let so : TellsIf true (front_in c) link (Some at) os out (front_in d) = record { outcome = h.outcome; answered = by_session } in
     record {
       outcomes = os;

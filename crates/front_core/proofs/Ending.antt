@@ -160,7 +160,7 @@ wake_unsaid c m d n said told x y =
 
 -- ---- what is true of a link that is open
 
-numbered_from : (n : ℕ) → n ≢ 0 → 1 ≤ n
+pub numbered_from : (n : ℕ) → n ≢ 0 → 1 ≤ n
 numbered_from zero h = absurd (h refl)
 numbered_from (suc n) h = omega arith
 
@@ -196,7 +196,7 @@ unsettled link session pending came bytes c (Ok out) d lost same = absurd (cc)
 unsettled link session pending came bytes c (Err error) d lost same = same
 
 -- a link with this session, as it stands in the table
-link_is : (session : Standing) (h : Bool) (p q : ℕ) → h ≡ is_host session.client.who → p ≡ q → record { session = session; is_host = h; pending = p } ≡ link_with session q
+pub link_is : (session : Standing) (h : Bool) (p q : ℕ) → h ≡ is_host session.client.who → p ≡ q → record { session = session; is_host = h; pending = p } ≡ link_with session q
 link_is session h p q whose same = λ i. record { session = session; is_host = whose i; pending = same i }
 
 pub settles_on : (link : ℕ) (session : Standing) (h : Bool) (pending total : ℕ) (came : Fed) (bytes : List ℕ) (c : Hall) (out : List FrontOutput) (l : List (Option Link)) → total ≡ pending + length bytes → None ≡ closing total came → h ≡ is_host session.client.who

@@ -1,5 +1,6 @@
 -- What comes at one seat, one part after another.
-use Rattle.std.proofs.Common.{◌≡◌, ℕ, ◌+◌, ◌≤◌, List, [], ◌∷◌, ◌++◌, refl, sym, ap, ◌∙◌, subst, arith}
+use Rattle.std.proofs.Common.{◌≡◌, ℕ, ◌+◌, ◌≤◌, List, [], ◌∷◌, ◌++◌, Result, Ok, Err, refl, sym, ap, ◌∙◌, subst, arith}
+use Rattle.std.specs.Prelude.{OnErr}
 use Rattle.std.proofs.lemmas.List.{append-nil, append_assoc}
 use Rattle.portal_model.specs.declared.entry.Entry.{Entry}
 use Rattle.portal_model.specs.declared.reply.Refused.{Refused}
@@ -66,3 +67,8 @@ asked_on seat u v w rs qs os us a b = (went_on seat u v w os us a.0 b.0, of-appe
 
 pub asked_nothing : (seat : ℕ) (v : Book) → Asked seat v [] [] v
 asked_nothing seat v = (went_nowhere seat v, refl)
+
+-- what holds whatever was answered
+pub on_err : {X E : Type 0} (r : Result X E) (P : Type 0) → P → OnErr r P
+on_err (Ok x) P h = tt
+on_err (Err error) P h = h

@@ -2,6 +2,7 @@
 use Prim.Native.Nat.{zero}
 use Rattle.std.proofs.Common.{◌≡◌, ◌≢◌, inl, inr, ℕ, suc, ◌+◌, ◌<◌, ◌≤◌, List, [], ◌&&◌, length, Option, Some, None, Bool, true, false, refl, sym, ap, ◌∙◌, subst, arith}
 use Rattle.std.specs.Prelude.{◌⊎◌, IfSome, IsTrue}
+use Rattle.std.proofs.lemmas.Bool.{cases_lt}
 use Rattle.portal_base.specs.declared.who.Who.{Who}
 use Rattle.portal_core.specs.Waiting.{is_waiting}
 use Rattle.portal_model.specs.State.{State}
@@ -67,27 +68,27 @@ due_none s n o none = sym (ap (is_due s n) none)
 
 -- this one does
 pub waits_here : (a : Front) (n : ℕ) (r : Bool) → r ≡ is_due (state_of a) n (a.links n) → r ≡ true → (IsTrue true → Waits a) × (Waits a → IsTrue true)
-waits_here a n r is yes = ((λ _. (n, sym is ∙ yes)), λ _. refl)
+waits_here a n r is due = ((λ _. (n, sym is ∙ due)), λ _. refl)
 
 below_or : (k n : ℕ) → k < n + 1 → (k < n) ⊎ (k ≡ n)
-below_or k n h = omega arith
+below_or k n h = elim (cases_lt k n) as (λ _. (k < n) ⊎ (k ≡ n)) [
+  | inl less ↦ inl less
+  | inr far ↦ inr (omega arith)
+]
 
 -- nor does the next one
 pub none_more : (s : State) (l : List (Option Link)) (n : ℕ) (r : Bool) → ((k : ℕ) → k < n → is_due s k (links_of l k) ≡ false) → r ≡ is_due s n (links_of l n) → r ≡ false → (k : ℕ) → k < n + 1 → is_due s k (links_of l k) ≡ false
-none_more s l n r none is no k less = elim (below_or k n less) as (λ _. is_due s k (links_of l k) ≡ false) [
+none_more s l n r none is idle k less = elim (below_or k n less) as (λ _. is_due s k (links_of l k) ≡ false) [
   | inl lower ↦ none k lower
-  | inr here ↦ subst (λ (z : ℕ). is_due s z (links_of l z) ≡ false) (sym here) (sym is ∙ no)
+  | inr here ↦ subst (λ (z : ℕ). is_due s z (links_of l z) ≡ false) (sym here) (sym is ∙ idle)
 ]
-
-reached : (n m : ℕ) → (m < n) ⊎ (n ≤ m)
-reached n m = omega arith
 
 never : (b : Bool) → b ≡ true → b ≡ false → ⊥
 never b h k = cc
 
 -- and then none does
 pub none_waits : (s : State) (l : List (Option Link)) (n : ℕ) → ((k : ℕ) → k < n → is_due s k (links_of l k) ≡ false) → length l ≤ n → (k : ℕ) → IsTrue (is_due s k (links_of l k)) → ⊥
-none_waits s l n none long k w = never (is_due s k (links_of l k)) w (elim (reached n k) as (λ _. is_due s k (links_of l k) ≡ false) [
+none_waits s l n none long k w = never (is_due s k (links_of l k)) w (elim (cases_lt k n) as (λ _. is_due s k (links_of l k) ≡ false) [
   | inl lower ↦ none k lower
   | inr far ↦ sym (ap (is_due s k) (none_beyond l k (omega arith)))
 ])

@@ -3,6 +3,7 @@ use Prim.Native.Nat.{zero}
 use Rattle.std.proofs.Common.{◌≡◌, ◌≢◌, inl, inr, ℕ, suc, ◌+◌, ◌<◌, ◌≤◌, ◌==◌, List, [], ◌∷◌, ◌++◌, length, map, not, Option, Some, None, Bool, true, false, ◌&&◌, cond, refl, sym, ap, ◌∙◌, subst, arith}
 use Rattle.std.specs.Prelude.{◌⊎◌, IsTrue, if◌then◌else◌}
 use Rattle.std.specs.Option.{option_map}
+use Rattle.std.proofs.lemmas.Bool.{cases_lt}
 use Rattle.std.proofs.lemmas.Bool.Decides.{nat_tests}
 use Rattle.portal_base.specs.declared.limits.Settings.{Settings}
 use Rattle.portal_base.specs.declared.who.Kind.{Kind}
@@ -264,9 +265,6 @@ quiet_or : (b : Front) (n m : ℕ) (here : Bool) → (m == n) ≡ here → m < s
 quiet_or b n m true is less at_it below = let same : m ≡ n = same_number m n is in subst (λ (z : ℕ). is_due (state_of b) z (b.links z) ≡ false) (sym same) at_it
 quiet_or b n m false is less at_it below = let not_it : m ≢ n = λ e. grind (arith, nat_tests) in below is (omega arith)
 
-reached : (n m : ℕ) → (m < n) ⊎ (n ≤ m)
-reached n m = omega arith
-
 not_both : (b : Bool) → b ≡ true → b ≡ false → ⊥
 not_both b h k = cc
 
@@ -288,7 +286,7 @@ below_quiet (suc n) a b os out agrees d none =
 pub wakes_tell : (s : Settings) (a : Front) (os : List Outcome) (out : List FrontOutput) (b : Front) → Agrees a → Does s a Wake os out b → denied os ≡ 0 → Waits b → ⊥
 wakes_tell s a os out b agrees d none w =
     let all = below_quiet d.0 a b os out agrees d.2 none in
-    elim (reached d.0 w.0) as (λ _. ⊥) [
+    elim (cases_lt w.0 d.0) as (λ _. ⊥) [
       | inl lower ↦ not_both (is_due (state_of b) w.0 (b.links w.0)) w.1 (all.quiet w.0 lower)
       | inr far ↦ not_both (is_due (state_of b) w.0 (b.links w.0)) w.1 (ap (is_due (state_of b) w.0) ((all.apart w.0 far).links ∙ d.1 w.0 far))
     ]

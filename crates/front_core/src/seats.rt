@@ -1,12 +1,14 @@
 //! The sessions of links, each at its seat of a portal.
 
-ghost use Rattle.std.specs.Prelude.{◌≡◌, ◌≤◌, ◌∷◌, [], ◌++◌, true, false, IfErr, IfOk, OnErr, OnOk, Some};
+ghost use Rattle.std.specs.Prelude.{ℕ, ◌≡◌, ◌≤◌, ◌∷◌, [], ◌++◌, true, false, IfErr, IfOk, OnErr, OnOk, Some};
+ghost use Rattle.portal_core.specs.Lending.{GoesOn, seated_at};
 ghost use Rattle.portal_model.specs.History.{run};
 ghost use Rattle.portal_model.specs.Seated.{bound, is_open};
 ghost use Rattle.portal_base.specs.declared.who.Who.TheVariants.{Host};
 ghost use Rattle.session.specs.Items.{joined};
+ghost use Rattle.session.specs.Ledger.{world};
 ghost use Rattle.session.specs.Pushes.{is_ready};
-ghost use Rattle.session.specs.Sessions.{ending};
+ghost use Rattle.session.specs.Sessions.{Closes, Feeds, Opens, ending};
 ghost use Rattle.session.specs.Standings.{client};
 ghost use Rattle.session.specs.declared.served.Fed.TheVariants as fed;
 ghost use Rattle.front_core.specs.Asking.{book};
@@ -62,10 +64,7 @@ pub(crate) fn begin<S: Storied>(
         (book (S.opening portal.new) (S.entries portal.new) (S.refusals portal.new)
         ≡ book (S.opening portal.old) (S.entries portal.old) (S.refusals portal.old)) }
 {
-    let mut desk = LocalDesk::new(portal, seat);
-    let begun = Session::begin(alloc, &mut desk, who, kind, settings);
-    desk.known();
-    let refusals = desk.refusals();
+    let Entering { begun, refusals } = begin_at(alloc, portal, seat, who, kind, settings);
     match begun {
         Ok(session) => Ok(Begun::Session(session)),
         Err(why) => {
@@ -75,6 +74,41 @@ pub(crate) fn begin<S: Storied>(
             }
             Ok(Begun::Refused(why))
         }
+    }
+}
+
+/// What Enter at the desk of a seat came to.
+#[derive(Drop)]
+struct Entering {
+    /// The session that began, or why Enter isn't answered.
+    begun: Result<Session, Refused>,
+    /// How many requests were refused.
+    refusals: u64,
+}
+
+/// Begins a session at the desk of a seat.
+fn begin_at<S: Storied>(
+    alloc: Global,
+    portal: &mut S,
+    seat: u32,
+    who: &Who,
+    kind: Kind,
+    settings: &Settings,
+) -> Entering
+    requires seat { 1 ≤ seat }
+    requires closed { is_open (run (S.opening portal.old) (S.entries portal.old)) seat ≡ false }
+    ensures opens { Opens (client who.now kind settings.now)
+        (seated_at (S.opening portal.old) (S.entries portal.old) seat 0) result.begun
+        (seated_at (S.opening portal.new) (S.entries portal.new) seat result.refusals) }
+    ensures goes { GoesOn S.says S.spends S.refusals portal.old
+        (seated_at (S.opening portal.old) (S.entries portal.old) seat 0) portal.new
+        (seated_at (S.opening portal.new) (S.entries portal.new) seat result.refusals) }
+{
+    let mut desk = LocalDesk::new(portal, seat);
+    let begun = Session::begin(alloc, &mut desk, who, kind, settings);
+    Entering {
+        begun,
+        refusals: desk.refusals(),
     }
 }
 
@@ -123,11 +157,6 @@ fn is_heard(came: Fed) -> bool
 {
     matches!(came, Fed::More | Fed::Over(_))
 }
-
-ghost use Rattle.portal_core.specs.Lending.{GoesOn, seated_at};
-ghost use Rattle.session.specs.Ledger.{world};
-ghost use Rattle.session.specs.Sessions.{Feeds};
-ghost use Rattle.std.specs.Prelude.{ℕ};
 
 /// Feeds bytes to a session at the desk of its seat.
 fn feed<S: Storied>(
@@ -233,6 +262,21 @@ pub(crate) fn leave<S: Storied>(
         (book (S.opening portal.old) (S.entries portal.old) (S.refusals portal.old))
         (book (S.opening portal.new) (S.entries portal.new) (S.refusals portal.new)) }
     ensures ended { result ≡ ending session.fed session.rest }
+{
+    end_at(alloc, portal, seat, session)
+}
+
+/// Ends a session at the desk of its seat.
+fn end_at<S: Storied>(alloc: Global, portal: &mut S, seat: u32, session: Session) -> Served
+    requires seat { 1 ≤ seat }
+    requires open_now { bound (run (S.opening portal.old) (S.entries portal.old)) seat
+        ≡ Some (binding_of session) }
+    ensures closes { (count : ℕ)
+        × Closes session (seated_at (S.opening portal.old) (S.entries portal.old) seat 0) result
+        (seated_at (S.opening portal.new) (S.entries portal.new) seat count)
+        × GoesOn S.says S.spends S.refusals portal.old
+        (seated_at (S.opening portal.old) (S.entries portal.old) seat 0) portal.new
+        (seated_at (S.opening portal.new) (S.entries portal.new) seat count) }
 {
     let mut desk = LocalDesk::new(portal, seat);
     session.end(alloc, &mut desk)

@@ -26,8 +26,8 @@ returns-in-More-clause-only g c =
     let more = rw c.in-More.is at fact in
     pushes_lost g.S.Storied.says g.S.Storied.spends g.S.Storied.refusals c.args.portal.now c.push_at.new.portal c.args.seat c.push_at.ensures.pushes.0 (g.S.Storied.opening c.args.portal.now) (g.S.Storied.opening c.push_at.new.portal) (g.S.Storied.entries c.args.portal.now) (g.S.Storied.entries c.push_at.new.portal) e.ensures.pushes.2 c.args.session.now e.new.session (world (seated_at (g.S.Storied.opening c.args.portal.now) (g.S.Storied.entries c.args.portal.now) c.args.seat 0) (Some []) c.new-written.result.faults) (world (seated_at (g.S.Storied.opening c.push_at.new.portal) (g.S.Storied.entries c.push_at.new.portal) c.args.seat c.push_at.ensures.pushes.0) (Some c.push_at.new.written.pieces) c.push_at.new.written.faults) c.joined.result refl refl more
 
-pub returns-in_default-clause-only : goal.returns-in_default-clause-only
-returns-in_default-clause-only g c =
+pub returns-clause-only : goal.returns-clause-only
+returns-clause-only g c =
     let e = c.push_at in
     let empty : c.new-written.result.pieces ≡ [] = ap (λ (z : SinkState). z.pieces) c.new-written.ensures in
     let fact = rw empty at e.ensures.pushes.1 in

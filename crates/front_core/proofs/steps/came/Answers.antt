@@ -18,16 +18,16 @@ returns-in_default g c =
     given_none (CameDoes (front_in (hall (g.S.Storied.opening c.args.portal.now) (g.S.Storied.entries c.args.portal.now) (g.S.Storied.refusals c.args.portal.now) c.args.links.now)) c.args.link c.args.bytes.now (links_of c.args.links.now c.args.link)) (hall (g.S.Storied.opening c.args.portal.now) (g.S.Storied.entries c.args.portal.now) (g.S.Storied.refusals c.args.portal.now) c.args.links.now) c.new.result (hall (g.S.Storied.opening c.args.portal.now) (g.S.Storied.entries c.args.portal.now) (g.S.Storied.refusals c.args.portal.now) c.take.new.self) c.new.ensures
     (nothing_open (CameDoes (front_in (hall (g.S.Storied.opening c.args.portal.now) (g.S.Storied.entries c.args.portal.now) (g.S.Storied.refusals c.args.portal.now) c.args.links.now)) c.args.link c.args.bytes.now) (hall (g.S.Storied.opening c.args.portal.now) (g.S.Storied.entries c.args.portal.now) (g.S.Storied.refusals c.args.portal.now) c.args.links.now) c.take.new.self c.args.link (λ os out b p. p) none c.take.ensures.left)
 
-pub hear-heard-requires-clause-seat : goal.hear-heard-requires-clause-seat
-hear-heard-requires-clause-seat g c =
+pub hear-requires-clause-seat : goal.hear-requires-clause-seat
+hear-requires-clause-seat g c =
     let v = (hall (g.S.Storied.opening c.args.portal.now) (g.S.Storied.entries c.args.portal.now) (g.S.Storied.refusals c.args.portal.now) c.args.links.now) in
     let at = c.in-Some.now in
     let there : links_of c.args.links.now c.args.link ≡ Some at = sym c.take.ensures.taken ∙ c.in-Some.is in
     let sound = sound_of (front_in v) c.args.link at c.requires there in
     from_one (front_in v) c.args.link at c.requires there
 
-pub hear-heard-requires-clause-goes_on : goal.hear-heard-requires-clause-goes_on
-hear-heard-requires-clause-goes_on g c =
+pub hear-requires-clause-goes_on : goal.hear-requires-clause-goes_on
+hear-requires-clause-goes_on g c =
     let v = (hall (g.S.Storied.opening c.args.portal.now) (g.S.Storied.entries c.args.portal.now) (g.S.Storied.refusals c.args.portal.now) c.args.links.now) in
     let at = c.in-Some.now in
     let there : links_of c.args.links.now c.args.link ≡ Some at = sym c.take.ensures.taken ∙ c.in-Some.is in
@@ -40,7 +40,7 @@ returns-in_err-heard g c =
     let at = c.in-Some.now in
     let there : links_of c.args.links.now c.args.link ≡ Some at = sym c.take.ensures.taken ∙ c.in-Some.is in
     let sound = sound_of (front_in v) c.args.link at c.requires there in
-    let w = (hall (g.S.Storied.opening c.hear-heard.new.portal) (g.S.Storied.entries c.hear-heard.new.portal) (g.S.Storied.refusals c.hear-heard.new.portal) c.take.new.self) in
+    let w = (hall (g.S.Storied.opening c.hear.new.portal) (g.S.Storied.entries c.hear.new.portal) (g.S.Storied.refusals c.hear.new.portal) c.take.new.self) in
     stopped_ends _ _ v c.from_residual.result w c.from_residual.ensures.0 (came_stopped v w c.args.link at c.args.bytes.now there c.in_err-heard.ensures.first)
 
 pub settle-requires-clause-seat : goal.settle-requires-clause-seat
@@ -85,5 +85,5 @@ returns g c =
     let at = c.in-Some.now in
     let there : links_of c.args.links.now c.args.link ≡ Some at = sym c.take.ensures.taken ∙ c.in-Some.is in
     let sound = sound_of (front_in v) c.args.link at c.requires there in
-    came_ends v (hall (g.S.Storied.opening c.settle.new.portal) (g.S.Storied.entries c.settle.new.portal) (g.S.Storied.refusals c.settle.new.portal) c.settle.new.links) (book (g.S.Storied.opening c.hear-heard.new.portal) (g.S.Storied.entries c.hear-heard.new.portal) (g.S.Storied.refusals c.hear-heard.new.portal)) c.take.new.self c.args.link at c.args.bytes.now c.in_ok-heard.heard.written c.in_ok-heard.heard.came c.hear-heard.new.session c.settle.result
+    came_ends v (hall (g.S.Storied.opening c.settle.new.portal) (g.S.Storied.entries c.settle.new.portal) (g.S.Storied.refusals c.settle.new.portal) c.settle.new.links) (book (g.S.Storied.opening c.hear.new.portal) (g.S.Storied.entries c.hear.new.portal) (g.S.Storied.refusals c.hear.new.portal)) c.take.new.self c.args.link at c.args.bytes.now c.in_ok-heard.heard.written c.in_ok-heard.heard.came c.hear.new.session c.settle.result
     there c.take.ensures.left c.in_ok-heard.ensures.heard c.settle.ensures

@@ -20,15 +20,15 @@ returns-in_default g c =
     given_none (FailedDoes (front_in (hall (g.S.Storied.opening c.args.portal.now) (g.S.Storied.entries c.args.portal.now) (g.S.Storied.refusals c.args.portal.now) c.args.links.now)) c.args.link (links_of c.args.links.now c.args.link)) (hall (g.S.Storied.opening c.args.portal.now) (g.S.Storied.entries c.args.portal.now) (g.S.Storied.refusals c.args.portal.now) c.args.links.now) c.new.result (hall (g.S.Storied.opening c.args.portal.now) (g.S.Storied.entries c.args.portal.now) (g.S.Storied.refusals c.args.portal.now) c.take.new.self) c.new.ensures
     (nothing_open (FailedDoes (front_in (hall (g.S.Storied.opening c.args.portal.now) (g.S.Storied.entries c.args.portal.now) (g.S.Storied.refusals c.args.portal.now) c.args.links.now)) c.args.link) (hall (g.S.Storied.opening c.args.portal.now) (g.S.Storied.entries c.args.portal.now) (g.S.Storied.refusals c.args.portal.now) c.args.links.now) c.take.new.self c.args.link (λ os out b p. p) none c.take.ensures.left)
 
-pub leave-_served-requires-clause-seat : goal.leave-_served-requires-clause-seat
-leave-_served-requires-clause-seat g c =
+pub leave-served-requires-clause-seat : goal.leave-served-requires-clause-seat
+leave-served-requires-clause-seat g c =
     let v = (hall (g.S.Storied.opening c.args.portal.now) (g.S.Storied.entries c.args.portal.now) (g.S.Storied.refusals c.args.portal.now) c.args.links.now) in
     let there : links_of c.args.links.now c.args.link ≡ Some c.in-Some.now = sym c.take.ensures.taken ∙ c.in-Some.is in
     let sound = sound_of (front_in v) c.args.link c.in-Some.now c.requires there in
     from_one (front_in v) c.args.link c.in-Some.now c.requires there
 
-pub leave-_served-requires-clause-open_now : goal.leave-_served-requires-clause-open_now
-leave-_served-requires-clause-open_now g c =
+pub leave-served-requires-clause-open_now : goal.leave-served-requires-clause-open_now
+leave-served-requires-clause-open_now g c =
     let v = (hall (g.S.Storied.opening c.args.portal.now) (g.S.Storied.entries c.args.portal.now) (g.S.Storied.refusals c.args.portal.now) c.args.links.now) in
     let there : links_of c.args.links.now c.args.link ≡ Some c.in-Some.now = sym c.take.ensures.taken ∙ c.in-Some.is in
     let sound = sound_of (front_in v) c.args.link c.in-Some.now c.requires there in
@@ -48,7 +48,7 @@ returns g c =
     let v = (hall (g.S.Storied.opening c.args.portal.now) (g.S.Storied.entries c.args.portal.now) (g.S.Storied.refusals c.args.portal.now) c.args.links.now) in
     let there : links_of c.args.links.now c.args.link ≡ Some c.in-Some.now = sym c.take.ensures.taken ∙ c.in-Some.is in
     let sound = sound_of (front_in v) c.args.link c.in-Some.now c.requires there in
-    let w = (hall (g.S.Storied.opening c.leave-_served.new.portal) (g.S.Storied.entries c.leave-_served.new.portal) (g.S.Storied.refusals c.leave-_served.new.portal) c.take.new.self) in
+    let w = (hall (g.S.Storied.opening c.leave-served.new.portal) (g.S.Storied.entries c.leave-served.new.portal) (g.S.Storied.refusals c.leave-served.new.portal) c.take.new.self) in
     let out_is : c.from_vec.result ≡ Close c.args.link because.Lost ∷ [] = c.from_vec.ensures ∙ (c.close_reserved.ensures ∙ ap (λ (z : List FrontOutput). z ++ Close c.args.link because.Lost ∷ []) c.in_ok-outputs.ensures.empty) in
     given_one (FailedDoes (front_in v) c.args.link (links_of c.args.links.now c.args.link)) v (Close c.args.link because.Lost) c.from_vec.result w out_is
-    (failed_done v w c.args.link c.in-Some.now there c.take.ensures.left c.leave-_served.ensures.left)
+    (failed_done v w c.args.link c.in-Some.now there c.take.ensures.left c.leave-served.ensures.left)

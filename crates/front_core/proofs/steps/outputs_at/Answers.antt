@@ -10,8 +10,8 @@ pub returns-in-None : goal.returns-in-None
 returns-in-None c =
     c.in_ok-outputs.ensures ∙ (sym (append-nil (writes c.args.link c.args.bytes)) ∙ ap (λ (z : Option FrontEnding). writes c.args.link c.args.bytes ++ closes c.args.link z) (sym c.in-None.is))
 
-pub returns-in-Some : goal.returns-in-Some
-returns-in-Some c =
-    c.in_ok-push.ensures.ok
+pub returns-in_ok-push-in-Some : goal.returns-in_ok-push-in-Some
+returns-in_ok-push-in-Some c =
+    c.in_ok-push-in-Some.ensures.ok
     ∙ (ap (λ (z : List FrontOutput). z ++ Close c.args.link c.in-Some.ending ∷ []) c.in_ok-outputs.ensures
     ∙ ap (λ (z : Option FrontEnding). writes c.args.link c.args.bytes ++ closes c.args.link z) (sym c.in-Some.is))

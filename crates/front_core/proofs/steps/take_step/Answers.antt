@@ -10,13 +10,13 @@ returns-in_err-outputs-clause-ends g c = step_stopped _ _ _ c.from_residual.resu
 pub waits-requires : goal.waits-requires
 waits-requires g c =
     let v = (hall (g.S.Storied.opening c.args.portal.now) (g.S.Storied.entries c.args.portal.now) (g.S.Storied.refusals c.args.portal.now) c.args.links.now) in
-    let w = (hall (g.S.Storied.opening c.outputs_of-outputs.new.portal) (g.S.Storied.entries c.outputs_of-outputs.new.portal) (g.S.Storied.refusals c.outputs_of-outputs.new.portal) c.outputs_of-outputs.new.links) in
+    let w = (hall (g.S.Storied.opening c.outputs_of.new.portal) (g.S.Storied.entries c.outputs_of.new.portal) (g.S.Storied.refusals c.outputs_of.new.portal) c.outputs_of.new.links) in
     (does_agree c.args.settings.now (front_in v) (front_in w) c.args.input c.in_ok-outputs.ensures.outcomes c.in_ok-outputs.outputs c.requires c.in_ok-outputs.ensures.does_so).sound
 
 pub returns-clause-ends : goal.returns-clause-ends
 returns-clause-ends g c =
     let v = (hall (g.S.Storied.opening c.args.portal.now) (g.S.Storied.entries c.args.portal.now) (g.S.Storied.refusals c.args.portal.now) c.args.links.now) in
-    let w = (hall (g.S.Storied.opening c.outputs_of-outputs.new.portal) (g.S.Storied.entries c.outputs_of-outputs.new.portal) (g.S.Storied.refusals c.outputs_of-outputs.new.portal) c.outputs_of-outputs.new.links) in
+    let w = (hall (g.S.Storied.opening c.outputs_of.new.portal) (g.S.Storied.entries c.outputs_of.new.portal) (g.S.Storied.refusals c.outputs_of.new.portal) c.outputs_of.new.links) in
     record {
       done = c.in_ok-outputs.ensures;
       wake = c.waits.ensures;
@@ -26,5 +26,5 @@ returns-clause-ends g c =
 pub returns-clause-agrees : goal.returns-clause-agrees
 returns-clause-agrees g c =
     let v = (hall (g.S.Storied.opening c.args.portal.now) (g.S.Storied.entries c.args.portal.now) (g.S.Storied.refusals c.args.portal.now) c.args.links.now) in
-    let w = (hall (g.S.Storied.opening c.outputs_of-outputs.new.portal) (g.S.Storied.entries c.outputs_of-outputs.new.portal) (g.S.Storied.refusals c.outputs_of-outputs.new.portal) c.outputs_of-outputs.new.links) in
+    let w = (hall (g.S.Storied.opening c.outputs_of.new.portal) (g.S.Storied.entries c.outputs_of.new.portal) (g.S.Storied.refusals c.outputs_of.new.portal) c.outputs_of.new.links) in
     does_agree c.args.settings.now (front_in v) (front_in w) c.args.input c.in_ok-outputs.ensures.outcomes c.in_ok-outputs.outputs c.requires c.in_ok-outputs.ensures.does_so

@@ -1,15 +1,12 @@
-use Rattle.std.proofs.Common.{◌≡◌, ◌∙◌, Some, None, sym, ap, rules}
+use Rattle.std.proofs.Common.{◌≡◌, ◌∙◌, Some, None, sym, ap}
 use Rattle.std.specs.Prelude.{option_copied}
 use Rattle.portal_model.specs.History.{run}
 use Rattle.front_core.specs.Fronts.{links_of}
-use Rattle.front_core.proofs.Telling.{due_none, due_some, whose_at}
+use Rattle.front_core.proofs.Telling.{due_none, whose_at}
 use Rattle.front_core.proofs.waking.is_due.Goals as goal
 
 pub is_told-requires : goal.is_told-requires
 is_told-requires g c = whose_at (links_of c.args.links.now c.args.link) c.in-Some.at.now (sym c.get.ensures ∙ ap option_copied c.in-Some.is) c.requires
-
-pub returns-in-Some : goal.returns-in-Some
-returns-in-Some g c = due_some (run (g.S.Storied.opening c.args.portal.now) (g.S.Storied.entries c.args.portal.now)) c.args.link (links_of c.args.links.now c.args.link) c.in-Some.at.now _ (sym c.get.ensures ∙ ap option_copied c.in-Some.is) (search rules)
 
 pub returns-in-None : goal.returns-in-None
 returns-in-None g c = due_none (run (g.S.Storied.opening c.args.portal.now) (g.S.Storied.entries c.args.portal.now)) c.args.link (links_of c.args.links.now c.args.link) (sym c.get.ensures ∙ ap option_copied c.in-None.is)

@@ -28,8 +28,8 @@ returns-in_default g c =
     given_none _ (hall (g.S.Storied.opening c.args.portal.now) (g.S.Storied.entries c.args.portal.now) (g.S.Storied.refusals c.args.portal.now) c.args.links.now) _ (hall (g.S.Storied.opening c.args.portal.now) (g.S.Storied.entries c.args.portal.now) (g.S.Storied.refusals c.args.portal.now) c.take.new.self) (cc)
     (nothing_open (TellsIf (is_due (run (g.S.Storied.opening c.args.portal.now) (g.S.Storied.entries c.args.portal.now)) c.args.link (links_of c.args.links.now c.args.link)) (front_in (hall (g.S.Storied.opening c.args.portal.now) (g.S.Storied.entries c.args.portal.now) (g.S.Storied.refusals c.args.portal.now) c.args.links.now)) c.args.link) (hall (g.S.Storied.opening c.args.portal.now) (g.S.Storied.entries c.args.portal.now) (g.S.Storied.refusals c.args.portal.now) c.args.links.now) c.take.new.self c.args.link (λ os out b p. p) none c.take.ensures.left)
 
-pub push-written-requires-clause-seat : goal.push-written-requires-clause-seat
-push-written-requires-clause-seat g c =
+pub push-requires-clause-seat : goal.push-requires-clause-seat
+push-requires-clause-seat g c =
     let v = (hall (g.S.Storied.opening c.args.portal.now) (g.S.Storied.entries c.args.portal.now) (g.S.Storied.refusals c.args.portal.now) c.args.links.now) in
     let at = c.in-Some.now in
     let there : links_of c.args.links.now c.args.link ≡ Some at = sym c.take.ensures.taken ∙ c.in-Some.is in
@@ -37,8 +37,8 @@ push-written-requires-clause-seat g c =
     let due : (is_due (run (g.S.Storied.opening c.args.portal.now) (g.S.Storied.entries c.args.portal.now)) c.args.link (links_of c.args.links.now c.args.link)) ≡ true = cc in
     from_one (front_in v) c.args.link at c.requires there
 
-pub push-written-requires-clause-host : goal.push-written-requires-clause-host
-push-written-requires-clause-host g c =
+pub push-requires-clause-host : goal.push-requires-clause-host
+push-requires-clause-host g c =
     let v = (hall (g.S.Storied.opening c.args.portal.now) (g.S.Storied.entries c.args.portal.now) (g.S.Storied.refusals c.args.portal.now) c.args.links.now) in
     let at = c.in-Some.now in
     let there : links_of c.args.links.now c.args.link ≡ Some at = sym c.take.ensures.taken ∙ c.in-Some.is in
@@ -46,8 +46,8 @@ push-written-requires-clause-host g c =
     let due : (is_due (run (g.S.Storied.opening c.args.portal.now) (g.S.Storied.entries c.args.portal.now)) c.args.link (links_of c.args.links.now c.args.link)) ≡ true = cc in
     due_host (run (g.S.Storied.opening c.args.portal.now) (g.S.Storied.entries c.args.portal.now)) c.args.link (links_of c.args.links.now c.args.link) at there due
 
-pub push-written-requires-clause-ready : goal.push-written-requires-clause-ready
-push-written-requires-clause-ready g c =
+pub push-requires-clause-ready : goal.push-requires-clause-ready
+push-requires-clause-ready g c =
     let v = (hall (g.S.Storied.opening c.args.portal.now) (g.S.Storied.entries c.args.portal.now) (g.S.Storied.refusals c.args.portal.now) c.args.links.now) in
     let at = c.in-Some.now in
     let there : links_of c.args.links.now c.args.link ≡ Some at = sym c.take.ensures.taken ∙ c.in-Some.is in
@@ -62,7 +62,7 @@ returns-in_err-written g c =
     let there : links_of c.args.links.now c.args.link ≡ Some at = sym c.take.ensures.taken ∙ c.in-Some.is in
     let sound = sound_of (front_in v) c.args.link at c.requires there in
     let due : (is_due (run (g.S.Storied.opening c.args.portal.now) (g.S.Storied.entries c.args.portal.now)) c.args.link (links_of c.args.links.now c.args.link)) ≡ true = cc in
-    let w = (hall (g.S.Storied.opening c.push-written.new.portal) (g.S.Storied.entries c.push-written.new.portal) (g.S.Storied.refusals c.push-written.new.portal) c.take.new.self) in
+    let w = (hall (g.S.Storied.opening c.push.new.portal) (g.S.Storied.entries c.push.new.portal) (g.S.Storied.refusals c.push.new.portal) c.take.new.self) in
     stopped_ends _ _ v c.from_residual.result w c.from_residual.ensures.0 (told_stopped v w c.args.link (is_due (run (g.S.Storied.opening c.args.portal.now) (g.S.Storied.entries c.args.portal.now)) c.args.link (links_of c.args.links.now c.args.link)) due c.in_err-written.ensures.only)
 
 pub settle-requires-clause-seat : goal.settle-requires-clause-seat
@@ -111,5 +111,5 @@ returns g c =
     let there : links_of c.args.links.now c.args.link ≡ Some at = sym c.take.ensures.taken ∙ c.in-Some.is in
     let sound = sound_of (front_in v) c.args.link at c.requires there in
     let due : (is_due (run (g.S.Storied.opening c.args.portal.now) (g.S.Storied.entries c.args.portal.now)) c.args.link (links_of c.args.links.now c.args.link)) ≡ true = cc in
-    let going : fed.More ≡ c.push-written.new.session.fed = sym (ap (λ (z : Standing). z.fed) c.in_ok-written.ensures.pushed.now_is ∙ sound.goes_on) in
-    told_ends v (hall (g.S.Storied.opening c.settle.new.portal) (g.S.Storied.entries c.settle.new.portal) (g.S.Storied.refusals c.settle.new.portal) c.settle.new.links) (book (g.S.Storied.opening c.push-written.new.portal) (g.S.Storied.entries c.push-written.new.portal) (g.S.Storied.refusals c.push-written.new.portal)) c.take.new.self c.args.link at (is_due (run (g.S.Storied.opening c.args.portal.now) (g.S.Storied.entries c.args.portal.now)) c.args.link (links_of c.args.links.now c.args.link)) c.in_ok-written.written fed.More c.push-written.new.session c.settle.result due there c.take.ensures.left c.in_ok-written.ensures.pushed going c.settle.ensures
+    let going : fed.More ≡ c.push.new.session.fed = sym (ap (λ (z : Standing). z.fed) c.in_ok-written.ensures.pushed.now_is ∙ sound.goes_on) in
+    told_ends v (hall (g.S.Storied.opening c.settle.new.portal) (g.S.Storied.entries c.settle.new.portal) (g.S.Storied.refusals c.settle.new.portal) c.settle.new.links) (book (g.S.Storied.opening c.push.new.portal) (g.S.Storied.entries c.push.new.portal) (g.S.Storied.refusals c.push.new.portal)) c.take.new.self c.args.link at (is_due (run (g.S.Storied.opening c.args.portal.now) (g.S.Storied.entries c.args.portal.now)) c.args.link (links_of c.args.links.now c.args.link)) c.in_ok-written.written fed.More c.push.new.session c.settle.result due there c.take.ensures.left c.in_ok-written.ensures.pushed going c.settle.ensures

@@ -1,4 +1,4 @@
-use Rattle.std.proofs.Common.{◌≡◌, ◌∙◌, ◌++◌, ◌∷◌, [], List, ap, sym, length, append-nil, refl, arith}
+use Rattle.std.proofs.Common.{◌≡◌, ◌∙◌, ◌++◌, ◌∷◌, [], List, ap, sym, length, append-nil, refl, arith, rules}
 use Rattle.std.specs.Vec.Iter.{into_iter_items, into_iter_len}
 use Rattle.front_end.specs.declared.input.FrontOutput.{FrontOutput}
 use Rattle.front_end.specs.Ends.{end_is, given_events, logged}
@@ -6,8 +6,13 @@ use Rattle.front_run.specs.declared.run.FrontStatus.TheVariants as status
 use Rattle.front_run.proofs.Serving.{all_given, counts_on, logged_nothing, more_given, nothing_left}
 use Rattle.front_run.proofs.run.give_all.Goals as goal
 
-pub loop-output-init-clause-so_far : goal.loop-output-init-clause-so_far
-loop-output-init-clause-so_far g c = ([], refl, logged_nothing (g.E.FrontEnd.talk c.args.end.now))
+pub loop-output-init : goal.loop-output-init
+loop-output-init g c = record {
+  so_far = ([], refl, logged_nothing (g.E.FrontEnd.talk c.args.end.now));
+  count = search rules;
+  ends = refl;
+  faults = refl;
+}
 
 pub loop-output-preserved : goal.loop-output-preserved
 loop-output-preserved g c =
