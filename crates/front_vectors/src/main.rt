@@ -7,6 +7,7 @@
 #![tactic(auto)]
 
 mod inputs;
+mod line;
 mod runs;
 mod shown;
 mod steps;
@@ -16,6 +17,7 @@ use std::io;
 use std::sync::Wait;
 use vector_lines::error::{VectorError, bad};
 use vector_lines::notation::cut;
+use vector_lines::output::Output;
 use vector_lines::program::run;
 
 fn main(rt: HostRuntime) -> io::Result<()> {
@@ -27,10 +29,24 @@ fn main(rt: HostRuntime) -> io::Result<()> {
 
 /// The answer of a line.
 fn answer<R: Wait>(rt: &R, alloc: Global, line: &str) -> Result<String, VectorError> {
+    let mut out = Output::new(alloc);
+    match put_answer(rt, alloc, &mut out, line) {
+        Ok(()) => Ok(out.into_text()?),
+        Err(error) => Err(error),
+    }
+}
+
+/// What a line is answered.
+fn put_answer<R: Wait>(
+    rt: &R,
+    alloc: Global,
+    out: &mut Output,
+    line: &str,
+) -> Result<(), VectorError> {
     let (kind, rest) = cut(line);
     match kind {
-        "step" => steps::step(alloc, rest),
-        "run" => runs::run(rt, alloc, rest),
+        "step" => steps::step(alloc, out, rest),
+        "run" => runs::run(rt, alloc, out, rest),
         _ => bad(),
     }
 }
