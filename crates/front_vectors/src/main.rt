@@ -16,7 +16,6 @@ use std::io;
 use std::sync::Wait;
 use vector_lines::error::{VectorError, bad};
 use vector_lines::notation::cut;
-use vector_lines::output::Output;
 use vector_lines::program::run;
 
 fn main(rt: HostRuntime) -> io::Result<()> {
@@ -28,10 +27,6 @@ fn main(rt: HostRuntime) -> io::Result<()> {
 
 /// The answer of a line.
 fn answer<R: Wait>(rt: &R, alloc: Global, line: &str) -> Result<String, VectorError> {
-    Ok(output(rt, alloc, line)?.into_text()?)
-}
-
-fn output<R: Wait>(rt: &R, alloc: Global, line: &str) -> Result<Output, VectorError> {
     let (kind, rest) = cut(line);
     match kind {
         "step" => steps::step(alloc, rest),
