@@ -1,19 +1,18 @@
 -- What one input comes to, with its wake.
-use Rattle.std.proofs.Common.{◌≡◌, inl, inr, ℕ, ◌≤◌, length, arith, List, [], ◌∷◌, ◌++◌, map, Option, Some, None, Result, Ok, Err, Bool, true, false, refl, sym, ap, ◌∙◌, subst}
+use Rattle.std.proofs.Common.{◌≡◌, inl, inr, ℕ, ◌≤◌, length, arith, List, [], ◌∷◌, ◌++◌, Option, Some, None, Result, Ok, Err, Bool, true, false, refl, sym, ap, ◌∙◌, subst}
 use Rattle.std.specs.Prelude.{IfSome, IsErrAnd, IsTrue}
 use Rattle.std.proofs.lemmas.List.{append-nil, append_assoc, map-append}
 use Rattle.portal_base.specs.Outside.{HasRisen}
 use Rattle.portal_base.specs.declared.limits.Settings.{Settings}
 use Rattle.portal_model.specs.Seated.{BeginsWith}
 use Rattle.portal_model.proofs.SeatLaws.{begins-through}
-use Rattle.session.specs.Answers.{Outcome}
 use Rattle.front_end.specs.declared.input.FrontInput.{FrontInput}
 use Rattle.front_end.specs.declared.input.FrontInput.TheVariants.{Wake}
 use Rattle.front_end.specs.declared.input.FrontOutput.{FrontOutput}
 use Rattle.front_end.specs.declared.input.FrontStep.{FrontStep}
 use Rattle.front_core.specs.Asking.{Book}
 use Rattle.front_core.specs.Breaking.{BreaksOff}
-use Rattle.front_core.specs.Cores.{Done, Hall, StepEnds, Steps, StepsAs, Stopped, front_in}
+use Rattle.front_core.specs.Cores.{Done, Hall, Steps, StepsAs, Stopped, front_in}
 use Rattle.front_core.specs.FrontOuts.{Does, Turn}
 use Rattle.front_core.specs.Fronts.{Front}
 use Rattle.front_core.specs.Waking.{Waits}
@@ -24,7 +23,7 @@ use Rattle.front_end.specs.declared.end.NextInput.TheVariants as next
 use Rattle.front_run.specs.declared.run.FrontStatus.{FrontStatus}
 use Rattle.front_run.specs.declared.run.FrontStatus.TheVariants as status
 use Rattle.front_end.specs.Ends.{EndIs, NextCounts, Nexts, Talk, Talked, events_of, given_events, logged, talk}
-use Rattle.front_run.specs.Runs.{AreFirst, AreGiven, Counted, HaltCounts, HaltsAt, InputEnds, RunsAs, RunsShort, RunsThrough, ServesInput}
+use Rattle.front_run.specs.Runs.{AreFirst, AreGiven, Counted, HaltCounts, HaltsAt, InputEnds, RunsAs, RunsThrough, ServesInput}
 use Rattle.front_run.proofs.Running.{TakesInput, counted_nothing, counted_on, talked_nothing, through_halts, through_more}
 
 -- ---- what is told

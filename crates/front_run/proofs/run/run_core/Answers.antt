@@ -1,4 +1,4 @@
-use Rattle.std.proofs.Common.{◌≡◌, ◌∙◌, [], Option, List, sym, refl, ap}
+use Rattle.std.proofs.Common.{◌∙◌, [], Option, List, refl, ap}
 use Rattle.front_end.specs.Ends.{end_is}
 use Rattle.front_core.specs.declared.link.Link.{Link}
 use Rattle.front_core.specs.Asking.{book}

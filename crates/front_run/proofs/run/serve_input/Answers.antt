@@ -1,4 +1,4 @@
-use Rattle.std.proofs.Common.{◌≡◌, ◌∙◌, false, true, sym, refl}
+use Rattle.std.proofs.Common.{◌≡◌, false, true, refl}
 use Rattle.portal_base.specs.declared.memory.WantOfMemory.{WantOfMemory}
 use Rattle.front_end.specs.Ends.{end_is}
 use Rattle.front_end.specs.declared.input.FrontInput.TheVariants.{Wake}
