@@ -1,17 +1,13 @@
 -- Behind an input at the number of each open link there is an open connection of its client, and no others.
 use Prim.Native.Nat.{zero}
-use Rattle.std.proofs.Common.{◌≡◌, ◌≢◌, inl, inr, ℕ, suc, ◌+◌, ◌-◌, ◌<◌, ◌≤◌, ◌==◌, List, [], ◌∷◌, ◌++◌, length, map, Option, Some, None, is_some, Bool, true, false, cond, refl, sym, ap, ◌∙◌, subst, arith}
-use Rattle.std.specs.Prelude.{◌⊎◌, if◌then◌else◌, nat_lt, IfSome}
-use Rattle.std.specs.List.{AllByRecursion}
+use Rattle.std.proofs.Common.{◌≡◌, ◌≢◌, inl, inr, ℕ, suc, ◌+◌, ◌-◌, ◌≤◌, ◌==◌, List, [], ◌∷◌, ◌++◌, length, Option, Some, None, is_some, Bool, true, false, cond, refl, sym, ap, ◌∙◌, subst, arith}
+use Rattle.std.specs.Prelude.{if◌then◌else◌, nat_lt, IfSome}
 use Rattle.std.specs.Option.{option_map}
 use Rattle.std.proofs.lemmas.Bool.Decides.{nat_tests}
-use Rattle.std.proofs.lemmas.List.{append-nil}
 use Rattle.portal_base.specs.declared.limits.Settings.{Settings}
-use Rattle.portal_base.specs.declared.who.Kind.{Kind}
-use Rattle.portal_base.specs.declared.who.Who.{Who}
 use Rattle.portal_model.specs.declared.entry.Entry.{Entry}
 use Rattle.portal_model.specs.declared.request.Request.{Request}
-use Rattle.portal_model.specs.History.{of_seat, run}
+use Rattle.portal_model.specs.History.{run}
 use Rattle.portal_model.specs.declared.state.Connection.{Connection}
 use Rattle.portal_model.specs.Seated.{Binding, Exchange, binding_of, bound, bound_after, bound_by, is_open}
 use Rattle.portal_model.specs.State.{State, connection_of}
@@ -22,7 +18,7 @@ use Rattle.session.specs.declared.served.Fed.{Fed}
 use Rattle.session.specs.declared.served.Fed.TheVariants as fed
 use Rattle.session.specs.declared.served.Stop.{Stop}
 use Rattle.session.specs.declared.served.Stop.TheVariants as stop
-use Rattle.session.specs.Answers.{AreOf, Denied, IsOf, Made, Outcome, denied, kept}
+use Rattle.session.specs.Answers.{AreOf, Denied, IsOf, Made, Outcome, denied}
 use Rattle.session.specs.Items.{joined}
 use Rattle.session.specs.Sessions.{ending_at, fed_of}
 use Rattle.session.specs.Standings.{Standing, fresh}
@@ -34,13 +30,13 @@ use Rattle.front_end.specs.declared.input.FrontInput.TheVariants as come
 use Rattle.front_end.specs.declared.input.FrontOutput.{FrontOutput}
 use Rattle.front_core.specs.declared.link.Link.{Link}
 use Rattle.front_core.specs.Asking.{Grown}
-use Rattle.front_core.specs.Closing.{closing, ended_by, leaving, most_pending, staying}
+use Rattle.front_core.specs.Closing.{ended_by, leaving, most_pending, staying}
 use Rattle.front_core.specs.Cores.{Agrees, IsSound, binding}
 use Rattle.front_core.specs.Doing.{Answered, CameDoes, Comes, EndedDoes, Enters, FailedDoes, Leaves, OpenedDoes, Passes, TookDoes}
 use Rattle.front_core.specs.FrontOuts.{Does}
 use Rattle.front_core.specs.Fronts.{Front, front, link_with, links_of, state_of}
 use Rattle.front_core.specs.Hearing.{HearsAs}
-use Rattle.front_core.specs.Waking.{Tells, TellsIf, WakeDoes, WakesAt, WakesBelow, is_due}
+use Rattle.front_core.specs.Waking.{TellsIf, WakesBelow, is_due}
 
 -- ---- the connections of seats, by what came at one
 

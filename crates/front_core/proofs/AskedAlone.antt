@@ -1,25 +1,25 @@
 -- What a session did at the desk of a seat that has what keeps the history alone.
-use Rattle.std.proofs.Common.{◌≡◌, ℕ, suc, ◌==◌, ◌+◌, ◌≤◌, List, [], ◌∷◌, ◌++◌, Bool, true, cond, Result, Ok, Err, refl, sym, ap, ◌∙◌, subst, arith}
+use Rattle.std.proofs.Common.{◌≡◌, ℕ, suc, ◌==◌, List, [], ◌∷◌, ◌++◌, Bool, true, cond, refl, sym, ap, ◌∙◌, subst, arith}
 use Rattle.std.specs.List.{All}
 use Rattle.std.proofs.lemmas.Bool.Decides.{nat_tests}
 use Rattle.std.proofs.lemmas.List.{append-nil, append_assoc, append_cancel_left}
-use Rattle.portal_core.specs.Chain.{Chain, answered, refused}
-use Rattle.portal_core.specs.Growth.{RefusedFor, cost_after}
-use Rattle.portal_core.specs.Lending.{GoesOn, GrowsByOwn, seated_at}
+use Rattle.portal_core.specs.Chain.{answered, refused}
+use Rattle.portal_core.specs.Growth.{RefusedFor}
+use Rattle.portal_core.specs.Lending.{GoesOn, seated_at}
 use Rattle.portal_model.specs.declared.entry.Entry.{Entry}
 use Rattle.portal_model.specs.declared.reply.Refused.{Refused}
 use Rattle.portal_model.specs.declared.reply.Refused.TheVariants.{Memory, Full}
 use Rattle.portal_model.specs.declared.request.Request.{Request}
 use Rattle.portal_model.specs.Alike.{Alike}
-use Rattle.portal_model.specs.History.{cost, cost_of, run}
-use Rattle.portal_model.specs.Seated.{BeginsWith, Exchange, HasCause, Moved, Seated, exchange, exchanges, rises_by}
+use Rattle.portal_model.specs.History.{cost, run}
+use Rattle.portal_model.specs.Seated.{Exchange, HasCause, Seated, exchange, exchanges, rises_by}
 use Rattle.portal_model.specs.State.{State}
 use Rattle.portal_model.specs.Step.{after, reply_at}
 use Rattle.portal_model.proofs.Histories.{run-append}
 use Rattle.portal_model.proofs.SeatLaws.{exchanges-append}
 use Rattle.session.specs.Answers.{Denied, Made, Outcome, denied, kept}
 use Rattle.session.specs.Ledger.{AreAlike, AreCaused, Grew, IsCaused}
-use Rattle.front_core.specs.Asking.{AreRefusedIn, Book, Grown, IsRefusedIn, Went, book}
+use Rattle.front_core.specs.Asking.{AreRefusedIn, Grown, IsRefusedIn, Went, book}
 
 abbrev IsOwn : ℕ → Entry → Type 0
 IsOwn seat e = e.seat ≡ seat

@@ -1,23 +1,22 @@
 -- What the other calls of a session do at the seat of a link: its begin, a push and its end.
-use Rattle.std.proofs.Common.{◌≡◌, inl, inr, ℕ, ◌<◌, List, [], ◌∷◌, ◌++◌, Option, Some, Result, Ok, Err, refl, sym, ap, ◌∙◌, subst, arith}
-use Rattle.std.specs.Prelude.{◌⊎◌, OnErr, IfOk}
+use Rattle.std.proofs.Common.{◌≡◌, inl, inr, ℕ, ◌<◌, List, [], ◌∷◌, Some, Result, Ok, Err, refl, sym, ap, ◌∙◌, subst, arith}
+use Rattle.std.specs.Prelude.{OnErr, IfOk}
 use Rattle.portal_core.specs.Lending.{GoesOn, seated_at}
 use Rattle.portal_model.specs.declared.entry.Entry.{Entry}
 use Rattle.portal_model.specs.declared.reply.Refused.{Refused}
-use Rattle.portal_model.specs.declared.reply.Refused.TheVariants as refused
 use Rattle.portal_model.specs.declared.request.Request.{Request}
-use Rattle.portal_model.specs.Seated.{Asks, Exchange, Seated, rises_by}
+use Rattle.portal_model.specs.Seated.{Seated, rises_by}
 use Rattle.portal_model.specs.State.{State}
 use Rattle.session.specs.declared.act.Client.{Client}
 use Rattle.session.specs.declared.served.Fed.{Fed}
 use Rattle.session.specs.declared.served.Fed.TheVariants as fed
 use Rattle.session.specs.declared.served.Served.{Served}
-use Rattle.session.specs.Answers.{Denied, IsOf, Made, Outcome, signals_for, spoken}
+use Rattle.session.specs.Answers.{Denied, IsOf, Made, Outcome}
 use Rattle.session.specs.Items.{joined}
 use Rattle.session.specs.Ledger.{Grew, World, world}
-use Rattle.session.specs.Pushes.{Pushes, Tells, Told}
+use Rattle.session.specs.Pushes.{Pushes, Told}
 use Rattle.session.specs.Sessions.{Closes, Opens}
-use Rattle.session.specs.Standings.{Standing, fresh}
+use Rattle.session.specs.Standings.{Standing}
 use Rattle.session.proofs.Grew.{asked_err, asked_ok, grew_none}
 use Rattle.front_core.specs.Asking.{Asked, Book, Went, book}
 use Rattle.front_core.specs.Seats.{Begins, Left, Pushed, PushedOnly}

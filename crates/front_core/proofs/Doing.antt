@@ -2,11 +2,9 @@
 use Prim.Native.Nat.{zero}
 use Rattle.std.proofs.Common.{◌≡◌, ◌≢◌, inl, inr, ℕ, suc, ◌+◌, ◌-◌, ◌≤◌, List, [], ◌∷◌, ◌++◌, length, Option, Some, None, Bool, true, false, refl, sym, ap, ◌∙◌, subst, add-one, arith}
 use Rattle.std.specs.Prelude.{◌⊎◌, IsTrue}
-use Rattle.std.proofs.lemmas.List.{append-nil}
 use Rattle.portal_base.specs.declared.limits.Settings.{Settings}
 use Rattle.portal_base.specs.declared.who.Kind.{Kind}
 use Rattle.portal_base.specs.declared.who.Who.{Who}
-use Rattle.portal_model.specs.declared.entry.Entry.{Entry}
 use Rattle.portal_model.specs.declared.reply.Refused.{Refused}
 use Rattle.portal_model.specs.declared.request.Request.{Request}
 use Rattle.portal_model.specs.Seated.{BeginsWith}
@@ -14,7 +12,7 @@ use Rattle.portal_model.specs.State.{State}
 use Rattle.portal_model.proofs.SeatLaws.{begins-itself, begins-through}
 use Rattle.session.specs.declared.act.Client.{Client}
 use Rattle.session.specs.declared.served.Fed.{Fed}
-use Rattle.session.specs.Answers.{AreOf, Denied, Made, Outcome, signals_for, spoken}
+use Rattle.session.specs.Answers.{Denied, Made, Outcome, signals_for, spoken}
 use Rattle.session.specs.Connections.{served_by}
 use Rattle.session.specs.Items.{joined}
 use Rattle.session.specs.Sessions.{ending_at}
@@ -32,11 +30,11 @@ use Rattle.front_core.specs.Asking.{AreRefusedIn, Asked, Book, Went}
 use Rattle.front_core.specs.Breaking.{BreaksOff, CameStops, Stops, WakeStops}
 use Rattle.front_core.specs.Closing.{closing, leaving, staying}
 use Rattle.front_core.specs.Cores.{Done, Hall, Stopped, front_in}
-use Rattle.front_core.specs.Doing.{Answered, CameDoes, Comes, EndedDoes, Enters, FailedDoes, Leaves, OpenedDoes, Passes, TookDoes}
+use Rattle.front_core.specs.Doing.{Answered, CameDoes, EndedDoes, FailedDoes, Leaves, OpenedDoes, Passes, TookDoes}
 use Rattle.front_core.specs.Fronts.{Front, link_with, links_of, placed, state_of}
 use Rattle.front_core.specs.Hearing.{HearsAs, HearsFirst}
-use Rattle.front_core.specs.Seats.{Begins, Heard, HeardFirst, Left, Pushed, PushedOnly, Settles}
-use Rattle.front_core.specs.Waking.{Tells, TellsIf, WakeDoes, WakesBelow, is_due}
+use Rattle.front_core.specs.Seats.{Begins, Heard, HeardFirst, Left, Pushed, Settles}
+use Rattle.front_core.specs.Waking.{TellsIf, WakeDoes, WakesBelow, is_due}
 use Rattle.front_core.proofs.Growing.{asked_nothing, counted_joined, grown-begins, refused_joined, went_nowhere, went_on}
 use Rattle.front_core.proofs.LinkTable.{emptied, none_beyond, put_back}
 

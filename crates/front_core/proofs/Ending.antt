@@ -29,7 +29,7 @@ use Rattle.front_end.specs.declared.input.FrontOutput.TheVariants.{Write}
 use Rattle.front_end.specs.declared.input.FrontStep.{FrontStep}
 use Rattle.front_core.specs.declared.link.Link.{Link}
 use Rattle.front_core.specs.declared.seats.Begun.TheVariants as begun
-use Rattle.front_core.specs.Asking.{Asked, Book}
+use Rattle.front_core.specs.Asking.{Book}
 use Rattle.front_core.specs.Closing.{closes, closing, ended_by, most_pending, writes}
 use Rattle.front_core.specs.Breaking.{BreaksOff, CameStops, Stops, WakeStops}
 use Rattle.front_core.specs.Cores.{Agrees, Done, Ends, Hall, Stands, StepEnds, StepsAs, Stopped, binding, front_in}

@@ -1,14 +1,13 @@
 -- What comes at one seat, one part after another.
-use Rattle.std.proofs.Common.{◌≡◌, ℕ, ◌+◌, ◌≤◌, List, [], ◌∷◌, ◌++◌, Result, Ok, Err, refl, sym, ap, ◌∙◌, subst, arith}
+use Rattle.std.proofs.Common.{◌≡◌, ℕ, List, [], ◌∷◌, ◌++◌, Result, Ok, Err, refl, sym, ap, ◌∙◌, subst, arith}
 use Rattle.std.specs.Prelude.{OnErr}
-use Rattle.std.proofs.lemmas.List.{append-nil, append_assoc}
 use Rattle.portal_model.specs.declared.entry.Entry.{Entry}
 use Rattle.portal_model.specs.declared.reply.Refused.{Refused}
 use Rattle.portal_model.specs.declared.request.Request.{Request}
 use Rattle.portal_model.specs.Seated.{BeginsWith, rises_by}
 use Rattle.portal_model.specs.State.{State}
 use Rattle.portal_model.proofs.SeatLaws.{begins-itself, begins-joined, begins-through}
-use Rattle.session.specs.Answers.{AreOf, Denied, Made, Outcome, denied}
+use Rattle.session.specs.Answers.{Denied, Made, Outcome, denied}
 use Rattle.session.proofs.AnswersAsked.{of-append}
 use Rattle.session.proofs.Grew.{denied-append, rises_rises}
 use Rattle.front_core.specs.Asking.{AreRefusedIn, Asked, Book, Grown, IsRefusedIn, Went}

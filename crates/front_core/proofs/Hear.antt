@@ -2,7 +2,6 @@
 use Rattle.std.proofs.Common.{◌≡◌, inl, inr, true, false, ℕ, ◌+◌, ◌<◌, take, get_or, List, [], ◌∷◌, ◌++◌, length, Some, refl, sym, ap, ◌∙◌, subst}
 use Rattle.std.specs.Prelude.{◌⊎◌}
 use Rattle.std.proofs.lemmas.List.{append-nil, append_assoc, take_more}
-use Rattle.portal_base.specs.Outside.{onto}
 use Rattle.portal_core.specs.Lending.{GoesOn, seated_at}
 use Rattle.portal_model.specs.declared.entry.Entry.{Entry}
 use Rattle.portal_model.specs.declared.request.Request.{Request}
@@ -18,16 +17,15 @@ use Rattle.session.specs.declared.served.Served.{Served}
 use Rattle.session.specs.declared.served.Served.TheVariants as served
 use Rattle.session.specs.Answers.{AreOf, Outcome}
 use Rattle.session.specs.Asked.{asked_by, requests_of}
-use Rattle.session.specs.Items.{AreItems, Items, Remains, joined, phase_after}
-use Rattle.session.specs.Ledger.{Began, Broke, BrokeUnsaid, Grew, World, world}
-use Rattle.session.specs.Pushes.{with_fed}
+use Rattle.session.specs.Items.{AreItems, Remains, joined, phase_after}
+use Rattle.session.specs.Ledger.{Began, Broke, Grew, World, world}
 use Rattle.session.specs.Sessions.{Feeds, FeedsNot, FeedsOpen, FeedsOver, TakesUpTo, fed_of}
 use Rattle.session.specs.Standings.{Standing}
 use Rattle.session.proofs.AnswersAsked.{asked_go, of-append}
 use Rattle.session.proofs.DidItems.{items-append, joined-append}
 use Rattle.session.proofs.Grew.{grew_none, grew_on}
-use Rattle.front_core.specs.Asking.{Asked, Book, Went, book}
-use Rattle.front_core.specs.Hearing.{Hears, HearsAs, HearsFirst, HearsItems}
+use Rattle.front_core.specs.Asking.{Went, book}
+use Rattle.front_core.specs.Hearing.{Hears}
 use Rattle.front_core.specs.Seats.{Heard, HeardFirst, is_heard}
 use Rattle.front_core.proofs.AskedAlone.{went_of}
 

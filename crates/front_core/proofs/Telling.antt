@@ -1,15 +1,12 @@
 -- Who waits for a wake, and whom one tells.
-use Prim.Native.Nat.{zero}
-use Rattle.std.proofs.Common.{◌≡◌, ◌≢◌, inl, inr, ℕ, suc, ◌+◌, ◌<◌, ◌≤◌, List, [], ◌&&◌, length, Option, Some, None, Bool, true, false, refl, sym, ap, ◌∙◌, subst, arith}
+use Rattle.std.proofs.Common.{◌≡◌, inl, inr, ℕ, ◌+◌, ◌<◌, ◌≤◌, List, [], ◌&&◌, length, Option, Some, None, Bool, true, false, refl, sym, ap, ◌∙◌, subst, arith}
 use Rattle.std.specs.Prelude.{◌⊎◌, IfSome, IsTrue}
 use Rattle.std.proofs.lemmas.Bool.{cases_lt}
 use Rattle.portal_base.specs.declared.who.Who.{Who}
 use Rattle.portal_core.specs.Waiting.{is_waiting}
 use Rattle.portal_model.specs.State.{State}
-use Rattle.session.specs.Answers.{Outcome}
 use Rattle.session.specs.Asked.{is_host}
 use Rattle.session.specs.Pushes.{is_ready}
-use Rattle.front_end.specs.declared.input.FrontOutput.{FrontOutput}
 use Rattle.front_core.specs.declared.link.Link.{Link}
 use Rattle.front_core.specs.Cores.{Done, Hall, IsSound, front_in}
 use Rattle.front_core.specs.Fronts.{Front, links_of, state_of}

@@ -1,6 +1,6 @@
 -- FrontOut: what a front gives, as a fold over its inputs. It is given which requests were refused,
 -- and what was given to the entries of the others (the outcomes).
-use Rattle.std.specs.Prelude.{◌≡◌, ◌⊎◌, ℕ, List, [], ◌∷◌, ◌++◌}
+use Rattle.std.specs.Prelude.{◌≡◌, ◌⊎◌, List, [], ◌∷◌, ◌++◌}
 use Rattle.portal_base.specs.declared.limits.Settings.{Settings}
 use Rattle.session.specs.Answers.{Outcome}
 use Rattle.session.specs.Standings.{client}

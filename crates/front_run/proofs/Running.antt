@@ -1,8 +1,7 @@
 -- Inputs that are served, one after another.
-use Rattle.std.proofs.Common.{◌≡◌, inl, inr, ℕ, List, [], ◌∷◌, ◌++◌, map, Option, Some, None, refl, sym, ap, ◌∙◌, subst}
-use Rattle.std.proofs.lemmas.List.{append-nil, append_assoc, map-append}
+use Rattle.std.proofs.Common.{◌≡◌, List, [], ◌∷◌, ◌++◌, Option, Some, None, refl, sym, ap, ◌∙◌, subst}
+use Rattle.std.proofs.lemmas.List.{append-nil, append_assoc}
 use Rattle.portal_base.specs.declared.limits.Settings.{Settings}
-use Rattle.portal_model.specs.declared.entry.Entry.{Entry}
 use Rattle.portal_model.specs.State.{State}
 use Rattle.portal_model.proofs.SeatLaws.{begins-itself, begins-through}
 use Rattle.session.specs.Answers.{Outcome}
@@ -14,7 +13,7 @@ use Rattle.front_core.specs.FrontOuts.{FrontOut, Turn}
 use Rattle.front_core.specs.Fronts.{Front}
 use Rattle.front_core.proofs.Growing.{counted_joined, refused_joined, went_nowhere}
 use Rattle.front_end.specs.declared.end.FrontEvent.{FrontEvent}
-use Rattle.front_end.specs.declared.end.FrontEvent.TheVariants.{Gave, Took}
+use Rattle.front_end.specs.declared.end.FrontEvent.TheVariants.{Took}
 use Rattle.front_end.specs.Ends.{EndIs, Talk, Talked, events_of, given_events, logged, talk}
 use Rattle.front_run.specs.Runs.{Counted, HaltsAt, RunsShort, RunsThrough, ServesInput}
 use Rattle.front_run.specs.declared.run.FrontStatus.{FrontStatus}

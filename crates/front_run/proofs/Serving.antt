@@ -1,19 +1,18 @@
 -- What one input comes to, with its wake.
-use Rattle.std.proofs.Common.{◌≡◌, inl, inr, ℕ, ◌≤◌, length, arith, List, [], ◌∷◌, ◌++◌, map, Option, Some, None, Result, Ok, Err, Bool, true, false, refl, sym, ap, ◌∙◌, subst}
+use Rattle.std.proofs.Common.{◌≡◌, inl, inr, ℕ, ◌≤◌, length, arith, List, [], ◌∷◌, ◌++◌, Option, Some, None, Result, Ok, Err, Bool, true, false, refl, sym, ap, ◌∙◌, subst}
 use Rattle.std.specs.Prelude.{IfSome, IsErrAnd, IsTrue}
 use Rattle.std.proofs.lemmas.List.{append-nil, append_assoc, map-append}
 use Rattle.portal_base.specs.Outside.{HasRisen}
 use Rattle.portal_base.specs.declared.limits.Settings.{Settings}
 use Rattle.portal_model.specs.Seated.{BeginsWith}
 use Rattle.portal_model.proofs.SeatLaws.{begins-through}
-use Rattle.session.specs.Answers.{Outcome}
 use Rattle.front_end.specs.declared.input.FrontInput.{FrontInput}
 use Rattle.front_end.specs.declared.input.FrontInput.TheVariants.{Wake}
 use Rattle.front_end.specs.declared.input.FrontOutput.{FrontOutput}
 use Rattle.front_end.specs.declared.input.FrontStep.{FrontStep}
 use Rattle.front_core.specs.Asking.{Book}
 use Rattle.front_core.specs.Breaking.{BreaksOff}
-use Rattle.front_core.specs.Cores.{Done, Hall, StepEnds, Steps, StepsAs, Stopped, front_in}
+use Rattle.front_core.specs.Cores.{Done, Hall, Steps, StepsAs, Stopped, front_in}
 use Rattle.front_core.specs.FrontOuts.{Does, Turn}
 use Rattle.front_core.specs.Fronts.{Front}
 use Rattle.front_core.specs.Waking.{Waits}
@@ -24,7 +23,7 @@ use Rattle.front_end.specs.declared.end.NextInput.TheVariants as next
 use Rattle.front_run.specs.declared.run.FrontStatus.{FrontStatus}
 use Rattle.front_run.specs.declared.run.FrontStatus.TheVariants as status
 use Rattle.front_end.specs.Ends.{EndIs, NextCounts, Nexts, Talk, Talked, events_of, given_events, logged, talk}
-use Rattle.front_run.specs.Runs.{AreFirst, AreGiven, Counted, HaltCounts, HaltsAt, InputEnds, RunsAs, RunsShort, RunsThrough, ServesInput}
+use Rattle.front_run.specs.Runs.{AreFirst, AreGiven, Counted, HaltCounts, HaltsAt, InputEnds, RunsAs, RunsThrough, ServesInput}
 use Rattle.front_run.proofs.Running.{TakesInput, counted_nothing, counted_on, talked_nothing, through_halts, through_more}
 
 -- ---- what is told
@@ -67,9 +66,9 @@ counted_stopped s c d input x = record {
 
 -- ---- a step of a core that wanted no memory yet
 
-pub step_ok : {E : Type 0} (s : Settings) (spent : Bool) (c : Hall) (input : FrontInput) (step : FrontStep) (after : Bool) (d : Hall) → spent ≡ false → StepsAs {E = E} spent s c input (Ok step) after d → (after ≡ false) × Steps s c input step d
-step_ok s true c input step after d is x = absurd (cc)
-step_ok s false c input step after d is x = x
+pub step_ok : (E : Type 0) (s : Settings) (spent : Bool) (c : Hall) (input : FrontInput) (step : FrontStep) (after : Bool) (d : Hall) → spent ≡ false → StepsAs {E = E} spent s c input (Ok step) after d → (after ≡ false) × Steps s c input step d
+step_ok E s true c input step after d is x = absurd (cc)
+step_ok E s false c input step after d is x = x
 
 pub step_err : {E : Type 0} (s : Settings) (spent : Bool) (c : Hall) (input : FrontInput) (error : E) (after : Bool) (d : Hall) → spent ≡ false → StepsAs spent s c input (Err error) after d → Stopped (BreaksOff s (front_in c) input) c d
 step_err s true c input error after d is x = absurd (cc)
@@ -177,10 +176,10 @@ counts_on status.EndFault e f g a b h = subst (λ (n : ℕ). (g.ends ≡ n) × (
 counts_on status.Memory e f g a b h = (h.0 ∙ a, h.1 ∙ b)
 
 -- the outputs of the input were given in part
-pub input_faulted : {X : Type 0} (s : Settings) (c d : Hall) (input : FrontInput) (out : List FrontOutput) (why : FrontStatus) (e f : EndIs) → Done (Does s (front_in c) input) c out d → AreGiven {X = X} out e (Err why) f → HaltsAt why s c input e.told f.told d.book × HaltCounts why e f
-input_faulted s c d input out status.Closed e f x g = absurd g
-input_faulted s c d input out status.EndFault e f x g = (faulted_first s c d input out g.0 e.told f.told x g.1 g.2, g.3)
-input_faulted s c d input out status.Memory e f x g = absurd g
+pub input_faulted : (X : Type 0) (s : Settings) (c d : Hall) (input : FrontInput) (out : List FrontOutput) (why : FrontStatus) (e f : EndIs) → Done (Does s (front_in c) input) c out d → AreGiven {X = X} out e (Err why) f → HaltsAt why s c input e.told f.told d.book × HaltCounts why e f
+input_faulted X s c d input out status.Closed e f x g = absurd g
+input_faulted X s c d input out status.EndFault e f x g = (faulted_first s c d input out g.0 e.told f.told x g.1 g.2, g.3)
+input_faulted X s c d input out status.Memory e f x g = absurd g
 
 -- those of the wake were given, or in part
 pub wake_ends : {X : Type 0} (s : Settings) (c m d : Hall) (input : FrontInput) (step : FrontStep) (out : List FrontOutput) (r : Result X FrontStatus) (e f g : EndIs) → Steps s c input step m → step.wake ≡ true → Done (Does s (front_in m) Wake) m out d
@@ -288,16 +287,16 @@ through_begun s a k e is = record {
 }
 
 -- one input more was served
-pub run_goes_on : {X : Type 0} (s t : Settings) (a : Front) (v : Book) (e f g h : EndIs) (c d : Hall) (i : FrontInput) (done : X) → t ≡ s → RunsThrough s a v e f (front_in c) c.book → Nexts f.told (next.Input i) g.told → InputEnds {X = X} t c i g (Ok done) h d → RunsThrough s a v e h (front_in d) d.book
-run_goes_on s t a v e f g h c d i done same r n x =
+pub run_goes_on : (X : Type 0) (s t : Settings) (a : Front) (v : Book) (e f g h : EndIs) (c d : Hall) (i : FrontInput) (done : X) → t ≡ s → RunsThrough s a v e f (front_in c) c.book → Nexts f.told (next.Input i) g.told → InputEnds {X = X} t c i g (Ok done) h d → RunsThrough s a v e h (front_in d) d.book
+run_goes_on X s t a v e f g h c d i done same r n x =
     through_more s a v e f g h c d i r (takes f.told i g.told n) (subst (λ (z : Settings). ServesInput z c i g.told h.told d) same x.0)
 
 -- or not
-pub run_stops : {X : Type 0} (s t : Settings) (a : Front) (v : Book) (e f g h : EndIs) (c d : Hall) (i : FrontInput) (why : FrontStatus) → t ≡ s → RunsThrough s a v e f (front_in c) c.book → f.ends ≡ e.ends → f.faults ≡ e.faults → Nexts f.told (next.Input i) g.told → NextCounts f.ends f.faults (next.Input i) g.ends g.faults
+pub run_stops : (X : Type 0) (s t : Settings) (a : Front) (v : Book) (e f g h : EndIs) (c d : Hall) (i : FrontInput) (why : FrontStatus) → t ≡ s → RunsThrough s a v e f (front_in c) c.book → f.ends ≡ e.ends → f.faults ≡ e.faults → Nexts f.told (next.Input i) g.told → NextCounts f.ends f.faults (next.Input i) g.ends g.faults
     → InputEnds {X = X} t c i g (Err why) h d → RunsAs why s a v e h d.book
-run_stops s t a v e f g h c d i why same r ends faults n counts x =
+run_stops X s t a v e f g h c d i why same r ends faults n counts x =
     runs_short why s a v e f g h c d.book i r ends faults n counts.0 counts.1 (subst (λ (z : Settings). HaltsAt why z c i g.told h.told d.book) same x.0) x.1
 
 -- and the history went on
-pub stops_begin : {X : Type 0} (t : Settings) (v : Book) (g h : EndIs) (c d : Hall) (i : FrontInput) (why : FrontStatus) → c.book.opening ≡ v.opening → BeginsWith c.book.history v.history → InputEnds {X = X} t c i g (Err why) h d → (d.book.opening ≡ v.opening) × BeginsWith d.book.history v.history
-stops_begin t v g h c d i why opening begins x = (x.0.book.opening ∙ opening, begins-through d.book.history c.book.history v.history x.0.book.begins begins)
+pub stops_begin : (X : Type 0) (t : Settings) (v : Book) (g h : EndIs) (c d : Hall) (i : FrontInput) (why : FrontStatus) → c.book.opening ≡ v.opening → BeginsWith c.book.history v.history → InputEnds {X = X} t c i g (Err why) h d → (d.book.opening ≡ v.opening) × BeginsWith d.book.history v.history
+stops_begin X t v g h c d i why opening begins x = (x.0.book.opening ∙ opening, begins-through d.book.history c.book.history v.history x.0.book.begins begins)

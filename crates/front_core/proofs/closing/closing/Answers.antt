@@ -1,5 +1,4 @@
 use Rattle.std.proofs.Common.{arith}
-use Rattle.std.proofs.lemmas.Bool.Decides.{nat_tests}
 use Rattle.front_core.proofs.Ending.{goes_by, is_slow}
 use Rattle.front_core.proofs.closing.closing.Goals as goal
 

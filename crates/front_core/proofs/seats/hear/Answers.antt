@@ -1,4 +1,4 @@
-use Rattle.std.proofs.Common.{◌≡◌, ◌∙◌, [], List, ℕ, true, false, refl, ap}
+use Rattle.std.proofs.Common.{◌≡◌, ◌∙◌, [], true, false, refl, ap}
 use Rattle.portal_base.specs.Devices.{SinkState}
 use Rattle.session.specs.Items.{joined}
 use Rattle.front_core.specs.Seats.{is_heard}

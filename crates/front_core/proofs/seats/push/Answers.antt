@@ -1,11 +1,7 @@
-use Rattle.std.proofs.Common.{◌≡◌, ◌∙◌, [], List, ℕ, Some, refl, ap, subst}
-use Rattle.std.specs.Prelude.{IfOk}
+use Rattle.std.proofs.Common.{◌≡◌, [], Some, refl, ap}
 use Rattle.portal_base.specs.Devices.{SinkState}
 use Rattle.portal_core.specs.Lending.{seated_at}
-use Rattle.session.specs.declared.served.Fed.TheVariants as fed
-use Rattle.session.specs.Items.{joined}
 use Rattle.session.specs.Ledger.{world}
-use Rattle.session.specs.Pushes.{Pushes}
 use Rattle.front_core.proofs.Calls.{pushes_joined, pushes_lost, unpushed}
 use Rattle.front_core.proofs.seats.push.Goals as goal
 

@@ -1,10 +1,8 @@
-use Rattle.std.proofs.Common.{◌≡◌, ◌∙◌, Option, Some, None, [], ap, sym, refl}
+use Rattle.std.proofs.Common.{◌≡◌, ◌∙◌, Some, None, ap, sym}
 use Rattle.session.specs.declared.act.Client.{Client}
 use Rattle.session.specs.Asked.{is_host}
-use Rattle.session.specs.declared.served.Fed.TheVariants as fed
-use Rattle.front_core.specs.declared.link.Link.{Link}
 use Rattle.front_core.specs.Asking.{book}
-use Rattle.front_core.specs.Cores.{IsSound, front_in, hall}
+use Rattle.front_core.specs.Cores.{front_in, hall}
 use Rattle.front_core.specs.Doing.{CameDoes}
 use Rattle.front_core.specs.Fronts.{links_of}
 use Rattle.front_core.proofs.Agree.{bound_of, sound_of}

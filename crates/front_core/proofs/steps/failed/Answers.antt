@@ -1,17 +1,13 @@
-use Rattle.std.proofs.Common.{◌≡◌, ◌∙◌, ◌++◌, ◌∷◌, ◌+◌, ◌-◌, ℕ, List, Option, Some, None, [], length, ap, sym, refl, subst, arith}
-use Rattle.session.specs.declared.served.Fed.{Fed}
-use Rattle.session.specs.declared.served.Served.{Served}
-use Rattle.session.specs.Sessions.{ending, ending_at}
+use Rattle.std.proofs.Common.{◌≡◌, ◌∙◌, ◌++◌, ◌∷◌, List, Some, None, [], ap, sym, refl}
 use Rattle.front_end.specs.declared.input.FrontEnding.TheVariants as because
 use Rattle.front_end.specs.declared.input.FrontOutput.{FrontOutput}
 use Rattle.front_end.specs.declared.input.FrontOutput.TheVariants.{Close}
-use Rattle.front_core.specs.declared.link.Link.{Link}
 use Rattle.front_core.specs.Cores.{front_in, hall}
 use Rattle.front_core.specs.Doing.{FailedDoes}
-use Rattle.front_core.specs.Fronts.{link_with, links_of, placed}
+use Rattle.front_core.specs.Fronts.{links_of}
 use Rattle.front_core.proofs.Agree.{bound_of, sound_of}
 use Rattle.front_core.proofs.Doing.{failed_done, nothing_stopped}
-use Rattle.front_core.proofs.Ending.{from_one, given_none, given_one, link_is, nothing_open, stopped_ends}
+use Rattle.front_core.proofs.Ending.{from_one, given_none, given_one, nothing_open, stopped_ends}
 use Rattle.front_core.proofs.steps.failed.Goals as goal
 
 pub returns-in_default : goal.returns-in_default

@@ -1,6 +1,5 @@
-use Rattle.std.proofs.Common.{◌∙◌, Option, sym, ap}
+use Rattle.std.proofs.Common.{◌∙◌, sym, ap}
 use Rattle.std.specs.Prelude.{option_copied}
-use Rattle.front_core.specs.declared.link.Link.{Link}
 use Rattle.front_core.specs.Fronts.{is_free}
 use Rattle.front_core.proofs.steps.is_free.Goals as goal
 

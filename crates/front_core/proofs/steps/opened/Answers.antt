@@ -1,4 +1,4 @@
-use Rattle.std.proofs.Common.{◌≡◌, ◌≢◌, None, Option, Some, false, true, ap, sym, ◌∙◌}
+use Rattle.std.proofs.Common.{◌≡◌, Some, false, true, ap, ◌∙◌}
 use Rattle.session.specs.declared.act.Client.{Client}
 use Rattle.session.specs.Standings.{Standing, client}
 use Rattle.front_core.specs.declared.link.Link.{Link}

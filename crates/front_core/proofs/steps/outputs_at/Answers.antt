@@ -1,4 +1,4 @@
-use Rattle.std.proofs.Common.{◌≡◌, ◌∙◌, ◌++◌, ◌∷◌, [], List, Option, ap, sym}
+use Rattle.std.proofs.Common.{◌∙◌, ◌++◌, ◌∷◌, [], List, Option, ap, sym}
 use Rattle.std.proofs.lemmas.List.{append-nil}
 use Rattle.front_end.specs.declared.input.FrontEnding.{FrontEnding}
 use Rattle.front_end.specs.declared.input.FrontOutput.{FrontOutput}

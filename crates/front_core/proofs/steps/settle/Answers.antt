@@ -1,7 +1,6 @@
-use Rattle.std.proofs.Common.{◌≡◌, ◌∙◌, ◌+◌, ℕ, Option, Some, None, length, ap, sym, refl, arith}
+use Rattle.std.proofs.Common.{◌≡◌, ◌∙◌, ◌+◌, length, sym, refl, arith}
 use Rattle.front_core.specs.Asking.{book}
 use Rattle.front_core.specs.Cores.{hall}
-use Rattle.front_core.specs.Closing.{closing}
 use Rattle.front_core.proofs.Ending.{settles_closed, settles_on, unsettled}
 use Rattle.front_core.proofs.steps.settle.Goals as goal
 

@@ -1,4 +1,4 @@
-use Rattle.std.proofs.Common.{◌≡◌, ◌∙◌, ◌++◌, ◌∷◌, [], List, false, true, ap}
+use Rattle.std.proofs.Common.{◌≡◌, ◌∙◌, ◌++◌, ◌∷◌, [], List, ap}
 use Rattle.front_end.specs.declared.input.FrontOutput.{FrontOutput}
 use Rattle.front_end.specs.declared.input.FrontOutput.TheVariants.{Write}
 use Rattle.front_core.proofs.Ending.{writes_none, writes_some}

@@ -1,9 +1,8 @@
-use Rattle.std.proofs.Common.{◌≡◌, ◌∙◌, Option, Some, None, [], false, true, ap, sym, refl}
+use Rattle.std.proofs.Common.{◌≡◌, ◌∙◌, Some, None, false, true, ap, sym}
 use Rattle.portal_model.specs.History.{run}
 use Rattle.session.specs.declared.served.Fed.TheVariants as fed
 use Rattle.session.specs.Asked.{is_host}
 use Rattle.session.specs.Standings.{Standing}
-use Rattle.front_core.specs.declared.link.Link.{Link}
 use Rattle.front_core.specs.Asking.{book}
 use Rattle.front_core.specs.Cores.{front_in, hall}
 use Rattle.front_core.specs.Fronts.{links_of}

@@ -1,4 +1,4 @@
-use Rattle.std.proofs.Common.{◌≡◌, ◌≤◌, ℕ, length, false, true, arith}
+use Rattle.std.proofs.Common.{◌≡◌, ◌≤◌, length, false, true, arith}
 use Rattle.portal_model.specs.History.{run}
 use Rattle.front_core.specs.Cores.{front_in, hall}
 use Rattle.front_core.proofs.Telling.{none_more, none_waits, waits_here}

@@ -1,4 +1,4 @@
-use Rattle.std.proofs.Common.{◌≡◌, ◌≤◌, ◌+◌, ◌++◌, ◌∙◌, List, [], length, sym, ap, refl, subst, arith}
+use Rattle.std.proofs.Common.{◌≤◌, ◌+◌, List, length, sym, refl, subst, arith}
 use Rattle.front_end.specs.declared.input.FrontOutput.{FrontOutput}
 use Rattle.front_core.specs.Cores.{Done, front_in, hall}
 use Rattle.front_core.specs.Fronts.{links_of, state_of}

@@ -1,7 +1,6 @@
-use Rattle.std.proofs.Common.{◌≡◌, ◌∙◌, ◌++◌, ◌∷◌, [], List, ap, sym, length, append-nil, refl, arith, rules}
-use Rattle.std.specs.Vec.Iter.{into_iter_items, into_iter_len}
-use Rattle.front_end.specs.declared.input.FrontOutput.{FrontOutput}
-use Rattle.front_end.specs.Ends.{end_is, given_events, logged}
+use Rattle.std.proofs.Common.{◌≡◌, ◌∙◌, ◌++◌, ◌∷◌, [], ap, sym, length, refl, arith, rules}
+use Rattle.std.specs.Vec.Iter.{into_iter_items}
+use Rattle.front_end.specs.Ends.{end_is}
 use Rattle.front_run.specs.declared.run.FrontStatus.TheVariants as status
 use Rattle.front_run.proofs.Serving.{all_given, counts_on, logged_nothing, more_given, nothing_left}
 use Rattle.front_run.proofs.run.give_all.Goals as goal

@@ -1,4 +1,4 @@
-use Rattle.std.proofs.Common.{◌≡◌, ◌∙◌, inl, [], sym, refl, ap}
+use Rattle.std.proofs.Common.{inl, [], refl}
 use Rattle.front_end.specs.Ends.{end_is}
 use Rattle.front_core.specs.Asking.{book}
 use Rattle.front_core.specs.Fronts.{front, links_of}

@@ -1,5 +1,4 @@
-use Rattle.std.proofs.Common.{◌≡◌, false, true}
-use Rattle.front_core.specs.Cores.{front_in, hall}
+use Rattle.std.proofs.Common.{◌≡◌, false}
 use Rattle.front_core.proofs.Ending.{spent_again, stands_then, step_is}
 use Rattle.front_core.proofs.front.FrontCore.step.Goals as goal
 

@@ -1,4 +1,4 @@
-use Rattle.std.proofs.Common.{◌≡◌, ◌+◌, ◌≤◌, length, List, ◌++◌, ◌∷◌, [], None, ap, ◌∙◌, arith, length-append}
+use Rattle.std.proofs.Common.{length, ◌∷◌, [], None, ap, ◌∙◌, arith, length-append}
 use Rattle.front_core.specs.Fronts.{links_of}
 use Rattle.front_core.proofs.LinkTable.{grown}
 use Rattle.front_core.proofs.links.Links.reach.Goals as goal
