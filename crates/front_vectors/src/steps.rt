@@ -39,7 +39,7 @@ fn put_stepped(
 ) -> Result<(), VectorError>
     requires { portal.story.history ≡ [] }
 {
-    let Stepped { portal, came } = stepped(alloc, out, portal, settings, line);
+    let Stepped { portal, came } = portal_behind(alloc, out, portal, settings, line);
     put_history(out, portal.history());
     let_go(portal);
     came
@@ -54,7 +54,7 @@ struct Stepped<S> {
 
 /// The portal behind the inputs of a line, of each of which it is told what it gives.
 #[tactic(auto, using(crate::proofs::NotOpen::none_open))]
-fn stepped<S: Signalling>(
+fn portal_behind<S: Signalling>(
     alloc: Global,
     out: &mut Output,
     portal: S,
