@@ -17,10 +17,21 @@ pub(crate) fn make_all<S: Alter>(
     changes: &[RecordChange],
 ) -> Result<(), DatabaseFault> {
     let mut transaction = begin(conn)?;
-    for change in changes {
-        make(alloc, &mut transaction, change)?;
+    match make_each(alloc, &mut transaction, changes) {
+        Ok(()) => Ok(transaction.commit()?),
+        Err(fault) => Err(fault),
     }
-    transaction.commit()?;
+}
+
+/// Makes the changes in a transaction.
+fn make_each<S: Alter>(
+    alloc: Global,
+    transaction: &mut Transaction<'_, S>,
+    changes: &[RecordChange],
+) -> Result<(), DatabaseFault> {
+    for change in changes {
+        make(alloc, transaction, change)?;
+    }
     Ok(())
 }
 

@@ -46,11 +46,18 @@ pub(crate) fn open_database(
 ) -> Result<Connection<FileStore<DatabaseFile>>, DatabaseFault> {
     let alone = ready_file(rt, path)?;
     let opened = connect(rt, path);
-    if let (Err(_), Some(real)) = (&opened, &alone) {
+    if opened.is_err() {
+        forget_log(rt, &alone);
+    }
+    opened
+}
+
+/// Removes the log that SQLite began beside a file that stood alone.
+fn forget_log(rt: &HostRuntime, alone: &Option<PathBuf>) {
+    if let Some(real) = alone {
         // What the database is refused for is told, whatever comes of its log.
         let _ = remove_bare_log(rt, real.as_str());
     }
-    opened
 }
 
 /// Lets SQLite open the database of a path, and makes its tables where there are none.
@@ -70,14 +77,10 @@ fn connected(
     rt: &HostRuntime,
     path: &str,
 ) -> Result<Connection<FileStore<DatabaseFile>>, DatabaseFault> {
+    let options = options(rt)?;
     let files = match sqlite_std_file::open(rt, path, Unknown) {
         Ok(files) => files,
         Err(error) => return Err(unopened(&error)),
-    };
-    let seed = met(RandomState::new(rt))?.hash_one(&0u8);
-    let options = Options {
-        cache_pages: CACHED_PAGES,
-        ..Options::new(seed)
     };
     match Connection::open_files(rt.alloc(), files, options) {
         Ok(mut conn) => {
@@ -86,6 +89,15 @@ fn connected(
         }
         Err((error, _)) => Err(DatabaseFault::from(error)),
     }
+}
+
+/// What SQLite is told of how it works.
+fn options(rt: &HostRuntime) -> Result<Options, DatabaseFault> {
+    let seed = met(RandomState::new(rt))?.hash_one(&0u8);
+    Ok(Options {
+        cache_pages: CACHED_PAGES,
+        ..Options::new(seed)
+    })
 }
 
 /// What is met where SQLite's files aren't opened.
@@ -101,22 +113,28 @@ fn unopened(error: &OpenError) -> DatabaseFault {
 /// Makes sure that a path leads to a file of records, or to an empty one: to which, where it has
 /// records and no log beside it.
 fn ready_file(rt: &HostRuntime, path: &str) -> Result<Option<PathBuf>, DatabaseFault> {
-    let real = match fs::canonicalize(rt, path) {
-        Ok(real) => real,
+    match fs::canonicalize(rt, path) {
+        Ok(real) => {
+            let stands = stands_alone(rt, real.as_str());
+            if stands? { Ok(Some(real)) } else { Ok(None) }
+        }
         Err(error) if error.kind() == ErrorKind::NotFound => {
             make_file(rt, path)?;
-            return Ok(None);
+            Ok(None)
         }
-        Err(error) => return Err(unusable(&error)),
-    };
-    // What SQLite begins of a new file it finds again by the log, which stays then.
-    let has_records = see_file(rt, real.as_str())?;
-    let log = log_beside(rt, real.as_str())?;
-    if has_records && !met(fs::exists(rt, log.as_str()))? {
-        Ok(Some(real))
-    } else {
-        Ok(None)
+        Err(error) => Err(unusable(&error)),
     }
+}
+
+/// Makes sure that a file has records, or is empty: whether it has some, and no log beside it.
+fn stands_alone(rt: &HostRuntime, real: &str) -> Result<bool, DatabaseFault> {
+    // What SQLite begins of a new file it finds again by the log, which stays then.
+    if !see_file(rt, real)? {
+        return Ok(false);
+    }
+    let log = log_beside(rt, real)?;
+    let is_there = met(fs::exists(rt, log.as_str()))?;
+    Ok(!is_there)
 }
 
 /// Where the log of a database stands.
@@ -129,8 +147,14 @@ fn remove_bare_log(rt: &HostRuntime, path: &str) -> Result<(), DatabaseFault> {
     // Nobody else opens the database in the meantime, since the file is locked until it is let go.
     let file = met(fs::open(rt, path))?;
     if is_in_use(&file) {
-        return Ok(());
+        Ok(())
+    } else {
+        remove_if_bare(rt, path)
     }
+}
+
+/// Removes the log of a file that nobody has open, where nothing is committed in it.
+fn remove_if_bare(rt: &HostRuntime, path: &str) -> Result<(), DatabaseFault> {
     let log = log_beside(rt, path)?;
     match fs::symlink_metadata(rt, log.as_str()) {
         Ok(found) if found.is_file() && found.len() < LEAST_LEN => {
@@ -174,12 +198,17 @@ fn see_file(rt: &HostRuntime, path: &str) -> Result<bool, DatabaseFault> {
         return Err(DatabaseFault::Linked);
     }
     let file = met(fs::open(rt, path))?;
-    if is_in_use(&file) {
+    see_content(rt, path, &file)
+}
+
+/// Sees that a file isn't in use, and is empty or one of records: whether it has any.
+fn see_content(rt: &HostRuntime, path: &str, file: &File) -> Result<bool, DatabaseFault> {
+    if is_in_use(file) {
         return Err(DatabaseFault::Sqlite(Error::SqliteFailure(ErrorCode::DatabaseBusy)));
     }
-    if length_of(&file)? == 0 {
+    if length_of(file)? == 0 {
         Ok(false)
-    } else if is_of_records(rt, path, &file)? {
+    } else if is_of_records(rt, path, file)? {
         Ok(true)
     } else {
         Err(DatabaseFault::Foreign)
@@ -212,16 +241,26 @@ fn is_in_use(file: &File) -> bool {
 /// Whether a file that isn't empty has the tables of records, or was left by one who was
 /// about to make them.
 fn is_of_records(rt: &HostRuntime, path: &str, file: &File) -> Result<bool, DatabaseFault> {
-    let alloc = rt.alloc();
-    if let Some(page) = first_page(alloc, file)?
-        && has_tables(page.as_slice())
-    {
+    if lists_tables(rt.alloc(), file)? {
         return Ok(true);
     }
     // What was committed last may stand in the log alone.
-    let Some(log) = Log::beside(rt, path)? else {
-        return Ok(false);
-    };
+    match Log::beside(rt, path)? {
+        Some(log) => is_log_of_records(rt.alloc(), &log, file),
+        None => Ok(false),
+    }
+}
+
+/// Whether the first page of a database lists the tables of records.
+fn lists_tables(alloc: Global, file: &File) -> Result<bool, DatabaseFault> {
+    match first_page(alloc, file)? {
+        Some(page) => Ok(has_tables(page.as_slice())),
+        None => Ok(false),
+    }
+}
+
+/// Whether the log beside a file has the tables of records, or begins a database there.
+fn is_log_of_records(alloc: Global, log: &Log, file: &File) -> Result<bool, DatabaseFault> {
     match log.first_page(alloc)? {
         FirstPage::OfRecords => Ok(true),
         FirstPage::OfOthers => Ok(false),
@@ -231,17 +270,29 @@ fn is_of_records(rt: &HostRuntime, path: &str, file: &File) -> Result<bool, Data
 
 /// The first page of a database, which lists its tables.
 fn first_page(alloc: Global, file: &File) -> Result<Option<Vec<u8>>, DatabaseFault> {
-    let Some(header) = bytes_from(alloc, file, 0, PAGE_SIZE_END)? else {
-        return Ok(None);
-    };
-    if !header.as_slice().starts_with(MAGIC) {
-        return Ok(None);
+    match page_size(alloc, file)? {
+        Some(size) => bytes_from(alloc, file, 0, size),
+        None => Ok(None),
     }
-    let size = match word_at(header.as_slice(), PAGE_SIZE) / 65536 {
-        1 => 65536,
-        size => size as usize,
-    };
-    bytes_from(alloc, file, 0, size)
+}
+
+/// How long a page of a file is, where it is a database.
+fn page_size(alloc: Global, file: &File) -> Result<Option<usize>, DatabaseFault> {
+    match bytes_from(alloc, file, 0, PAGE_SIZE_END)? {
+        Some(header) => Ok(page_size_in(header.as_slice())),
+        None => Ok(None),
+    }
+}
+
+/// How long a page is, where this is how a database begins.
+fn page_size_in(header: &[u8]) -> Option<usize> {
+    if !header.starts_with(MAGIC) {
+        return None;
+    }
+    match word_at(header, PAGE_SIZE) / 65536 {
+        1 => Some(65536),
+        size => Some(size as usize),
+    }
 }
 
 /// The word at an offset, its highest byte first; 0 where there is none.

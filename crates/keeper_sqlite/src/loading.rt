@@ -1,8 +1,8 @@
 //! The tables, made and read.
 
 use portal_base::list::List;
-use portal_model::records::Records;
-use sqlite::{Alter, Connection};
+use portal_model::records::{DocRecord, EntryRecord, Records};
+use sqlite::{Alter, Connection, Transaction};
 use sqlite_tables::calls::begin;
 use sqlite_tables::documents::read_documents;
 use sqlite_tables::earlier::{self, EARLIER_VERSION};
@@ -14,12 +14,20 @@ use std::alloc::Global;
 /// Makes the tables where there are none, in one transaction.
 pub(crate) fn ready_tables<S: Alter>(conn: &mut Connection<S>) -> Result<(), DatabaseFault> {
     let mut transaction = begin(conn)?;
-    if have_tables(&mut transaction)? {
-        return Ok(());
+    match make_missing(&mut transaction) {
+        Ok(true) => Ok(transaction.commit()?),
+        Ok(false) => Ok(()),
+        Err(fault) => Err(fault),
     }
-    add_tables(&mut transaction)?;
-    transaction.commit()?;
-    Ok(())
+}
+
+/// Makes the tables where there are none, and says whether it did.
+fn make_missing<S: Alter>(transaction: &mut Transaction<'_, S>) -> Result<bool, DatabaseFault> {
+    if have_tables(transaction)? {
+        return Ok(false);
+    }
+    add_tables(transaction)?;
+    Ok(true)
 }
 
 /// The records, of version 1 or 2. Where the tables have another version, they are given
@@ -29,23 +37,47 @@ pub(crate) fn read_records<S: Alter>(
     conn: &mut Connection<S>,
 ) -> Result<Records, DatabaseFault> {
     let mut transaction = begin(conn)?;
-    let version = read_version(&mut transaction)?;
-    let (documents, entries) = match version {
-        EARLIER_VERSION => (
-            earlier::read_documents(alloc, &mut transaction)?,
-            earlier::read_entries(alloc, &mut transaction)?,
-        ),
-        TABLES_VERSION => (
-            read_documents(alloc, &mut transaction)?,
-            read_entries(alloc, &mut transaction)?,
-        ),
-        // The tables of another version aren't known. A portal doesn't start then, and says which
-        // version it found.
-        _ => (List::new(alloc), List::new(alloc)),
-    };
+    records_in(alloc, &mut transaction)
+}
+
+/// The same in a transaction.
+fn records_in<S: Alter>(
+    alloc: Global,
+    transaction: &mut Transaction<'_, S>,
+) -> Result<Records, DatabaseFault> {
+    let version = read_version(transaction)?;
+    let documents = documents_in(alloc, transaction, version)?;
     Ok(Records {
         version,
         documents,
-        entries,
+        entries: entries_in(alloc, transaction, version)?,
     })
+}
+
+/// The documents in tables of a version.
+fn documents_in<S: Alter>(
+    alloc: Global,
+    transaction: &mut Transaction<'_, S>,
+    version: u32,
+) -> Result<List<DocRecord>, DatabaseFault> {
+    match version {
+        EARLIER_VERSION => earlier::read_documents(alloc, transaction),
+        TABLES_VERSION => read_documents(alloc, transaction),
+        // The tables of another version aren't known. A portal doesn't start then, and says which
+        // version it found.
+        _ => Ok(List::new(alloc)),
+    }
+}
+
+/// The entries in tables of a version.
+fn entries_in<S: Alter>(
+    alloc: Global,
+    transaction: &mut Transaction<'_, S>,
+    version: u32,
+) -> Result<List<EntryRecord>, DatabaseFault> {
+    match version {
+        EARLIER_VERSION => earlier::read_entries(alloc, transaction),
+        TABLES_VERSION => read_entries(alloc, transaction),
+        _ => Ok(List::new(alloc)),
+    }
 }

@@ -165,29 +165,27 @@ impl<L: Drop, T: HostTree + Drop, K: Drop, W: Drop> Openers<PathListener<L>, T, 
     }
 
     fn open_root(&mut self, _root: &Text, _beside: u64) -> Result<T, ServeEnd> {
-        let why = self.why();
         if self.refuses(Opening::Root) {
-            return Err(ServeEnd::NoRoot { why });
+            return Err(ServeEnd::NoRoot { why: self.why() });
         }
         match self.tree.take() {
             Some(tree) => Ok(tree),
             None => {
                 self.count();
-                Err(ServeEnd::NoRoot { why })
+                Err(ServeEnd::NoRoot { why: self.why() })
             }
         }
     }
 
     fn open_words(&mut self) -> Result<W, ServeEnd> {
-        let why = self.why();
         if self.refuses(Opening::Seed) {
-            return Err(ServeEnd::NoSeed { why });
+            return Err(ServeEnd::NoSeed { why: self.why() });
         }
         match self.words.take() {
             Some(words) => Ok(words),
             None => {
                 self.count();
-                Err(ServeEnd::NoSeed { why })
+                Err(ServeEnd::NoSeed { why: self.why() })
             }
         }
     }
@@ -199,39 +197,45 @@ impl<L: Drop, T: HostTree + Drop, K: Drop, W: Drop> Openers<PathListener<L>, T, 
     fn tell(&self, _words: &ServeWords) {}
 
     fn make_sockets(&mut self, folder: &Text, _sockets: &[Socket]) -> Result<(), ServeEnd> {
-        let why = self.why();
         let path = Text::copied(self.alloc, folder.as_str())?;
         if self.refuses(Opening::Sockets) {
-            return Err(ServeEnd::NoSocket { path, why });
+            return Err(ServeEnd::NoSocket {
+                path,
+                why: self.why(),
+            });
         }
         Ok(())
     }
 
     fn listen(&mut self, socket: &Socket) -> Result<PathListener<L>, ServeEnd> {
-        let why = self.why();
         let path = Text::copied(self.alloc, socket.path.as_str())?;
         if self.refuses(Opening::Listener) {
-            return Err(ServeEnd::NoSocket { path, why });
+            return Err(ServeEnd::NoSocket {
+                path,
+                why: self.why(),
+            });
         }
         match self.listeners.next() {
             Some(listener) => Ok(PathListener { path, listener }),
             None => {
                 self.count();
-                Err(ServeEnd::NoSocket { path, why })
+                Err(ServeEnd::NoSocket {
+                    path,
+                    why: self.why(),
+                })
             }
         }
     }
 
     fn open_store(&mut self, _store: &Text) -> Result<K, ServeEnd> {
-        let why = self.why();
         if self.refuses(Opening::Store) {
-            return Err(ServeEnd::KeeperFault { why });
+            return Err(ServeEnd::KeeperFault { why: self.why() });
         }
         match self.keeper.take() {
             Some(keeper) => Ok(keeper),
             None => {
                 self.count();
-                Err(ServeEnd::KeeperFault { why })
+                Err(ServeEnd::KeeperFault { why: self.why() })
             }
         }
     }
@@ -239,10 +243,12 @@ impl<L: Drop, T: HostTree + Drop, K: Drop, W: Drop> Openers<PathListener<L>, T, 
     fn expect(&mut self, _posts: u64) {}
 
     fn close(&mut self) -> Result<(), ServeEnd> {
-        let why = self.why();
         let path = Text::copied(self.alloc, "the sockets")?;
         if self.refuses(Opening::Close) {
-            return Err(ServeEnd::NoSocket { path, why });
+            return Err(ServeEnd::NoSocket {
+                path,
+                why: self.why(),
+            });
         }
         Ok(())
     }

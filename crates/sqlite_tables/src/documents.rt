@@ -128,24 +128,27 @@ fn in_order(document: DocRecord) -> DocRecord {
 
 impl TakesLines for ReadDocuments {
     fn take(&mut self, alloc: Global, line: &Line) -> Result<(), DatabaseFault> {
+        let place = place_at(line, 0)?;
+        let number = number_at(line, 1)?;
+        let reusable = flag_at(line, 3)?;
+        let strict = flag_at(line, 4)?;
         let record = DocRecord {
-            number: number_at(line, 1)?,
+            number,
             path: bytes_at(alloc, line, 2)?,
-            reusable: flag_at(line, 3)?,
-            strict: flag_at(line, 4)?,
+            reusable,
+            strict,
             grants: List::new(alloc),
         };
-        self.push(place_at(line, 0)?, record)
+        self.push(place, record)
     }
 }
 
 impl<'a> TakesLines for ReadGrants<'a> {
     fn take(&mut self, alloc: Global, line: &Line) -> Result<(), DatabaseFault> {
-        let grant = GrantRecord {
-            app: bytes_at(alloc, line, 1)?,
-            rights: rights_at(line, 2)?,
-        };
-        self.documents.grant(place_at(line, 0)?, grant)
+        let place = place_at(line, 0)?;
+        let rights = rights_at(line, 2)?;
+        let app = bytes_at(alloc, line, 1)?;
+        self.documents.grant(place, GrantRecord { app, rights })
     }
 }
 
@@ -188,17 +191,42 @@ pub fn set_grants<S: Alter>(
     number: u32,
     grants: &[GrantRecord],
 ) -> Result<(), DatabaseFault> {
-    let lines = lines_of(transaction, FIND, params![number])?;
-    let Some(line) = lines.as_slice().first() else {
+    let Some(document) = place_of(transaction, number)? else {
         return Ok(());
     };
-    let document = place_at(line, 0)?;
     let kept = kept_grants(alloc, transaction, document)?;
-    for old in kept.as_slice() {
+    renew_grants(transaction, document, kept.as_slice(), grants)
+}
+
+/// The place of the document of a number, where there is one.
+fn place_of<S: Alter>(
+    transaction: &mut Transaction<'_, S>,
+    number: u32,
+) -> Result<Option<i64>, DatabaseFault> {
+    let lines = lines_of(transaction, FIND, params![number])?;
+    first_place(lines.as_slice())
+}
+
+/// The place in the first of these lines.
+fn first_place(lines: &[Line]) -> Result<Option<i64>, DatabaseFault> {
+    match lines.first() {
+        Some(line) => Ok(Some(place_at(line, 0)?)),
+        None => Ok(None),
+    }
+}
+
+/// The document of a place has these rights given in place of those that are kept.
+fn renew_grants<S: Alter>(
+    transaction: &mut Transaction<'_, S>,
+    document: i64,
+    kept: &[KeptGrant],
+    grants: &[GrantRecord],
+) -> Result<(), DatabaseFault> {
+    for old in kept {
         renew_grant(transaction, old, grants)?;
     }
     for grant in grants {
-        if !is_kept(kept.as_slice(), grant) {
+        if !is_kept(kept, grant) {
             add_grant(transaction, document, grant)?;
         }
     }
@@ -212,15 +240,24 @@ fn kept_grants<S: Alter>(
     document: i64,
 ) -> Result<Vec<KeptGrant>, DatabaseFault> {
     let lines = lines_of(transaction, READ_GRANTS, params![document])?;
+    grants_in(alloc, lines.as_slice())
+}
+
+/// The rights in these lines.
+fn grants_in(alloc: Global, lines: &[Line]) -> Result<Vec<KeptGrant>, DatabaseFault> {
     let mut kept = Vec::new(alloc);
-    for line in lines.as_slice() {
-        kept.push(KeptGrant {
-            place: place_at(line, 0)?,
-            app: bytes_at(alloc, line, 1)?,
-            rights: rights_at(line, 2)?,
-        })?;
+    for line in lines {
+        kept.push(grant_in(alloc, line)?)?;
     }
     Ok(kept)
+}
+
+/// The rights in a line.
+fn grant_in(alloc: Global, line: &Line) -> Result<KeptGrant, DatabaseFault> {
+    let place = place_at(line, 0)?;
+    let rights = rights_at(line, 2)?;
+    let app = bytes_at(alloc, line, 1)?;
+    Ok(KeptGrant { place, app, rights })
 }
 
 /// Changes what an application was given, or removes it, as the new rights say.
@@ -229,17 +266,26 @@ fn renew_grant<S: Alter>(
     old: &KeptGrant,
     grants: &[GrantRecord],
 ) -> Result<(), DatabaseFault> {
-    let app = old.app.as_slice();
-    let Ok(at) = grants.binary_search_by(|grant| grant.app.as_slice().cmp(app)) else {
-        return run(transaction, REMOVE_GRANT, params![old.place]);
-    };
-    match grants.get(at) {
-        Some(grant) if grant.rights != old.rights => {
-            let rights = u32::from(grant.rights);
-            run(transaction, CHANGE_GRANT, params![old.place, rights])
-        }
-        _ => Ok(()),
+    match rights_among(grants, old.app.as_slice()) {
+        None => run(transaction, REMOVE_GRANT, params![old.place]),
+        Some(rights) if rights == old.rights => Ok(()),
+        Some(rights) => change_grant(transaction, old.place, rights),
     }
+}
+
+/// The rights of an application among those given, which are in byte order of names.
+fn rights_among(grants: &[GrantRecord], app: &[u8]) -> Option<u8> {
+    let found = grants.binary_search_by(|grant| grant.app.as_slice().cmp(app));
+    let grant = grants.get(found.ok()?)?;
+    Some(grant.rights)
+}
+
+fn change_grant<S: Alter>(
+    transaction: &mut Transaction<'_, S>,
+    place: i64,
+    rights: u8,
+) -> Result<(), DatabaseFault> {
+    run(transaction, CHANGE_GRANT, params![place, u32::from(rights)])
 }
 
 /// Whether an application has been given rights.

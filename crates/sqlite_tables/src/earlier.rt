@@ -90,15 +90,34 @@ pub fn renew_tables<S: Alter>(
     transaction: &mut Transaction<'_, S>,
 ) -> Result<(), DatabaseFault> {
     let documents = read_documents(alloc, transaction)?;
+    renew_with(alloc, transaction, documents.as_slice())
+}
+
+/// The same with these documents, which were read.
+fn renew_with<S: Alter>(
+    alloc: Global,
+    transaction: &mut Transaction<'_, S>,
+    documents: &[DocRecord],
+) -> Result<(), DatabaseFault> {
     let entries = read_entries(alloc, transaction)?;
+    write_anew(alloc, transaction, documents, entries.as_slice())
+}
+
+/// Removes the tables, and makes those of this version with these records.
+fn write_anew<S: Alter>(
+    alloc: Global,
+    transaction: &mut Transaction<'_, S>,
+    documents: &[DocRecord],
+    entries: &[EntryRecord],
+) -> Result<(), DatabaseFault> {
     for drop in DROPS {
         run(transaction, drop, &[])?;
     }
     add_tables(transaction)?;
-    for document in documents.iter() {
+    for document in documents {
         add_document(transaction, document)?;
     }
-    for entry in entries.iter() {
+    for entry in entries {
         add_entry(alloc, transaction, entry)?;
     }
     Ok(())
@@ -137,24 +156,26 @@ pub fn read_entries<S: Alter>(
 
 impl<'a> TakesLines for EarlierDocuments<'a> {
     fn take(&mut self, alloc: Global, line: &Line) -> Result<(), DatabaseFault> {
+        let place = place_at(line, 0)?;
+        let number = number_at(line, 1)?;
+        let reusable = flag_at(line, 3)?;
         let record = DocRecord {
-            number: number_at(line, 1)?,
+            number,
             path: bytes_at(alloc, line, 2)?,
-            reusable: flag_at(line, 3)?,
+            reusable,
             strict: false,
             grants: List::new(alloc),
         };
-        self.documents.push(place_at(line, 0)?, record)
+        self.documents.push(place, record)
     }
 }
 
 impl<'a> TakesLines for EarlierGrants<'a> {
     fn take(&mut self, alloc: Global, line: &Line) -> Result<(), DatabaseFault> {
-        let grant = GrantRecord {
-            app: bytes_at(alloc, line, 1)?,
-            rights: rights_at(line, 2)?,
-        };
-        self.documents.grant(place_at(line, 0)?, grant)
+        let place = place_at(line, 0)?;
+        let rights = rights_at(line, 2)?;
+        let app = bytes_at(alloc, line, 1)?;
+        self.documents.grant(place, GrantRecord { app, rights })
     }
 }
 

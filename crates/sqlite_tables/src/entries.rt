@@ -173,11 +173,13 @@ impl TakesLines for ReadEntries {
 
 impl<'a> TakesLines for ReadRows<'a> {
     fn take(&mut self, alloc: Global, line: &Line) -> Result<(), DatabaseFault> {
+        let place = place_at(line, 0)?;
+        let names = slice_at(line, 2)?;
         let row = Row {
             app: text_at(line, 1)?,
-            names: names_of_text(alloc, slice_at(line, 2)?)?,
+            names: names_of_text(alloc, names)?,
         };
-        self.entries.push_row(place_at(line, 0)?, row)
+        self.entries.push_row(place, row)
     }
 }
 
@@ -207,13 +209,17 @@ fn kept_entry<S: Alter>(
         FIND,
         params![entry.table.as_str(), entry.id.as_str()],
     )?;
-    match lines.as_slice().first() {
-        Some(line) => Ok(Some(KeptEntry {
-            place: place_at(line, 0)?,
-            has_datum: slice_at(line, 1)? == entry.datum.as_slice(),
-        })),
-        None => Ok(None),
-    }
+    found_in(lines.as_slice(), entry)
+}
+
+/// What the first of these lines has, which is kept of an entry.
+fn found_in(lines: &[Line], entry: &EntryRecord) -> Result<Option<KeptEntry>, DatabaseFault> {
+    let Some(line) = lines.first() else {
+        return Ok(None);
+    };
+    let place = place_at(line, 0)?;
+    let has_datum = slice_at(line, 1)? == entry.datum.as_slice();
+    Ok(Some(KeptEntry { place, has_datum }))
 }
 
 fn set_datum<S: Alter>(

@@ -7,7 +7,7 @@ use crate::names::text_of_names;
 use portal_base::list::ByteList;
 use portal_model::records::Row;
 use sqlite::types::{ToSql, ValueRef};
-use sqlite::{Alter, Transaction, params};
+use sqlite::{Alter, Row as Line, Transaction, params};
 use std::alloc::Global;
 
 const READ: &str =
@@ -51,11 +51,22 @@ pub fn renew_rows<S: Alter>(
     // A change of one application's permissions writes that application's row alone, however many
     // others the entry has.
     let kept = kept_rows(alloc, transaction, entry)?;
-    for old in kept.as_slice() {
+    renew_over(alloc, transaction, entry, kept.as_slice(), rows)
+}
+
+/// The same of an entry that has these rows.
+fn renew_over<S: Alter>(
+    alloc: Global,
+    transaction: &mut Transaction<'_, S>,
+    entry: i64,
+    kept: &[KeptRow],
+    rows: &[Row],
+) -> Result<(), DatabaseFault> {
+    for old in kept {
         renew_row(alloc, transaction, old, rows)?;
     }
     for row in rows {
-        if !is_kept(kept.as_slice(), row) {
+        if !is_kept(kept, row) {
             add_row(alloc, transaction, entry, row)?;
         }
     }
@@ -69,15 +80,24 @@ fn kept_rows<S: Alter>(
     entry: i64,
 ) -> Result<Vec<KeptRow>, DatabaseFault> {
     let lines = lines_of(transaction, READ, params![entry])?;
+    rows_in(alloc, lines.as_slice())
+}
+
+/// The rows of these lines.
+fn rows_in(alloc: Global, lines: &[Line]) -> Result<Vec<KeptRow>, DatabaseFault> {
     let mut kept = Vec::new(alloc);
-    for line in lines.as_slice() {
-        kept.push(KeptRow {
-            place: place_at(line, 0)?,
-            app: bytes_at(alloc, line, 1)?,
-            names: bytes_at(alloc, line, 2)?,
-        })?;
+    for line in lines {
+        kept.push(row_in(alloc, line)?)?;
     }
     Ok(kept)
+}
+
+/// The row of a line.
+fn row_in(alloc: Global, line: &Line) -> Result<KeptRow, DatabaseFault> {
+    let place = place_at(line, 0)?;
+    let app = bytes_at(alloc, line, 1)?;
+    let names = bytes_at(alloc, line, 2)?;
+    Ok(KeptRow { place, app, names })
 }
 
 /// Changes the names of a row that is kept, or removes it, as the new rows say.
