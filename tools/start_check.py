@@ -107,6 +107,9 @@ def idle_and_stopped(see, folder):
     """An idle service takes no processor time, and SIGTERM ends it at once."""
     service = Service(folder, ["org.ed"], "--history", "382")
     service.start()
+    if FRONT:
+        # It begins its history behind the line.
+        time.sleep(0.5)
     before = service.ticks()
     time.sleep(0.5)
     see("ticks of an idle service", service.ticks() - before, 0)
