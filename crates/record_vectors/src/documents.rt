@@ -3,9 +3,10 @@
 ghost use Rattle.std.specs.Prelude.{◌≡◌};
 
 use crate::names::{document_id, path_of, put_found, put_ids};
-use crate::steps::put_steps;
+use crate::steps::{Steps, put_steps};
 use document_records::{Document, Documents};
 use portal_base::limits::Limits;
+use portal_base::names::{DocId, HostPath};
 use std::alloc::Global;
 use vector_lines::error::{VectorError, bad, given};
 use vector_lines::notation::{cut, small_number};
@@ -44,7 +45,7 @@ fn put_all(
     documents: &mut Documents,
     steps: &str,
 ) -> Result<(), VectorError> {
-    put_steps(alloc, out, documents, steps, "; ", put_step)?;
+    put_steps(alloc, out, documents, steps, "; ")?;
     let ids = documents.ids()?;
     out.text("; live");
     put_ids(out, ids.as_slice());
@@ -53,37 +54,32 @@ fn put_all(
 
 /// `remove ID`, `find ID`: the document's path. `reusable FLAGS PATH`, `first PATH`: the number
 /// of a document of the path. `room`: how many may be added. `add` and `try` are those of `add`.
-fn put_step(
-    alloc: Global,
-    out: &mut Output,
-    documents: &mut Documents,
-    step: &str,
-) -> Result<(), VectorError> {
-    let (word, rest) = cut(step);
-    let (first, second) = cut(rest);
-    match word {
-        "add" | "try" => return add(alloc, out, documents, word == "try", first, second),
-        "remove" => {
-            let removed = documents.remove(document_id(first)?);
-            put_path(out, removed.as_ref());
+impl Steps for Documents {
+    fn put_step(&mut self, alloc: Global, out: &mut Output, step: &str) -> Result<(), VectorError> {
+        let (word, rest) = cut(step);
+        let (first, second) = cut(rest);
+        match word {
+            "add" | "try" => return add(alloc, out, self, word == "try", first, second),
+            "remove" => remove(out, self, document_id(first)?),
+            "find" => put_path(out, self.find(document_id(first)?)),
+            "reusable" => put_reusable(out, self, first, &path_of(alloc, second)?),
+            "first" => put_found(out, self.first_of(&path_of(alloc, first)?)),
+            "room" => out.number(self.room()),
+            _ => return bad(),
         }
-        "find" => put_path(out, documents.find(document_id(first)?)),
-        "reusable" => {
-            let path = path_of(alloc, second)?;
-            let (persistent, strict) = (first.contains('p'), first.contains('s'));
-            put_found(
-                out,
-                documents.reusable(&path, persistent, strict, first.contains('f')),
-            );
-        }
-        "first" => {
-            let path = path_of(alloc, first)?;
-            put_found(out, documents.first_of(&path));
-        }
-        "room" => out.number(documents.room()),
-        _ => return bad(),
+        Ok(())
     }
-    Ok(())
+}
+
+fn remove(out: &mut Output, documents: &mut Documents, id: DocId) {
+    let removed = documents.remove(id);
+    put_path(out, removed.as_ref());
+}
+
+fn put_reusable(out: &mut Output, documents: &Documents, flags: &str, path: &HostPath) {
+    let (persistent, strict) = (flags.contains('p'), flags.contains('s'));
+    let found = documents.reusable(path, persistent, strict, flags.contains('f'));
+    put_found(out, found);
 }
 
 /// The path of a document, which may be missing.

@@ -2,7 +2,7 @@
 
 use crate::names::{app_of, document_id, put_ids};
 use crate::rights::{put_rights, rights};
-use crate::steps::put_steps;
+use crate::steps::{Steps, put_steps};
 use document_records::Grants;
 use portal_base::names::AppId;
 use std::alloc::Global;
@@ -14,26 +14,23 @@ use vector_lines::output::Output;
 /// first.
 pub fn grants(alloc: Global, out: &mut Output, rest: &str) -> Result<(), VectorError> {
     let mut grants = Grants::new(alloc);
-    let put = put_steps(alloc, out, &mut grants, rest, "", put_step);
+    let put = put_steps(alloc, out, &mut grants, rest, "");
     drop(grants);
     put
 }
 
 /// `forget ID`, and the steps of an application.
-fn put_step(
-    alloc: Global,
-    out: &mut Output,
-    grants: &mut Grants,
-    step: &str,
-) -> Result<(), VectorError> {
-    let (word, rest) = cut(step);
-    let (first, rest) = cut(rest);
-    if word == "forget" {
-        grants.forget(document_id(first)?);
-        return Ok(());
+impl Steps for Grants {
+    fn put_step(&mut self, alloc: Global, out: &mut Output, step: &str) -> Result<(), VectorError> {
+        let (word, rest) = cut(step);
+        let (first, rest) = cut(rest);
+        if word == "forget" {
+            self.forget(document_id(first)?);
+            return Ok(());
+        }
+        let app = app_of(alloc, first)?;
+        put_step_of(alloc, out, self, word, &app, rest)
     }
-    let app = app_of(alloc, first)?;
-    put_step_of(alloc, out, grants, word, &app, rest)
 }
 
 /// `add APP ID NAME ..`, `remove APP ID NAME ..`, and `rights APP ID` and `documents APP`,

@@ -1,6 +1,6 @@
 //! Lists of numbers, and texts.
 
-use crate::steps::put_steps;
+use crate::steps::{Steps, put_steps};
 use portal_base::list::List;
 use portal_base::text::Text;
 use std::alloc::Global;
@@ -13,36 +13,40 @@ use vector_lines::output::Output;
 /// behind its name.
 pub fn list(alloc: Global, out: &mut Output, rest: &str) -> Result<(), VectorError> {
     let mut list = List::new(alloc);
-    let put = put_steps(alloc, out, &mut list, rest, "", put_step);
+    let put = put_steps(alloc, out, &mut list, rest, "");
     out.debug(&list.as_slice());
     put
 }
 
 /// What a step gives, and a `;` behind that.
-fn put_step(
-    alloc: Global,
-    out: &mut Output,
-    list: &mut List<u64>,
-    step: &str,
-) -> Result<(), VectorError> {
-    let (word, rest) = cut(step);
+impl Steps for List<u64> {
+    fn put_step(&mut self, alloc: Global, out: &mut Output, step: &str) -> Result<(), VectorError> {
+        let (word, rest) = cut(step);
+        match word {
+            "first" | "last" | "greatest" => put_end(out, self, word),
+            "get" => out.debug(&self.get(place(rest)?).copied()),
+            "pop" => out.debug(&self.pop()),
+            "length" => {
+                out.shown(&self.len());
+                out.text(" ");
+                out.shown(&self.is_empty());
+            }
+            "copy" => out.shown(&is_copied(self)?),
+            "remove" => out.number(removed(self, place(rest)?)?),
+            _ => return change(alloc, self, word, rest),
+        }
+        out.text("; ");
+        Ok(())
+    }
+}
+
+/// The first, the last or the greatest number.
+fn put_end(out: &mut Output, list: &List<u64>, word: &str) {
     match word {
         "first" => out.debug(&list.first().copied()),
         "last" => out.debug(&list.last().copied()),
-        "get" => out.debug(&list.get(place(rest)?).copied()),
-        "greatest" => out.debug(&list.iter().copied().max()),
-        "pop" => out.debug(&list.pop()),
-        "length" => {
-            out.shown(&list.len());
-            out.text(" ");
-            out.shown(&list.is_empty());
-        }
-        "copy" => out.shown(&is_copied(list)?),
-        "remove" => out.number(removed(list, place(rest)?)?),
-        _ => return change(alloc, list, word, rest),
+        _ => out.debug(&list.iter().copied().max()),
     }
-    out.text("; ");
-    Ok(())
 }
 
 /// Whether a clone is the same list, and the list of a vector.

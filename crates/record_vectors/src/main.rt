@@ -47,6 +47,18 @@ fn put_answer(alloc: Global, out: &mut Output, line: &str) -> Result<(), VectorE
         "child" => names::child(alloc, out, rest),
         "own" => names::own(alloc, out, rest),
         "document" => names::document(out, rest),
+        _ => put_recorded(alloc, out, kind, rest),
+    }
+}
+
+/// The answer of what holds names and rights.
+fn put_recorded(
+    alloc: Global,
+    out: &mut Output,
+    kind: &str,
+    rest: &str,
+) -> Result<(), VectorError> {
+    match kind {
         "list" => lists::list(alloc, out, rest),
         "text" => lists::text(alloc, out, rest),
         "copy" => copies::copy(alloc, out, rest),

@@ -63,8 +63,20 @@ pub fn document(out: &mut Output, rest: &str) -> Result<(), VectorError> {
 /// last part; `last PATH`: the last part of the path, between quotes.
 pub fn path(alloc: Global, out: &mut Output, kind: &str, rest: &str) -> Result<(), VectorError> {
     let path = path_of(alloc, rest)?;
+    put_part(alloc, out, kind, &path)
+}
+
+fn put_part(
+    alloc: Global,
+    out: &mut Output,
+    kind: &str,
+    path: &HostPath,
+) -> Result<(), VectorError> {
     match kind {
-        "parent" => out.lossy(path.parent(alloc)?.as_bytes()),
+        "parent" => {
+            let parent = path.parent(alloc)?;
+            out.lossy(parent.as_bytes());
+        }
         "last" => out.quoted(path.name()),
         _ => out.lossy(path.as_bytes()),
     }

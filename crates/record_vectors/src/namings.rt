@@ -1,14 +1,13 @@
 //! Names below exported folders that connections name.
 
-use crate::names::{document_id, path_of, put_found};
-use crate::steps::put_steps;
+use crate::names::path_of;
+use crate::steps::{Steps, Words, put_steps};
 use folder_documents::{Naming, Namings, child_path};
 use portal_base::names::{DocId, HostPath};
 use std::alloc::Global;
 use std::fmt::Debug;
-use std::str::SplitWhitespace;
 use vector_lines::error::{VectorError, bad, given};
-use vector_lines::notation::{self, cut, next, next_small};
+use vector_lines::notation::{self, cut};
 use vector_lines::output::Output;
 
 /// `below PATH NAME`: the path of a name in a folder, or `none`.
@@ -16,7 +15,17 @@ pub fn below(alloc: Global, out: &mut Output, rest: &str) -> Result<(), VectorEr
     let (path, name) = cut(rest);
     let name = notation::text(alloc, name)?;
     let path = path_of(alloc, path)?;
-    match child_path(alloc, &path, name.as_slice())? {
+    put_child(alloc, out, &path, name.as_slice())
+}
+
+fn put_child(
+    alloc: Global,
+    out: &mut Output,
+    path: &HostPath,
+    name: &[u8],
+) -> Result<(), VectorError> {
+    let child = child_path(alloc, path, name)?;
+    match &child {
         Some(child) => out.lossy(child.as_bytes()),
         None => out.text("none"),
     }
@@ -26,37 +35,43 @@ pub fn below(alloc: Global, out: &mut Output, rest: &str) -> Result<(), VectorEr
 /// `namings STEP, STEP ..`: what each step answers over no connections at first.
 pub fn namings(alloc: Global, out: &mut Output, rest: &str) -> Result<(), VectorError> {
     let mut namings = Namings::new(alloc);
-    let put = put_steps(alloc, out, &mut namings, rest, "; ", put_step);
+    let put = put_steps(alloc, out, &mut namings, rest, "; ");
     drop(namings);
     put
 }
 
-/// `enter SEAT`, `leave SEAT`, `get SEAT K`; and of a connection that was entered
-/// `fill SEAT N`, which names N paths, and the steps of `put_named`.
-fn put_step(
+/// `leave SEAT`, `get SEAT K`, and the steps of `put_change`.
+impl Steps for Namings {
+    fn put_step(&mut self, alloc: Global, out: &mut Output, step: &str) -> Result<(), VectorError> {
+        let mut words = Words::of(step);
+        let word = words.next();
+        let seat = words.number();
+        match word {
+            "leave" => {
+                self.leave(seat);
+                out.text("left");
+            }
+            "get" => put_naming(out, self.get(seat, words.number())),
+            _ => put_change(alloc, out, self, word, seat, &mut words)?,
+        }
+        words.end()
+    }
+}
+
+/// `enter SEAT`; and of a connection that was entered `fill SEAT N`, which names N paths, and the
+/// steps of `put_named`.
+fn put_change(
     alloc: Global,
     out: &mut Output,
     namings: &mut Namings,
-    step: &str,
+    word: &str,
+    seat: u32,
+    words: &mut Words<'_>,
 ) -> Result<(), VectorError> {
-    let mut words = step.split_whitespace();
-    let word = next(&mut words);
-    let seat = next_small(&mut words)?;
     match word {
-        "leave" => {
-            namings.leave(seat);
-            out.text("left");
-        }
-        "get" => put_naming(out, namings.get(seat, next_small(&mut words)?)),
-        "enter" if !namings.is_entered(seat) => {
-            namings.enter(seat)?;
-            out.text("entered");
-        }
-        "fill" => out.shown(&fill(alloc, namings, seat, next_small(&mut words)?)?),
-        _ => {
-            let naming = naming_of(alloc, &mut words)?;
-            return put_named(out, namings, word, seat, naming);
-        }
+        "enter" if !namings.is_entered(seat) => put_done(out, namings.enter(seat), "entered"),
+        "fill" => out.shown(&fill(alloc, namings, seat, words.number())?),
+        _ => return put_named(out, namings, word, seat, naming_of(alloc, words)?),
     }
     Ok(())
 }
@@ -75,7 +90,7 @@ fn put_named(
     }
     match word {
         "name" => put_number(out, namings.name(seat, naming)),
-        "reserve" => put_reserved(out, namings.reserve(seat, &naming)),
+        "reserve" => put_done(out, namings.reserve(seat, &naming), "reserved"),
         _ => return bad(),
     }
     Ok(())
@@ -89,10 +104,10 @@ pub fn put_number<E: Debug + Drop>(out: &mut Output, answer: Result<u32, E>) {
     }
 }
 
-/// Says that room was taken, or why not.
-pub fn put_reserved<E: Debug + Drop>(out: &mut Output, answer: Result<(), E>) {
+/// Says that something was done, or why not.
+pub fn put_done<E: Debug + Drop>(out: &mut Output, answer: Result<(), E>, done: &str) {
     match answer {
-        Ok(()) => out.text("reserved"),
+        Ok(()) => out.text(done),
         Err(error) => out.debug(&error),
     }
 }
@@ -112,23 +127,23 @@ fn name_numbered(
     seat: u32,
     index: u32,
 ) -> Result<u32, VectorError> {
+    if !namings.is_entered(seat) {
+        return bad();
+    }
     let path = format!(in alloc; "/f{index}")?;
     let naming = Naming {
         view: 0,
         document: DocId { number: 1 },
-        path: given(alloc, HostPath::read(alloc, path.as_bytes()))?,
+        path: path_of(alloc, path.as_str())?,
     };
-    if !namings.is_entered(seat) {
-        return bad();
-    }
     given(alloc, namings.name(seat, naming))
 }
 
-fn naming_of(alloc: Global, words: &mut SplitWhitespace<'_>) -> Result<Naming, VectorError> {
+fn naming_of(alloc: Global, words: &mut Words<'_>) -> Result<Naming, VectorError> {
     Ok(Naming {
-        view: next_small(words)?,
-        document: document_id(next(words))?,
-        path: path_of(alloc, next(words))?,
+        view: words.number(),
+        document: words.document(),
+        path: path_of(alloc, words.next())?,
     })
 }
 

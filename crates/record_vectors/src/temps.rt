@@ -1,77 +1,72 @@
 //! Files that wait to be renamed onto a document's name.
 
-use crate::names::{document_id, path_of};
-use crate::namings::{put_number, put_reserved};
-use crate::steps::put_steps;
+use crate::names::path_of;
+use crate::namings::{put_done, put_number};
+use crate::steps::{Steps, Words, put_steps};
 use portal_base::files::FileName;
 use portal_base::list::List;
 use save_files::{Temp, Temps};
 use std::alloc::Global;
-use std::str::SplitWhitespace;
 use vector_lines::error::{VectorError, bad};
-use vector_lines::notation::{next, next_small};
 use vector_lines::output::Output;
 
 /// `temps STEP, STEP ..`: what each step answers over no connections at first.
 pub fn temps(alloc: Global, out: &mut Output, rest: &str) -> Result<(), VectorError> {
     let mut temps = Temps::new(alloc);
-    let put = put_steps(alloc, out, &mut temps, rest, "; ", put_step);
+    let put = put_steps(alloc, out, &mut temps, rest, "; ");
     drop(temps);
     put
 }
 
 /// `taken`, the last generation of each path; and the steps of a connection.
-fn put_step(
-    alloc: Global,
-    out: &mut Output,
-    temps: &mut Temps,
-    step: &str,
-) -> Result<(), VectorError> {
-    let mut words = step.split_whitespace();
-    let word = next(&mut words);
-    if word == "taken" {
-        put_taken(out, temps);
-        return Ok(());
+impl Steps for Temps {
+    fn put_step(&mut self, alloc: Global, out: &mut Output, step: &str) -> Result<(), VectorError> {
+        let mut words = Words::of(step);
+        let word = words.next();
+        if word == "taken" {
+            put_taken(out, self);
+            return Ok(());
+        }
+        let seat = words.number();
+        put_step_of(alloc, out, self, word, seat, &mut words)?;
+        words.end()
     }
-    let seat = next_small(&mut words)?;
-    put_step_of(alloc, out, temps, word, seat, &mut words)
 }
 
-/// `enter SEAT`, `leave SEAT`, `get SEAT K`, `remove SEAT K`, `at SEAT PLACE`,
-/// `find SEAT VIEW DOCUMENT NAME`; and of a connection that was entered the steps of
-/// `put_added`.
+/// `leave SEAT`, `get SEAT K`, `remove SEAT K`, `at SEAT PLACE`, `find SEAT VIEW DOCUMENT NAME`;
+/// `enter SEAT`, and of a connection that was entered the steps of `put_added`.
 fn put_step_of(
     alloc: Global,
     out: &mut Output,
     temps: &mut Temps,
     word: &str,
     seat: u32,
-    words: &mut SplitWhitespace<'_>,
+    words: &mut Words<'_>,
 ) -> Result<(), VectorError> {
     match word {
-        "enter" if !temps.is_entered(seat) => {
-            temps.enter(seat)?;
-            out.text("entered");
-        }
+        "enter" if !temps.is_entered(seat) => put_done(out, temps.enter(seat), "entered"),
         "leave" => {
             temps.leave(seat);
             out.text("left");
         }
-        "get" => put_temp(out, temps.get(seat, next_small(words)?)),
-        "remove" => {
-            let removed = temps.remove(seat, next_small(words)?);
-            put_temp(out, removed.as_ref());
-        }
-        "at" => put_found_number(out, temps.at(seat, next_small(words)?)),
-        "find" => {
-            let view = next_small(words)?;
-            let document = document_id(next(words))?;
-            let found = temps.find(seat, view, document, next(words).as_bytes());
-            put_found_number(out, found);
-        }
+        "get" => put_temp(out, temps.get(seat, words.number())),
+        "remove" => remove(out, temps, seat, words.number()),
+        "at" => put_found_number(out, temps.at(seat, words.number())),
+        "find" => put_found_number(out, find(temps, seat, words)),
         _ => return put_added(alloc, out, temps, word, seat, words),
     }
     Ok(())
+}
+
+fn remove(out: &mut Output, temps: &mut Temps, seat: u32, k: u32) {
+    let removed = temps.remove(seat, k);
+    put_temp(out, removed.as_ref());
+}
+
+fn find(temps: &Temps, seat: u32, words: &mut Words<'_>) -> Option<u32> {
+    let view = words.number();
+    let document = words.document();
+    temps.find(seat, view, document, words.next().as_bytes())
 }
 
 /// `add SEAT VIEW DOCUMENT NAME PATH`, of the next generation of the path; `reserve SEAT`,
@@ -82,25 +77,35 @@ fn put_added(
     temps: &mut Temps,
     word: &str,
     seat: u32,
-    words: &mut SplitWhitespace<'_>,
+    words: &mut Words<'_>,
 ) -> Result<(), VectorError> {
-    if !temps.is_entered(seat) {
+    match word {
+        "add" => put_one(alloc, out, temps, seat, words),
+        "reserve" if temps.is_entered(seat) => {
+            put_done(out, temps.reserve(seat), "reserved");
+            Ok(())
+        }
+        "rename" => rename(out, temps, seat, words),
+        "fill" => fill(alloc, out, temps, seat, words.number()),
+        _ => bad(),
+    }
+}
+
+fn rename(
+    out: &mut Output,
+    temps: &mut Temps,
+    seat: u32,
+    words: &mut Words<'_>,
+) -> Result<(), VectorError> {
+    let k = words.number();
+    if temps.get(seat, k).is_none() {
         return bad();
     }
-    match word {
-        "add" => put_one(alloc, out, temps, seat, words)?,
-        "reserve" => put_reserved(out, temps.reserve(seat)),
-        "rename" => {
-            let k = next_small(words)?;
-            if temps.get(seat, k).is_none() {
-                return bad();
-            }
-            temps.rename(seat, k, next(words).as_bytes())?;
-            out.text("renamed");
-        }
-        "fill" => fill(alloc, out, temps, seat, next_small(words)?)?,
-        _ => return bad(),
-    }
+    put_done(
+        out,
+        temps.rename(seat, k, words.next().as_bytes()),
+        "renamed",
+    );
     Ok(())
 }
 
@@ -110,24 +115,23 @@ fn put_one(
     out: &mut Output,
     temps: &mut Temps,
     seat: u32,
-    words: &mut SplitWhitespace<'_>,
+    words: &mut Words<'_>,
 ) -> Result<(), VectorError> {
-    let view = next_small(words)?;
-    let document = document_id(next(words))?;
-    let name = next(words);
-    let path = path_of(alloc, next(words))?;
-    let Some(generation) = temps.last_taken(&path).checked_add(1) else {
+    let view = words.number();
+    let document = words.document();
+    let name = List::copied(alloc, words.next().as_bytes())?;
+    let path = path_of(alloc, words.next())?;
+    let last = temps.last_taken(&path);
+    if last == u64::MAX || !temps.is_entered(seat) {
         return bad();
-    };
+    }
+    let generation = last + 1;
     let temp = Temp {
         document,
         view,
-        name: List::copied(alloc, name.as_bytes())?,
+        name,
         file: FileName { path, generation },
     };
-    if !temps.is_entered(seat) {
-        return bad();
-    }
     put_number(out, temps.add(seat, temp));
     Ok(())
 }
@@ -157,7 +161,7 @@ fn put_numbered(
     index: u32,
 ) -> Result<(), VectorError> {
     let line = format!(in alloc; "0 00000001 {index} /a")?;
-    let mut words = line.split_whitespace();
+    let mut words = Words::of(line.as_str());
     put_one(alloc, out, temps, seat, &mut words)
 }
 
